@@ -1,0 +1,50 @@
+-- What an error tells of: the request, the file, the source or the memory.
+use Rattle.std.specs.Prelude.{ℕ, Bool, true, false, List, [], ◌∷◌, if◌then◌else◌, Contains, Option, Some, None, Result, IfErr, IfSome}
+use Rattle.columns_core.specs.declared.error.Error.{Error}
+use Rattle.columns_core.specs.declared.error.Error.TheVariants as error
+
+-- the numbers of the kinds of errors
+abbrev pub number_of : Error → ℕ
+number_of (error.InvalidArgumentError part) = 1
+number_of (error.NotYetImplemented part) = 2
+number_of (error.ExternalFormat part) = 3
+number_of (error.OutOfSpec part) = 4
+number_of error.Overflow = 5
+number_of error.Io = 6
+number_of error.OutOfMemory = 7
+
+-- what is wrong with a part of a file, named as the error that tells of it
+pub data Cause : Type 0 where
+  NotYetImplemented : Cause
+  ExternalFormat : Cause
+  OutOfSpec : Cause
+  Overflow : Cause
+
+-- the cause that an error tells of
+abbrev pub cause_of : Error → Option Cause
+cause_of (error.NotYetImplemented part) = Some NotYetImplemented
+cause_of (error.ExternalFormat part) = Some ExternalFormat
+cause_of (error.OutOfSpec part) = Some OutOfSpec
+cause_of error.Overflow = Some Overflow
+cause_of _ = None
+
+-- the call's own arguments were refused
+abbrev pub is_invalid_argument : Error → Bool
+is_invalid_argument (error.InvalidArgumentError part) = true
+is_invalid_argument _ = false
+
+abbrev pub is_empty : List Cause → Bool
+is_empty [] = true
+is_empty (cause ∷ causes) = false
+
+-- one cause where a test fails
+abbrev pub unless : Bool → Cause → List Cause
+unless passes cause = if passes then [] else cause ∷ []
+
+-- the causes of a step and, where it has none, those of the next
+abbrev pub and_then : List Cause → List Cause → List Cause
+and_then first next = if is_empty first then next else first
+
+-- an error that tells of a cause tells of one of these
+abbrev pub TellsOf : {T : Type 0} → Result T Error → List Cause → Type 0
+TellsOf result causes = IfErr result (λ e. IfSome (cause_of e) (Contains causes))
