@@ -1,5 +1,5 @@
 -- How many bytes reading takes at least.
-use Rattle.std.proofs.Common.{◌≡◌, ℕ, zero, suc, ◌+◌, ◌^◌, ◌≤◌, Bool, true, false, cond, List, [], ◌∷◌, Option, Some, None, arith, length, nat_lt}
+use Rattle.std.proofs.Common.{ℕ, zero, suc, ◌+◌, ◌^◌, ◌≤◌, Bool, true, false, cond, List, [], ◌∷◌, Option, Some, None, arith, length, nat_lt}
 use Rattle.parquet_base.specs.Reading.{◌>>=◌, map_value, Takes}
 use Rattle.parquet_base.specs.Varint.{varint_within, varint}
 

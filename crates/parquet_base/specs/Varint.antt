@@ -1,5 +1,5 @@
 -- Numbers in a variable number of bytes (ULEB128), and the zigzag form of signed ones.
-use Rattle.std.specs.Prelude.{ℕ, zero, suc, ◌+◌, ◌-◌, ◌*◌, ◌/◌, ◌%◌, ◌^◌, ℤ, pos, negsuc, List, [], ◌∷◌, Some, None, nat_lt, ◌==◌, if◌then◌else◌}
+use Rattle.std.specs.Prelude.{ℕ, zero, suc, ◌+◌, ◌-◌, ◌*◌, ◌/◌, ◌%◌, ◌^◌, ℤ, pos, negsuc, [], ◌∷◌, Some, None, nat_lt, ◌==◌, if◌then◌else◌}
 use Rattle.parquet_base.specs.Reading.{Read, ◌>>=◌, map_value}
 
 -- A byte below 128 is the last; one from 128 on has the low seven bits of the number, and the rest stands in

@@ -5,6 +5,8 @@
 mod interval;
 pub mod laws;
 mod steps;
+#[cfg(test)]
+mod tests;
 mod varint;
 
 pub use interval::{Interval, common_runs, page_runs, runs_of_all};
