@@ -1,0 +1,7 @@
+pub mod Lengths
+pub mod FieldLemmas
+pub mod SkipLemmas
+pub mod WalkLemmas
+pub mod Depths
+pub mod ValueLemmas
+pub mod Fronts

@@ -1,0 +1,5 @@
+pub mod Cursor
+pub mod Numbers
+pub mod Values
+pub mod Front
+pub mod Skipping
