@@ -2,5 +2,9 @@ pub mod EndLemmas
 pub mod VarintLemmas
 pub mod RunLemmas
 pub mod SegmentLemmas
+pub mod ShapeLemmas
+pub mod OverlapLemmas
+pub mod DeterminedLemmas
+pub mod RowLemmas
 pub mod TakeLemmas
 pub mod Examples

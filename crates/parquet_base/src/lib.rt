@@ -9,6 +9,6 @@ mod steps;
 mod tests;
 mod varint;
 
-pub use interval::{Interval, common_runs, page_runs, runs_of_all};
+pub use interval::{Interval, common_runs, is_well_shaped, overlaps, page_runs, runs_of_all};
 pub use steps::Steps;
 pub use varint::{Unspelled, from_zigzag, varint_at};

@@ -1,0 +1,15 @@
+pub mod Bits
+pub mod PackedRun
+pub mod Places
+pub mod Hybrid
+pub mod HybridRun
+pub mod HybridLeft
+pub mod Plain
+pub mod PlainLeft
+pub mod DeltaBinary
+pub mod DeltaRun
+pub mod Sums
+pub mod DeltaWalk
+pub mod DeltaLeft
+pub mod DeltaLength
+pub mod JoinedLeft
