@@ -28,6 +28,9 @@ cause_of (error.OutOfSpec part) = Some OutOfSpec
 cause_of error.Overflow = Some Overflow
 cause_of _ = None
 
+abbrev pub IsWantOfMemory : Error → Type 0
+IsWantOfMemory e = e ≡ error.OutOfMemory
+
 -- the call's own arguments were refused
 abbrev pub is_invalid_argument : Error → Bool
 is_invalid_argument (error.InvalidArgumentError part) = true
@@ -45,6 +48,11 @@ unless passes cause = if passes then [] else cause ∷ []
 abbrev pub and_then : List Cause → List Cause → List Cause
 and_then first next = if is_empty first then next else first
 
--- an error that tells of a cause tells of one of these
-abbrev pub TellsOf : {T : Type 0} → Result T Error → List Cause → Type 0
-TellsOf result causes = IfErr result (λ e. IfSome (cause_of e) (Contains causes))
+-- a cause that is told of is one of these
+abbrev pub IsOneOf : List Cause → Option Cause → Type 0
+IsOneOf causes None = ⊥
+IsOneOf causes (Some cause) = Contains causes cause
+
+-- an error is want of memory, or tells of one of these causes
+abbrev pub ComesOf : {T : Type 0} → Result T Error → List Cause → Type 0
+ComesOf result causes = IfErr result (λ e. IsWantOfMemory e ⊎ IsOneOf causes (cause_of e))
