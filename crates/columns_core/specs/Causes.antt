@@ -1,5 +1,5 @@
 -- What an error tells of: the request, the file, the source or the memory.
-use Rattle.std.specs.Prelude.{ℕ, Bool, true, false, List, [], ◌∷◌, if◌then◌else◌, Contains, Option, Some, None, Result, IfErr, IfSome}
+use Rattle.std.specs.Prelude.{◌≡◌, ◌⊎◌, ℕ, Bool, true, false, List, [], ◌∷◌, if◌then◌else◌, Contains, Option, Some, None, Result, IfErr}
 use Rattle.columns_core.specs.declared.error.Error.{Error}
 use Rattle.columns_core.specs.declared.error.Error.TheVariants as error
 
