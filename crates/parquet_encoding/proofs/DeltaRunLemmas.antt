@@ -1,5 +1,5 @@
 -- Numbers that change by deltas which lie side by side in bytes.
-use Rattle.std.proofs.Common.{◌≡◌, ℕ, ◌+◌, ◌-◌, ◌*◌, ◌<◌, ◌≤◌, List, [], ◌∷◌, ◌++◌, length, take, drop, set, refl, sym, ap, ◌∙◌, arith, ℤ, pos, ◌+ℤ◌}
+use Rattle.std.proofs.Common.{◌≡◌, ℕ, zero, suc, ◌+◌, ◌-◌, ◌*◌, ◌<◌, ◌≤◌, List, [], ◌∷◌, ◌++◌, length, take, drop, replicate, set, refl, sym, ap, ◌∙◌, arith, ℤ, pos, ◌+ℤ◌}
 use Rattle.std.specs.Int.{w64, int_wrap}
 use Rattle.std.proofs.lemmas.List.{take-map, drop-map, map-append, length-map, take_more_set, take_all}
 use Rattle.std.proofs.lemmas.Slice.{take-put_mid}
@@ -31,6 +31,12 @@ deltas-add least bytes width start m n place there =
 
 pub length-deltas : (least : ℤ) (bytes : List ℕ) (width start count : ℕ) → length (packed_deltas least bytes width start count) ≡ count
 length-deltas least bytes width start count = length-map (packed bytes width start count) (λ number. least +ℤ pos number) ∙ length-packed bytes width start count
+
+-- numbers of no bits
+pub packed_zeros : (bytes : List ℕ) (start count : ℕ) → packed bytes 0 start count ≡ replicate count 0
+unfolding packed
+packed_zeros bytes start zero = refl
+packed_zeros bytes start (suc count) = let none : bits_at bytes start 0 ≡ 0 = omega arith in ap (λ n. n ∷ packed bytes 0 (start + 0) count) none ∙ ap (λ others. 0 ∷ others) (packed_zeros bytes (start + 0) count)
 
 -- ---- the number behind
 

@@ -1,6 +1,6 @@
 -- Runs that begin at a place.
 use Rattle.std.proofs.Common.{◌≡◌, ◌≢◌, ℕ, ◌+◌, ◌-◌, ◌*◌, ◌/◌, ◌%◌, ◌^◌, ◌<◌, ◌≤◌, min, leb, true, false, List, length, take, drop, replicate, Option, None, refl, sym, ap, ◌∙◌, arith, inl, inr}
-use Rattle.std.proofs.Math.Nat.{mul-add-div, div-add-mod, mul-div_cancel, div-le_of_le-mul}
+use Rattle.std.proofs.Math.Nat.{mul-add-div, div-add-mod, div-le_of_le-mul}
 use Rattle.std.proofs.lemmas.Bool.{cases_lt, le-leb, lt-leb, eq-eqb}
 use Rattle.std.proofs.lemmas.Bool.Decides.{eqb_tells}
 use Rattle.std.proofs.lemmas.List.{length-drop, length-replicate, drop-drop, drop_all}
@@ -25,20 +25,13 @@ eight_each size width positive =
     let split : width * (8 * (size / width)) + size % width * 8 ≡ 8 * size = omega (arith, div-add-mod size width) in
     sym (mul-add-div positive (8 * (size / width)) (size % width * 8)) ∙ ap (λ n. n / width) split
 
-pub lie_whole : (groups room width : ℕ) → 0 < width → 8 * min (groups * width) room / width ≡ min (8 * groups) (8 * room / width)
-lie_whole groups room width positive =
-    elim (cases_lt room (groups * width)) [
-      | inl cut ↦
-          let size : min (groups * width) room ≡ room = omega arith in
-          let few : 8 * room / width ≤ 8 * groups = div-le_of_le-mul width (omega arith) in
-          ap (λ n. 8 * n / width) size ∙ omega arith
-      | inr all ↦
-          let size : min (groups * width) room ≡ groups * width = omega arith in
-          let product : 8 * (groups * width) ≡ 8 * groups * width = omega arith in
-          let many : 8 * groups ≤ 8 * room / width = le-div (8 * groups) (8 * room) width positive (omega arith) in
-          let here : 8 * (groups * width) / width ≡ 8 * groups = ap (λ n. n / width) product ∙ mul-div_cancel (8 * groups) positive in
-          ap (λ n. 8 * n / width) size ∙ here ∙ omega arith
-    ]
+-- groups that lie in the room
+pub all_lie : (groups room width : ℕ) → 0 < width → groups * width ≤ room → 8 * groups ≤ 8 * room / width
+all_lie groups room width positive inside = le-div (8 * groups) (8 * room) width positive (omega arith)
+
+-- groups that reach past it
+pub some_lie : (groups room width : ℕ) → 0 < width → room ≤ groups * width → 8 * room / width ≤ 8 * groups
+some_lie groups room width positive past = div-le_of_le-mul width (omega arith)
 
 pub drop_capped : (body n : ℕ) (bytes : List ℕ) → drop (body + min n (length bytes - body)) bytes ≡ drop n (drop body bytes)
 drop_capped body n bytes =

@@ -1,9 +1,9 @@
 -- Numbers that change by deltas.
-use Rattle.std.proofs.Common.{◌≡◌, ℕ, suc, ◌+◌, ◌%◌, ◌^◌, ◌<◌, ◌≤◌, List, [], ◌∷◌, ◌++◌, length, take, drop, set, get_or, refl, sym, ap, ◌∙◌, arith, ℤ, pos, ◌+ℤ◌, FitsSigned}
+use Rattle.std.proofs.Common.{◌≡◌, ℕ, suc, ◌+◌, ◌%◌, ◌^◌, ◌<◌, ◌≤◌, List, [], ◌∷◌, ◌++◌, length, take, drop, set, get_or, replicate, refl, sym, ap, ◌∙◌, arith, ℤ, pos, ◌+ℤ◌, FitsSigned}
 use Rattle.std.specs.Int.{w64, int_wrap, cast_signed, cast_unsigned}
 use Rattle.std.proofs.lemmas.Int.{ints, to_z-of_z, of_z-to_z, wrapping_add-bits, wrapping_add_is, int_wrap-add_left, int_wrap-add_right, SFits-int_wrap}
 use Rattle.std.proofs.Math.Seq.{take-add}
-use Rattle.std.proofs.lemmas.List.{take_more, take_more_set, map-append}
+use Rattle.std.proofs.lemmas.List.{take_more, take_more_set, map-append, get_or-replicate}
 use Rattle.std.proofs.lemmas.Slice.{take-put_mid}
 use borrow.Rule.Slice.PartMut.{put_mid}
 use Rattle.parquet_encoding.specs.DeltaBinary.{deltas_of}
@@ -67,6 +67,10 @@ behind_more value least now result numbers i inside is step =
     let delta = least +ℤ pos (get_or numbers i 0) in
     step ∙ ap (λ v. int_wrap w64 (v +ℤ delta)) is
     ∙ sym (ap (number_behind value) (deltas_more least numbers i inside) ∙ behind-append value (deltas_of least (take i numbers)) (delta ∷ []))
+
+-- one more of deltas that are all the least
+pub step_more : (now result least : ℤ) (n i : ℕ) → i < n → result ≡ int_wrap w64 (now +ℤ (least +ℤ pos 0)) → result ≡ int_wrap w64 (now +ℤ (least +ℤ pos (get_or (replicate n 0) i 0)))
+step_more now result least n i inside step = step ∙ ap (λ number. int_wrap w64 (now +ℤ (least +ℤ pos number))) (sym (get_or-replicate n i 0 0 inside))
 
 -- the numbers before one more
 pub before_more : (value least now : ℤ) (numbers : List ℕ) (out : List ℤ) (i : ℕ) → i < length numbers → length out ≡ length numbers → now ≡ number_behind value (deltas_of least (take i numbers))

@@ -3,7 +3,7 @@ ghost use Rattle.std.specs.Prelude.{◌≡◌, ℕ, List, ◌+◌, ◌*◌, ◌-
 ghost use Rattle.parquet_encoding.specs.Sums.{number_behind, numbers_before};
 
 use crate::bits::{eight_wide_at, moved, wide_at};
-use crate::sums::{added, added_all, sums_all};
+use crate::sums::{added, added_all, sums_all, sums_of_steps};
 
 /// `count` deltas: numbers of `width` bits, the first of them from bit `bit` of the byte at `place` on. Each delta is
 /// so much above the least.
@@ -55,7 +55,22 @@ impl DeltaRun {
     }
 
     /// Writes the numbers before each of the deltas, and gives the number behind them.
+    #[tactic(auto, using(crate::proofs::DeltaRunLemmas::packed_zeros))]
     pub(crate) fn sums(&self, bytes: &[u8], value: i64, out: &mut [i64]) -> i64
+        requires whole { length out.old ≡ self.now.count }
+        requires lies { DeltasLieIn bytes.now self.now }
+        ensures sums { out.new ≡ numbers_before value (run_deltas self.now bytes.now) }
+        ensures behind { result ≡ number_behind value (run_deltas self.now bytes.now) }
+    {
+        if self.width == 0 {
+            sums_of_steps(value, self.least, out)
+        } else {
+            self.packed_sums(bytes, value, out)
+        }
+    }
+
+    /// The same for deltas of some bits.
+    fn packed_sums(&self, bytes: &[u8], value: i64, out: &mut [i64]) -> i64
         requires whole { length out.old ≡ self.now.count }
         requires lies { DeltasLieIn bytes.now self.now }
         ensures sums { out.new ≡ numbers_before value (run_deltas self.now bytes.now) }

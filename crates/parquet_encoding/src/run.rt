@@ -1,5 +1,5 @@
 //! Runs of the hybrid encoding, as places in the bytes.
-ghost use Rattle.std.specs.Prelude.{◌≡◌, ℕ, List, ◌+◌, ◌-◌, ◌*◌, ◌/◌, ◌^◌, ◌<◌, ◌≤◌, length, take, drop, slice_get, None, Some, IsSome, IfOk, OnErr};
+ghost use Rattle.std.specs.Prelude.{◌≡◌, ℕ, List, min, ◌+◌, ◌-◌, ◌*◌, ◌/◌, ◌^◌, ◌<◌, ◌≤◌, length, take, drop, slice_get, None, Some, IsSome, IfOk, OnErr};
 ghost use Rattle.parquet_encoding.specs.Hybrid.{first_run};
 ghost use Rattle.parquet_encoding.specs.HybridRun.{count_of, run_values, IsIn, Opens, OpensPacked, OpensRepeated};
 
@@ -55,18 +55,29 @@ fn open_packed(bytes: &[u8], body: usize, width: u32, groups: usize, wanted: usi
     ensures { OpensPacked bytes.now body width groups wanted result }
 {
     let step = width as usize;
-    let size = groups.saturating_mul(step).min(bytes.len() - body);
-    let whole = (size / step)
-        .saturating_mul(8)
-        .saturating_add(size % step * 8 / step);
+    let room = bytes.len() - body;
     OpenedRun {
         run: HybridRun::Packed(PackedRun {
             place: body,
             bit: 0,
             width,
-            count: whole.min(wanted),
+            count: whole_values(groups, step, room).min(wanted),
         }),
-        end: body + size,
+        end: body + groups.saturating_mul(step).min(room),
+    }
+}
+
+/// How many values of groups of eight lie whole in `room` bytes, or as many as can be counted.
+fn whole_values(groups: usize, width: usize, room: usize) -> usize
+    requires some_bits { 0 < width }
+    requires narrow { width ≤ 32 }
+    ensures { result ≡ min (2 ^ 64 - 1) (min (8 * groups) (8 * room / width)) }
+{
+    match groups.checked_mul(width) {
+        Some(size) if size <= room => groups.saturating_mul(8),
+        _ => (room / width)
+            .saturating_mul(8)
+            .saturating_add(room % width * 8 / width),
     }
 }
 

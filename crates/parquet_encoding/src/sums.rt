@@ -1,5 +1,5 @@
 //! Numbers that change by deltas, in 64 bits.
-ghost use Rattle.std.specs.Prelude.{◌≡◌, length, pos, ◌+ℤ◌};
+ghost use Rattle.std.specs.Prelude.{◌≡◌, length, replicate, pos, ◌+ℤ◌};
 ghost use Rattle.std.specs.Int.{w64, int_wrap};
 ghost use Rattle.parquet_encoding.specs.DeltaBinary.{deltas_of};
 ghost use Rattle.parquet_encoding.specs.Sums.{number_behind, numbers_before};
@@ -32,6 +32,19 @@ pub(crate) fn sums_all(value: i64, least: i64, numbers: &[u64], out: &mut [i64])
     for (i, number) in numbers.iter().enumerate() {
         out[i] = value;
         value = added(value, least, *number);
+    }
+    value
+}
+
+/// Writes the numbers before each of some deltas that are all the least, and gives the number behind them.
+pub(crate) fn sums_of_steps(value: i64, least: i64, out: &mut [i64]) -> i64
+    ensures sums { out.new ≡ numbers_before value (deltas_of least (replicate (length out.old) 0)) }
+    ensures behind { result ≡ number_behind value (deltas_of least (replicate (length out.old) 0)) }
+{
+    let mut value = value;
+    for i in 0..out.len() {
+        out[i] = value;
+        value = added(value, least, 0);
     }
     value
 }

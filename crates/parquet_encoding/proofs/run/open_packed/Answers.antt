@@ -2,7 +2,7 @@ use Rattle.std.proofs.Common.{◌≡◌, ◌+◌, ◌-◌, ◌*◌, ◌/◌, ◌
 use Rattle.std.proofs.Math.Nat.{div-mul-le_self}
 use Rattle.std.proofs.lemmas.Nat.{mul-le}
 use Rattle.parquet_encoding.specs.Bits.{packed}
-use Rattle.parquet_encoding.proofs.RunLemmas.{eight_each, lie_whole, drop_capped}
+use Rattle.parquet_encoding.proofs.RunLemmas.{drop_capped}
 use Rattle.parquet_encoding.proofs.run.open_packed.Goals as goal
 
 pub returns : goal.returns
@@ -12,10 +12,8 @@ returns c =
     let width = c.args.width in
     let groups = c.args.groups in
     let room = length bytes - body in
-    let size : c.min-size.result ≡ min (groups * width) room = omega (arith, c.min-size.ensures, c.saturating_mul.ensures, c.ranges.body) in
-    let whole = ap (λ n. 8 * n / width) size ∙ lie_whole groups room width c.requires.some_bits in
-    let each = eight_each c.min-size.result width c.requires.some_bits in
-    let count : c.min.result ≡ min (min (8 * groups) (8 * room / width)) c.args.wanted = omega (arith, c.min.ensures, c.saturating_add-whole.ensures, c.saturating_mul-2.ensures, each, whole, c.ranges.wanted) in
+    let size : c.min-2.result ≡ min (groups * width) room = omega (arith, c.min-2.ensures, c.saturating_mul.ensures, c.ranges.body) in
+    let count : c.min.result ≡ min (min (8 * groups) (8 * room / width)) c.args.wanted = omega (arith, c.min.ensures, c.whole_values.ensures, c.ranges.wanted) in
     let few : c.min.result ≤ 8 * room / width = omega arith in
     let bits = mul-le c.min.result width (8 * room / width) width few (omega arith) in
     let start : 8 * body + 0 ≡ 8 * body = omega arith in

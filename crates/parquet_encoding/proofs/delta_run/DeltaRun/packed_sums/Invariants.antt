@@ -1,7 +1,7 @@
 use Rattle.std.proofs.Common.{◌≡◌, ◌+◌, ◌*◌, take}
 use Rattle.parquet_encoding.specs.Sums.{number_behind, numbers_before}
 use Rattle.parquet_encoding.proofs.DeltaRunLemmas.{packed_deltas}
-use Rattle.parquet_encoding.proofs.delta_run.DeltaRun.sums.Given as goal
+use Rattle.parquet_encoding.proofs.delta_run.DeltaRun.packed_sums.Given as goal
 
 abbrev pub invariant-loop-group : goal.invariant-loop-group
 invariant-loop-group l = record {

@@ -3,7 +3,7 @@ use Rattle.std.specs.Int.{w64}
 use Rattle.std.proofs.lemmas.Nat.{mul-le}
 use Rattle.parquet_encoding.proofs.SumLemmas.{same_number, by_least, behind_by_least, before_by_least}
 use Rattle.parquet_encoding.proofs.DeltaRunLemmas.{none_passed, none_written, one_passed, one_written, eight_passed, eight_written}
-use Rattle.parquet_encoding.proofs.delta_run.DeltaRun.sums.Goals as goal
+use Rattle.parquet_encoding.proofs.delta_run.DeltaRun.packed_sums.Goals as goal
 
 pub loop-group-init : goal.loop-group-init
 loop-group-init c =
