@@ -1,0 +1,10 @@
+pub mod Masked
+pub mod BytesLemmas
+pub mod BitLemmas
+pub mod Places
+pub mod FixedLemmas
+pub mod FrontLemmas
+pub mod PackingLemmas
+pub mod OffsetLemmas
+pub mod JoinedLemmas
+pub mod TextLemmas

@@ -1,0 +1,6 @@
+use Rattle.columns_core.specs.Same.{same_by}
+use Rattle.columns_core.specs.contracts.data_type.DataType.{the_row}
+use Rattle.columns_core.proofs.equal.DataTypePartialEq.eq.Goals as goal
+
+pub returns : goal.returns
+returns c = same_by the_row.coded c.args.self.now c.args.other.now c.is_same_type.result c.is_same_type.ensures

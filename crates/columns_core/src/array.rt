@@ -1,0 +1,203 @@
+ghost use Rattle.std.specs.Prelude.{◌≡◌, ◌<◌, length, slice_get, map, Some, IfOk, IfErr};
+ghost use Rattle.columns_core.specs.Array.{data_type_of, cells};
+ghost use Rattle.columns_core.specs.Causes.{IsWantOfMemory};
+ghost use Rattle.columns_core.specs.Column.{cell_of};
+ghost use Rattle.columns_core.specs.Lent.{cell_lent};
+ghost use Rattle.columns_core.specs.declared.cell.Cell.{Bool, Bytes, Text};
+
+use crate::lent::Lent;
+use crate::{
+    BinaryArray, BooleanArray, Cell, DataType, DictionaryArray, Error, FixedSizeBinaryArray,
+    NativeType, NullArray, Offset, PrimitiveArray, Utf8Array, days_ms,
+};
+use std::alloc::Global;
+
+/// A column's values of one type.
+#[cycle(array)]
+#[derive(Drop)]
+pub enum Array {
+    Null(NullArray),
+    Boolean(BooleanArray),
+    Int8(PrimitiveArray<i8>),
+    Int16(PrimitiveArray<i16>),
+    Int32(PrimitiveArray<i32>),
+    Int64(PrimitiveArray<i64>),
+    UInt8(PrimitiveArray<u8>),
+    UInt16(PrimitiveArray<u16>),
+    UInt32(PrimitiveArray<u32>),
+    UInt64(PrimitiveArray<u64>),
+    Int128(PrimitiveArray<i128>),
+    DaysMs(PrimitiveArray<days_ms>),
+    Utf8(Utf8Array<i32>),
+    LargeUtf8(Utf8Array<i64>),
+    Binary(BinaryArray<i32>),
+    LargeBinary(BinaryArray<i64>),
+    FixedSizeBinary(FixedSizeBinaryArray),
+    Dictionary(DictionaryArray),
+}
+
+impl Array {
+    pub fn len(&self) -> usize
+        ensures { result ≡ length (cells self.now) }
+    {
+        match self {
+            Array::Null(array) => array.len(),
+            Array::Boolean(array) => array.len(),
+            Array::Int8(array) => array.len(),
+            Array::Int16(array) => array.len(),
+            Array::Int32(array) => array.len(),
+            Array::Int64(array) => array.len(),
+            Array::UInt8(array) => array.len(),
+            Array::UInt16(array) => array.len(),
+            Array::UInt32(array) => array.len(),
+            Array::UInt64(array) => array.len(),
+            Array::Int128(array) => array.len(),
+            Array::DaysMs(array) => array.len(),
+            Array::Utf8(array) => array.len(),
+            Array::LargeUtf8(array) => array.len(),
+            Array::Binary(array) => array.len(),
+            Array::LargeBinary(array) => array.len(),
+            Array::FixedSizeBinary(array) => array.len(),
+            Array::Dictionary(array) => array.len(),
+        }
+    }
+
+    pub fn data_type(&self) -> &DataType
+        ensures { result.now ≡ data_type_of self.now }
+    {
+        match self {
+            Array::Null(array) => array.data_type(),
+            Array::Boolean(array) => array.data_type(),
+            Array::Int8(array) => array.data_type(),
+            Array::Int16(array) => array.data_type(),
+            Array::Int32(array) => array.data_type(),
+            Array::Int64(array) => array.data_type(),
+            Array::UInt8(array) => array.data_type(),
+            Array::UInt16(array) => array.data_type(),
+            Array::UInt32(array) => array.data_type(),
+            Array::UInt64(array) => array.data_type(),
+            Array::Int128(array) => array.data_type(),
+            Array::DaysMs(array) => array.data_type(),
+            Array::Utf8(array) => array.data_type(),
+            Array::LargeUtf8(array) => array.data_type(),
+            Array::Binary(array) => array.data_type(),
+            Array::LargeBinary(array) => array.data_type(),
+            Array::FixedSizeBinary(array) => array.data_type(),
+            Array::Dictionary(array) => array.data_type(),
+        }
+    }
+
+    /// The cell at a place.
+    pub fn item(&self, alloc: Global, i: usize) -> Result<Cell, Error>
+        requires { i < length (cells self.now) }
+        ensures cell { IfOk result (λ cell. slice_get (cells self.now) i ≡ Some cell) }
+        ensures memory { IfErr result IsWantOfMemory }
+    {
+        self.lent(i).to_cell(alloc)
+    }
+
+    /// The cell at a place, read where it lies.
+    #[cycle(lent)]
+    pub(crate) fn lent(&self, i: usize) -> Lent<'_>
+        requires { i < length (cells self.now) }
+        ensures { slice_get (cells self.now) i ≡ Some (cell_lent result) }
+    {
+        match self {
+            Array::Null(_) => Lent::Null,
+            Array::Boolean(array) => lent_truth(array, i),
+            Array::Int8(array) => lent_number(array, i),
+            Array::Int16(array) => lent_number(array, i),
+            Array::Int32(array) => lent_number(array, i),
+            Array::Int64(array) => lent_number(array, i),
+            Array::UInt8(array) => lent_number(array, i),
+            Array::UInt16(array) => lent_number(array, i),
+            Array::UInt32(array) => lent_number(array, i),
+            Array::UInt64(array) => lent_number(array, i),
+            Array::Int128(array) => lent_number(array, i),
+            Array::DaysMs(array) => lent_number(array, i),
+            Array::Utf8(array) => lent_text(array, i),
+            Array::LargeUtf8(array) => lent_text(array, i),
+            Array::Binary(array) => lent_string(array, i),
+            Array::LargeBinary(array) => lent_string(array, i),
+            Array::FixedSizeBinary(array) => lent_bytes(array, i),
+            Array::Dictionary(array) => array.lent(i),
+        }
+    }
+
+    #[cycle(copy_of_array)]
+    pub fn try_clone(&self, alloc: Global) -> Result<Array, Error>
+        ensures copy { IfOk result (λ copy. copy ≡ self.now) }
+        ensures memory { IfErr result IsWantOfMemory }
+    {
+        Ok(match self {
+            Array::Null(array) => Array::Null(NullArray::new(array.len())),
+            Array::Boolean(array) => Array::Boolean(array.try_clone(alloc)?),
+            Array::Int8(array) => Array::Int8(array.try_clone(alloc)?),
+            Array::Int16(array) => Array::Int16(array.try_clone(alloc)?),
+            Array::Int32(array) => Array::Int32(array.try_clone(alloc)?),
+            Array::Int64(array) => Array::Int64(array.try_clone(alloc)?),
+            Array::UInt8(array) => Array::UInt8(array.try_clone(alloc)?),
+            Array::UInt16(array) => Array::UInt16(array.try_clone(alloc)?),
+            Array::UInt32(array) => Array::UInt32(array.try_clone(alloc)?),
+            Array::UInt64(array) => Array::UInt64(array.try_clone(alloc)?),
+            Array::Int128(array) => Array::Int128(array.try_clone(alloc)?),
+            Array::DaysMs(array) => Array::DaysMs(array.try_clone(alloc)?),
+            Array::Utf8(array) => Array::Utf8(array.try_clone(alloc)?),
+            Array::LargeUtf8(array) => Array::LargeUtf8(array.try_clone(alloc)?),
+            Array::Binary(array) => Array::Binary(array.try_clone(alloc)?),
+            Array::LargeBinary(array) => Array::LargeBinary(array.try_clone(alloc)?),
+            Array::FixedSizeBinary(array) => Array::FixedSizeBinary(array.try_clone(alloc)?),
+            Array::Dictionary(array) => Array::Dictionary(array.try_clone(alloc)?),
+        })
+    }
+}
+
+pub(crate) fn lent_truth(array: &BooleanArray, i: usize) -> Lent<'_>
+    requires { i < length array.now.items }
+    ensures { slice_get (map (cell_of Bool) array.now.items) i ≡ Some (cell_lent result) }
+{
+    match array.get(i) {
+        None => Lent::Null,
+        Some(value) => Lent::Bool(value),
+    }
+}
+
+pub(crate) fn lent_number<T: NativeType>(array: &PrimitiveArray<T>, i: usize) -> Lent<'_>
+    requires { i < length array.now.items }
+    ensures { slice_get (map (cell_of T.cell) array.now.items) i ≡ Some (cell_lent result) }
+{
+    match array.get(i) {
+        None => Lent::Null,
+        Some(value) => value.lent(),
+    }
+}
+
+pub(crate) fn lent_text<O: Offset>(array: &Utf8Array<O>, i: usize) -> Lent<'_>
+    requires { i < length array.now.items }
+    ensures { slice_get (map (cell_of Text) array.now.items) i ≡ Some (cell_lent result) }
+{
+    match array.get(i) {
+        None => Lent::Null,
+        Some(text) => Lent::Text(text),
+    }
+}
+
+pub(crate) fn lent_string<O: Offset>(array: &BinaryArray<O>, i: usize) -> Lent<'_>
+    requires { i < length array.now.items }
+    ensures { slice_get (map (cell_of Bytes) array.now.items) i ≡ Some (cell_lent result) }
+{
+    match array.get(i) {
+        None => Lent::Null,
+        Some(bytes) => Lent::Bytes(bytes),
+    }
+}
+
+pub(crate) fn lent_bytes(array: &FixedSizeBinaryArray, i: usize) -> Lent<'_>
+    requires { i < length array.now.items }
+    ensures { slice_get (map (cell_of Bytes) array.now.items) i ≡ Some (cell_lent result) }
+{
+    match array.get(i) {
+        None => Lent::Null,
+        Some(bytes) => Lent::Bytes(bytes),
+    }
+}

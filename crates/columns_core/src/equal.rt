@@ -1,0 +1,181 @@
+//! Equality of types, fields, schemas and cells: it holds exactly where the values are the same.
+
+ghost use Rattle.std.specs.Prelude.{◌≡◌, ◌↔◌, IsTrue};
+
+use crate::{Cell, DataType, Field, Schema};
+
+impl PartialEq for DataType {
+    ghost use Rattle.columns_core.specs.Equal.{is_same};
+    ghost use Rattle.columns_core.specs.Same.{same_laws};
+    ghost use Rattle.columns_core.specs.contracts.data_type.DataType.{the_row};
+
+    ghost eq = { is_same the_row.coded };
+
+    ghost laws = { same_laws the_row.coded };
+
+    fn eq(&self, other: &Self) -> bool {
+        is_same_type(self, other)
+    }
+}
+
+impl PartialEq for Field {
+    ghost use Rattle.columns_core.specs.Equal.{is_same};
+    ghost use Rattle.columns_core.specs.Same.{same_laws};
+    ghost use Rattle.columns_core.specs.contracts.data_type.Field.{the_row};
+
+    ghost eq = { is_same the_row.coded };
+
+    ghost laws = { same_laws the_row.coded };
+
+    fn eq(&self, other: &Self) -> bool {
+        is_same_field(self, other)
+    }
+}
+
+impl PartialEq for Schema {
+    ghost use Rattle.columns_core.specs.Equal.{is_same};
+    ghost use Rattle.columns_core.specs.Same.{same_laws};
+    ghost use Rattle.columns_core.specs.contracts.data_type.Schema.{the_row};
+
+    ghost eq = { is_same the_row.coded };
+
+    ghost laws = { same_laws the_row.coded };
+
+    fn eq(&self, other: &Self) -> bool {
+        is_same_fields(self.fields.as_slice(), other.fields.as_slice())
+    }
+}
+
+impl PartialEq for Cell {
+    ghost use Rattle.columns_core.specs.Equal.{is_same};
+    ghost use Rattle.columns_core.specs.Same.{same_laws};
+    ghost use Rattle.columns_core.specs.contracts.cell.Cell.{the_row};
+
+    ghost eq = { is_same the_row.coded };
+
+    ghost laws = { same_laws the_row.coded };
+
+    fn eq(&self, other: &Self) -> bool {
+        is_same_cell(self, other)
+    }
+}
+
+#[cycle(same)]
+pub(crate) fn is_same_type(a: &DataType, b: &DataType) -> bool
+    ensures { IsTrue result ↔ (a.now ≡ b.now) }
+{
+    match a {
+        DataType::Null => matches!(b, DataType::Null),
+        DataType::Boolean => matches!(b, DataType::Boolean),
+        DataType::Int8 => matches!(b, DataType::Int8),
+        DataType::Int16 => matches!(b, DataType::Int16),
+        DataType::Int32 => matches!(b, DataType::Int32),
+        DataType::Int64 => matches!(b, DataType::Int64),
+        DataType::UInt8 => matches!(b, DataType::UInt8),
+        DataType::UInt16 => matches!(b, DataType::UInt16),
+        DataType::UInt32 => matches!(b, DataType::UInt32),
+        DataType::UInt64 => matches!(b, DataType::UInt64),
+        DataType::Date32 => matches!(b, DataType::Date32),
+        DataType::Date64 => matches!(b, DataType::Date64),
+        DataType::Time32(unit) => matches!(b, DataType::Time32(other) if unit == other),
+        DataType::Time64(unit) => matches!(b, DataType::Time64(other) if unit == other),
+        DataType::Duration(unit) => matches!(b, DataType::Duration(other) if unit == other),
+        DataType::Timestamp(unit, zone) => {
+            matches!(b, DataType::Timestamp(other, place) if unit == other && zone == place)
+        }
+        DataType::Interval(unit) => matches!(b, DataType::Interval(other) if unit == other),
+        DataType::Decimal(precision, scale) => {
+            matches!(b, DataType::Decimal(digits, places) if precision == digits && scale == places)
+        }
+        DataType::Utf8 => matches!(b, DataType::Utf8),
+        DataType::LargeUtf8 => matches!(b, DataType::LargeUtf8),
+        DataType::Binary => matches!(b, DataType::Binary),
+        DataType::LargeBinary => matches!(b, DataType::LargeBinary),
+        DataType::FixedSizeBinary(size) => {
+            matches!(b, DataType::FixedSizeBinary(other) if size == other)
+        }
+        DataType::Dictionary(key, value, is_ordered) => match b {
+            DataType::Dictionary(other_key, other_value, other_is_ordered) => {
+                key == other_key
+                    && is_ordered == other_is_ordered
+                    && is_same_type(value.get(), other_value.get())
+            }
+            _ => false,
+        },
+        DataType::List(field) => match b {
+            DataType::List(other) => is_same_field(field.get(), other.get()),
+            _ => false,
+        },
+        DataType::LargeList(field) => match b {
+            DataType::LargeList(other) => is_same_field(field.get(), other.get()),
+            _ => false,
+        },
+        DataType::Struct(fields) => match b {
+            DataType::Struct(others) => is_same_fields(fields.as_slice(), others.as_slice()),
+            _ => false,
+        },
+        DataType::Map(field, is_sorted) => match b {
+            DataType::Map(other, other_is_sorted) => {
+                is_sorted == other_is_sorted && is_same_field(field.get(), other.get())
+            }
+            _ => false,
+        },
+    }
+}
+
+#[cycle(same)]
+fn is_same_field(a: &Field, b: &Field) -> bool
+    ensures { IsTrue result ↔ (a.now ≡ b.now) }
+{
+    a.is_nullable == b.is_nullable && a.name == b.name && is_same_type(&a.data_type, &b.data_type)
+}
+
+#[cycle(same)]
+fn is_same_fields(a: &[Field], b: &[Field]) -> bool
+    ensures { IsTrue result ↔ (a.now ≡ b.now) }
+{
+    if a.len() != b.len() {
+        return false;
+    }
+    for (one, other) in a.iter().zip(b) {
+        if !is_same_field(one, other) {
+            return false;
+        }
+    }
+    true
+}
+
+#[cycle(same_cell)]
+fn is_same_cell(a: &Cell, b: &Cell) -> bool
+    ensures { IsTrue result ↔ (a.now ≡ b.now) }
+{
+    match a {
+        Cell::Null => matches!(b, Cell::Null),
+        Cell::Bool(value) => matches!(b, Cell::Bool(other) if value == other),
+        Cell::Int(value) => matches!(b, Cell::Int(other) if value == other),
+        Cell::DaysMs(days, milliseconds) => {
+            matches!(b, Cell::DaysMs(other, rest) if days == other && milliseconds == rest)
+        }
+        Cell::Text(text) => matches!(b, Cell::Text(other) if text == other),
+        Cell::Bytes(bytes) => matches!(b, Cell::Bytes(other) if bytes == other),
+        Cell::Cells(cells) => match b {
+            Cell::Cells(others) => is_same_cells(cells.as_slice(), others.as_slice()),
+            _ => false,
+        },
+    }
+}
+
+#[cycle(same_cell)]
+fn is_same_cells(a: &[Cell], b: &[Cell]) -> bool
+    ensures { IsTrue result ↔ (a.now ≡ b.now) }
+{
+    if a.len() != b.len() {
+        return false;
+    }
+    for (one, other) in a.iter().zip(b) {
+        if !is_same_cell(one, other) {
+            return false;
+        }
+    }
+    true
+}

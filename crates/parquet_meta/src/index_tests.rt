@@ -1,0 +1,186 @@
+use crate::{
+    ColumnChunkMetaData, ColumnDescriptor, DataPageHeader, Index, MemorySource, PageHeader,
+    PageKind, PageLocation, PhysicalType, Place, PrimitiveType, Repetition, get_field_columns,
+    get_field_pages, page_header_at, read_pages_locations, read_raw_indexes,
+};
+use columns_core::{Error, Name, Seq};
+use parquet_thrift::Unspelled;
+use std::alloc::{AllocError, Global};
+use std::test::Fail;
+
+/// An offset index of three locations.
+const LOCATIONS: [u8; 28] = [
+    0x19, 0x3c, 0x16, 0x08, 0x15, 0xc8, 0x01, 0x16, 0x00, 0x00, 0x16, 0xd0, 0x01, 0x15, 0xc8, 0x01,
+    0x16, 0x14, 0x00, 0x16, 0x98, 0x03, 0x15, 0x64, 0x16, 0x32, 0x00, 0x00,
+];
+
+/// Bytes of ends.
+const ENDS: [u8; 12] = [2; 12];
+
+fn location(offset: i64, compressed_page_size: i32, first_row_index: i64) -> PageLocation {
+    PageLocation {
+        offset,
+        compressed_page_size,
+        first_row_index,
+    }
+}
+
+/// A column with a path of one name.
+fn column(
+    alloc: Global,
+    name: &str,
+    physical_type: PhysicalType,
+    index: Option<Place>,
+) -> Result<ColumnChunkMetaData, AllocError> {
+    let name = Name::new(String::from_str(alloc, name)?);
+    let mut path = Vec::new(alloc);
+    path.push(name)?;
+    let primitive_type = PrimitiveType {
+        physical_type,
+        logical_type: None,
+        repetition: Repetition::Optional,
+    };
+    Ok(ColumnChunkMetaData {
+        descriptor: ColumnDescriptor {
+            path_in_schema: Seq::new(path),
+            primitive_type,
+            flat: true,
+        },
+        codec: 0,
+        num_values: 0,
+        total_compressed_size: 0,
+        data_page_offset: 0,
+        dictionary_page_offset: None,
+        statistics_bytes: None,
+        offset_index: index,
+        column_index: index,
+        column_index_offset: None,
+        foreign: false,
+        encrypted: false,
+    })
+}
+
+#[test]
+fn reads_page_headers(rt: HostRuntime) {
+    let data = [
+        0x15, 0x00, 0x15, 0x28, 0x15, 0x28, 0x2c, 0x15, 0x0a, 0x15, 0x00, 0x15, 0x06, 0x15, 0x06,
+        0x00, 0x00, 0x0a,
+    ];
+    let header = DataPageHeader::V1 {
+        num_values: 5,
+        encoding: 0,
+        definition_encoding: 3,
+    };
+    let expected = PageHeader {
+        kind: PageKind::Data(header),
+        size: 20,
+    };
+    assert_eq!(rt; page_header_at(&data), Ok((expected, [0x0a].as_slice())));
+    assert_eq!(rt; page_header_at(&data[..16]), Err(Unspelled));
+    let dictionary = [
+        0x15, 0x04, 0x25, 0x10, 0x4c, 0x15, 0x04, 0x15, 0x04, 0x00, 0x00,
+    ];
+    let expected = PageHeader {
+        kind: PageKind::Dictionary {
+            num_values: 2,
+            encoding: 2,
+        },
+        size: 8,
+    };
+    assert_eq!(rt; page_header_at(&dictionary), Ok((expected, [].as_slice())));
+}
+
+#[test]
+fn reads_the_locations_of_pages(rt: HostRuntime) -> Result<(), Fail> {
+    let alloc = rt.alloc();
+    let mut source = MemorySource::new(Vec::from_slice(alloc, &LOCATIONS)?);
+    let place = Place {
+        offset: 0,
+        length: 28,
+    };
+    let mut columns = Vec::new(alloc);
+    columns.push(column(alloc, "a", PhysicalType::Int32, Some(place))?)?;
+    columns.push(column(alloc, "b", PhysicalType::Int32, None)?)?;
+    let lists = read_pages_locations(alloc, &mut source, columns.as_slice())?;
+    assert_eq!(rt; lists.len(), 2);
+    let expected = [
+        location(4, 100, 0),
+        location(104, 100, 10),
+        location(204, 50, 25),
+    ];
+    assert_eq!(rt; lists[0].as_slice(), expected.as_slice());
+    assert_eq!(rt; lists[1].len(), 0);
+    Ok(())
+}
+
+/// What a column of this type says of a file that is a column index of one page with this end.
+fn read_end(alloc: Global, physical_type: PhysicalType, end: &[u8]) -> Result<Vec<Index>, Error> {
+    let Ok(length) = u8::try_from(end.len()) else {
+        return Err(Error::Overflow);
+    };
+    let mut bytes = Vec::from_slice(alloc, &[0x19, 0x11, 0x02, 0x19, 0x18, length])?;
+    bytes.extend_from_slice(end)?;
+    bytes.extend_from_slice(&[0x19, 0x18, length])?;
+    bytes.extend_from_slice(end)?;
+    bytes.push(0)?;
+    let place = Place {
+        offset: 0,
+        length: bytes.len() as u64,
+    };
+    let mut columns = Vec::new(alloc);
+    columns.push(column(alloc, "a", physical_type, Some(place))?)?;
+    columns.push(column(alloc, "b", physical_type, None)?)?;
+    let mut source = MemorySource::new(bytes);
+    read_raw_indexes(alloc, &mut source, columns.as_slice(), "a")
+}
+
+/// 0, or the number of the error.
+fn outcome(alloc: Global, physical_type: PhysicalType, end: &[u8]) -> u8 {
+    match read_end(alloc, physical_type, end) {
+        Ok(_) => 0,
+        Err(error) => error.number(),
+    }
+}
+
+#[test]
+fn reads_the_ends_of_pages(rt: HostRuntime) -> Result<(), Fail> {
+    let alloc = rt.alloc();
+    let table = [
+        (PhysicalType::Boolean, &ENDS[..1], 0),
+        (PhysicalType::Boolean, &ENDS[..2], 3),
+        (PhysicalType::Int32, &ENDS[..4], 0),
+        (PhysicalType::Int32, &ENDS[..3], 3),
+        (PhysicalType::Int64, &ENDS[..8], 0),
+        (PhysicalType::Int64, &ENDS[..9], 3),
+        (PhysicalType::Int96, &ENDS[..12], 0),
+        (PhysicalType::Int96, &ENDS[..0], 3),
+        (PhysicalType::Float, &ENDS[..4], 2),
+        (PhysicalType::Double, &ENDS[..8], 2),
+        (PhysicalType::ByteArray, &ENDS[..0], 0),
+        (PhysicalType::FixedLenByteArray(5), &ENDS[..5], 0),
+        (PhysicalType::FixedLenByteArray(5), &ENDS[..6], 3),
+    ];
+    for (physical_type, end, expected) in table {
+        assert_eq!(rt; outcome(alloc, physical_type, end), expected);
+    }
+    let indexes = read_end(alloc, PhysicalType::Int32, &[0xfe, 0xff, 0xff, 0xff])?;
+    let [Index::Int32(pages)] = indexes.as_slice() else {
+        return Err(Error::Overflow.into());
+    };
+    assert!(rt; matches!(pages.as_slice(), [page] if page.min == Some(-2)));
+    Ok(())
+}
+
+#[test]
+fn finds_the_columns_of_a_field(rt: HostRuntime) -> Result<(), Fail> {
+    let alloc = rt.alloc();
+    let mut columns = Vec::new(alloc);
+    columns.push(column(alloc, "a", PhysicalType::Int32, None)?)?;
+    columns.push(column(alloc, "ab", PhysicalType::Int64, None)?)?;
+    columns.push(column(alloc, "a", PhysicalType::Double, None)?)?;
+    let found = get_field_columns(alloc, columns.as_slice(), "a")?;
+    assert_eq!(rt; found.len(), 2);
+    let pages = get_field_pages(alloc, columns.as_slice(), &[10, 20, 30, 40], "a")?;
+    assert_eq!(rt; pages.as_slice(), [&10, &30].as_slice());
+    Ok(())
+}

@@ -1,0 +1,53 @@
+//! The metadata of a Parquet file: where its bytes come from, the footer, statistics and indexes.
+#![tactic(auto)]
+
+mod chunk;
+mod code;
+mod column_index;
+mod decode;
+mod exact;
+mod failing_source;
+mod fault;
+mod fields;
+mod file_source;
+mod footer;
+mod front;
+mod groups;
+mod indexes;
+pub mod laws;
+mod memory_source;
+mod metadata;
+mod offset_index;
+mod page_header;
+mod page_index;
+mod read;
+mod schema;
+mod source;
+mod statistics;
+mod stored_end;
+mod structure;
+mod tree;
+mod typed_statistics;
+
+pub use exact::read_exact_at;
+pub use failing_source::FailingSource;
+pub use fields::{get_field_columns, get_field_pages};
+pub use file_source::FileSource;
+pub use indexes::{read_pages_locations, read_raw_indexes};
+pub use memory_source::MemorySource;
+pub use metadata::{
+    ColumnChunkMetaData, ColumnDescriptor, Ends, FileMetaData, Index, PageIndex, PageLocation,
+    ParquetTimeUnit, PhysicalType, Place, PrimitiveLogicalType, PrimitiveType, RawStatistics,
+    Repetition, RowGroupMetaData, StatisticsBytes,
+};
+pub use page_header::{
+    DataPageHeader, PageHeader, PageKind, page_header_at,
+    page_headers_are_read_from_their_own_bytes,
+};
+pub use read::read_metadata;
+pub use source::{Failed, Source};
+
+#[cfg(test)]
+mod index_tests;
+#[cfg(test)]
+mod tests;

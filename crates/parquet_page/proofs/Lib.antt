@@ -1,0 +1,15 @@
+pub mod HeaderLemmas
+pub mod CursorLemmas
+pub mod RowSums
+pub mod LendingLemmas
+pub mod ListLemmas
+pub mod SelectionLemmas
+pub mod RefusalLemmas
+pub mod PartLemmas
+pub mod LocatedLemmas
+pub mod FirstLemmas
+pub mod EntryLemmas
+pub mod BodyLemmas
+pub mod AloneLemmas
+pub mod SliceLemmas
+pub mod Examples

@@ -1,0 +1,28 @@
+//! The pages of a column chunk one after another, the values that they stand for, and the rows that are selected of them.
+#![tactic(auto)]
+
+mod body;
+mod cursor;
+mod entries;
+mod found;
+mod indexed;
+pub mod laws;
+mod located;
+mod page;
+mod parts;
+mod reader;
+mod selection;
+mod slice_filtered;
+mod source;
+#[cfg(test)]
+mod tests;
+
+pub use body::split_buffer;
+pub use indexed::IndexedPageReader;
+pub use page::{DataPage, DictPage, FilteredPage, Page};
+pub use parquet_base::Interval;
+pub use parquet_meta::DataPageHeader;
+pub use reader::PageReader;
+pub use selection::{page_row_intervals, select_pages};
+pub use slice_filtered::SliceFiltered;
+pub use source::Pages;
