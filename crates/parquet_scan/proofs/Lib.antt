@@ -1,0 +1,9 @@
+pub mod CauseLemmas
+pub mod Examples
+pub mod Exact
+pub mod FileLemmas
+pub mod Order
+pub mod PageLemmas
+pub mod PairLemmas
+pub mod ReadLemmas
+pub mod ScanLemmas

@@ -1,0 +1,15 @@
+pub mod Bound
+pub mod Causes
+pub mod Cells
+pub mod Column
+pub mod Counting
+pub mod Exact
+pub mod NotBuilt
+pub mod Numbers
+pub mod Request
+pub mod Rows
+pub mod Scan
+pub mod Statistics
+pub mod Truth
+pub mod Types
+pub mod Value

@@ -1,0 +1,112 @@
+-- The rows of a file that statistics do not rule out, and those of them that a scan gives.
+use Rattle.std.specs.Prelude.{ℕ, ◌-◌, Bool, false, ◌&&◌, List, [], ◌∷◌, length, map, filter, take, zip, Option, Some, None, is_some, option_map, sum_by, nat_lt}
+use Rattle.std.specs.List.{list_all, range_with_len}
+use Rattle.std.specs.Option.{option_map_or}
+use Rattle.parquet_base.specs.declared.interval.Interval.{Interval}
+use Rattle.parquet_base.specs.Intervals.{maximal_runs}
+use Rattle.columns_core.specs.declared.data_type.Field.{Field}
+use Rattle.parquet_meta.specs.File.{footer}
+use Rattle.parquet_meta.specs.declared.metadata.ColumnChunkMetaData.{ColumnChunkMetaData}
+use Rattle.parquet_meta.specs.declared.metadata.FileMetaData.{FileMetaData}
+use Rattle.parquet_meta.specs.declared.metadata.RowGroupMetaData.{RowGroupMetaData}
+use Rattle.parquet_scan.specs.declared.bound.Bound.{Bound}
+use Rattle.parquet_scan.specs.Bound.{keeps}
+use Rattle.parquet_scan.specs.Request.{Request, begins}
+use Rattle.parquet_scan.specs.declared.groups.KnownEnds.{KnownEnds}
+use Rattle.parquet_scan.specs.Statistics.{group_ends}
+
+-- bytes that have metadata
+pub record File : Type 0 where
+  pub bytes : List ℕ
+  pub metadata : FileMetaData
+
+abbrev pub file_with : List ℕ → FileMetaData → File
+file_with bytes metadata = record { bytes = bytes; metadata = metadata }
+
+abbrev pub file_of : List ℕ → Option File
+file_of bytes = option_map (file_with bytes) (footer bytes)
+
+abbrev pub groups_of : File → List RowGroupMetaData
+groups_of file = file.metadata.row_groups
+
+-- ---- columns
+
+-- the item of a list of one
+abbrev pub only_one : {X : Type 0} → List X → Option X
+only_one (x ∷ []) = Some x
+only_one _ = None
+
+abbrev pub is_named : List ℕ → ColumnChunkMetaData → Bool
+is_named name column = begins name column.descriptor
+
+-- the column of this name in a group, where exactly one has it
+abbrev pub column_named : RowGroupMetaData → List ℕ → Option ColumnChunkMetaData
+column_named group name = only_one (filter (is_named name) group.columns)
+
+abbrev pub has_column_index : RowGroupMetaData → List ℕ → Bool
+has_column_index group name = option_map_or (λ (column : ColumnChunkMetaData). is_some column.column_index) (column_named group name) false
+
+abbrev pub has_offset_index : RowGroupMetaData → List ℕ → Bool
+has_offset_index group name = option_map_or (λ (column : ColumnChunkMetaData). is_some column.offset_index) (column_named group name) false
+
+-- ---- rows that are kept
+
+-- the ends and the nulls of so many rows may belong to an item that meets the bound
+abbrev pub ends_keep : KnownEnds → ℕ → Bound → Bool
+ends_keep ends rows bound = keeps ends.low ends.high ends.nulls rows bound
+
+-- a group may hold a row that meets the bound
+abbrev pub group_keeps : RowGroupMetaData → Bound → Bool
+group_keeps group bound = option_map_or (λ column. ends_keep (group_ends column) group.num_rows bound) (column_named group bound.field) false
+
+-- A group counts where its statistics rule out no bound.
+abbrev pub group_counts : Request → RowGroupMetaData → Bool
+group_counts request group = list_all (group_keeps group) request.bounds
+
+-- each bounded column has a column index and each requested column an offset index
+abbrev pub has_needed_indexes : Request → RowGroupMetaData → Bool
+has_needed_indexes request group =
+    list_all (λ (bound : Bound). has_column_index group bound.field) request.bounds
+    && list_all (λ (field : Field). has_offset_index group field.name) request.fields
+
+-- Rows are pruned by pages where there is a bound, and each group that counts has the indexes.
+abbrev pub prunes_pages : Request → List RowGroupMetaData → Bool
+prunes_pages request groups = nat_lt 0 (length request.bounds) && list_all (has_needed_indexes request) (filter (group_counts request) groups)
+
+-- A row of a group is kept where the group counts. (Not yet: pruning by pages.)
+abbrev pub kept : Request → RowGroupMetaData → ℕ → Bool
+kept request group row = group_counts request group
+
+-- the runs of kept rows of a group
+abbrev pub intervals : Request → RowGroupMetaData → List Interval
+intervals request group = maximal_runs (kept request group) group.num_rows
+
+abbrev pub kept_rows : Request → RowGroupMetaData → List ℕ
+kept_rows request group = filter (kept request group) (range_with_len 0 group.num_rows)
+
+-- ---- rows that are given
+
+-- the first rows of several lists, up to a limit over all of them
+abbrev pub first_rows : Option ℕ → List (List ℕ) → List (List ℕ)
+first_rows None groups = groups
+first_rows (Some left) [] = []
+first_rows (Some left) (rows ∷ groups) = take left rows ∷ first_rows (Some (left - length rows)) groups
+
+-- the rows that a scan gives, by group: the first kept rows of the file
+abbrev pub given_rows : Request → File → List (List ℕ)
+given_rows request file = first_rows request.limit (map (kept_rows request) (groups_of file))
+
+-- the groups, each with the rows that it gives
+abbrev pub given_groups : Request → File → List (RowGroupMetaData × List ℕ)
+given_groups request file = zip (groups_of file) (given_rows request file)
+
+abbrev pub gives_rows : RowGroupMetaData × List ℕ → Bool
+gives_rows group = nat_lt 0 (length group.1)
+
+-- the groups that are read, which give rows
+abbrev pub groups_read : Request → File → List (RowGroupMetaData × List ℕ)
+groups_read request file = filter gives_rows (given_groups request file)
+
+-- how many rows a scan gives
+abbrev pub given_count : Request → File → ℕ
+given_count request file = sum_by length (given_rows request file)

@@ -1,0 +1,13 @@
+//! Scans of a file's rows that leave out groups and pages which no bound can meet.
+#![tactic(auto)]
+
+mod bound;
+mod built;
+mod column;
+mod groups;
+pub mod laws;
+mod request;
+mod scanning;
+
+pub use bound::{Bound, Scalar, keeps, meets};
+pub use scanning::{GroupKept, Scan, scan_where};

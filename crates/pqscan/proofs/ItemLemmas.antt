@@ -1,0 +1,245 @@
+-- Items of a command line one after another.
+use Rattle.std.proofs.Common.{◌≡◌, ℕ, zero, suc, ◌+◌, ◌-◌, ◌<◌, ◌≤◌, Bool, true, false, List, [], ◌∷◌, ◌++◌, length, map, take, drop, get_or, refl, sym, ◌∙◌, ap, arith, drop-cons, append_assoc}
+use Rattle.std.specs.Prelude.{Option, Some, None, option_map, option_and_then, is_some, All, ◌&&◌, ◌||◌, not, if◌then◌else◌, ◌==◌, nat_lt, filter_map, codes}
+use Rattle.std.specs.List.{list_all, list_any}
+use Rattle.std.specs.Option.{option_map_or, option_zip, option_or}
+use Rattle.std.proofs.lemmas.Bool.{true≢false, lt-ltb, eqb-true}
+use Rattle.std.proofs.lemmas.List.{append-nil, drop_all}
+use Rattle.std.proofs.lemmas.List.Elements.{All-append}
+use Rattle.std.proofs.lemmas.List.Folds.{list_all-map}
+use Rattle.std.specs.Prelude.{String, string_bytes}
+use Rattle.std.specs.declared.alloc.Global.{Global}
+use Rattle.std.specs.Str.{bytes_eq}
+use Rattle.columns_core.specs.declared.data_type.DataType.{DataType, Int32}
+use Rattle.columns_core.specs.declared.data_type.Field.{Field}
+use Rattle.pqscan.specs.Spelled.{spelled_type}
+use Rattle.parquet_scan.specs.declared.bound.Scalar.{Scalar}
+use Rattle.parquet_scan.specs.declared.bound.Bound.{Bound}
+use Rattle.std.specs.Cmp.{first_so, second_so}
+use Rattle.pqscan.specs.Spelled.{number}
+use Rattle.pqscan.specs.Parsed.{fields_behind, bounds_behind, AreInt32}
+use Rattle.pqscan.specs.Words.{at_most_one, joined, Chunk, Limit, Summary, all_bounds, all_fields, both_ends, bounds_of, begins_with_dash, chunk_sizes, entries, Entry, field_of, has_name, limits, named_field, one_word, read_words, split_bound, split_field, summaries, two_words, value_for, values_for, with_bound, Command, Word, spelled_command, command_of}
+use Rattle.pqscan.specs.NotBuilt.{built_command, is_built_field, is_built_word}
+
+-- ---- fields
+
+pub no_field : (fields : List Field) (text : List ℕ) (texts : List (List ℕ)) → is_some (split_bound text) ≡ true → fields_behind fields (text ∷ texts) ≡ fields_behind fields texts
+no_field fields text texts e = ap (λ b. option_map (λ rest. fields ++ rest) (if b then all_fields texts else option_map (λ (found : Field × List Field). found.0 ∷ found.1) (option_zip (field_of text) (all_fields texts)))) e
+
+behind : (fields : List Field) (field : Field) (o : Option (List Field))
+    → option_map (λ rest. fields ++ rest) (option_map (λ (found : Field × List Field). found.0 ∷ found.1) (option_zip (Some field) o)) ≡ option_map (λ rest. (fields ++ field ∷ []) ++ rest) o
+behind fields field None = refl
+behind fields field (Some rest) = ap Some (sym (append_assoc fields (field ∷ []) rest))
+
+pub one_field : (fields : List Field) (field : Field) (text : List ℕ) (texts : List (List ℕ)) → is_some (split_bound text) ≡ false → field_of text ≡ Some field
+    → fields_behind fields (text ∷ texts) ≡ fields_behind (fields ++ field ∷ []) texts
+one_field fields field text texts e f =
+    ap (λ b. option_map (λ rest. fields ++ rest) (if b then all_fields texts else option_map (λ (found : Field × List Field). found.0 ∷ found.1) (option_zip (field_of text) (all_fields texts)))) e
+    ∙ ap (λ o. option_map (λ rest. fields ++ rest) (option_map (λ (found : Field × List Field). found.0 ∷ found.1) (option_zip o (all_fields texts)))) f
+    ∙ behind fields field (all_fields texts)
+
+pub bad_field : (fields : List Field) (text : List ℕ) (texts : List (List ℕ)) → is_some (split_bound text) ≡ false → field_of text ≡ None → fields_behind fields (text ∷ texts) ≡ None
+bad_field fields text texts e f =
+    ap (λ b. option_map (λ rest. fields ++ rest) (if b then all_fields texts else option_map (λ (found : Field × List Field). found.0 ∷ found.1) (option_zip (field_of text) (all_fields texts)))) e
+    ∙ ap (λ o. option_map (λ rest. fields ++ rest) (option_map (λ (found : Field × List Field). found.0 ∷ found.1) (option_zip o (all_fields texts)))) f
+
+pub no_more_fields : (fields : List Field) → fields_behind fields [] ≡ Some fields
+no_more_fields fields = ap Some (append-nil fields)
+
+-- ---- bounds
+
+abbrev further : List (List ℕ) → List Field → Field → List Field → Bool → Option (List Bound)
+further texts seen field fields named =
+    if named then all_bounds texts (seen ++ field ∷ []) fields
+    else option_map (λ (found : (Option Scalar × Option Scalar) × List Bound). with_bound field.name found.0 found.1) (option_zip (both_ends texts field) (all_bounds texts (seen ++ field ∷ []) fields))
+
+pub named_before : (texts : List (List ℕ)) (bounds : List Bound) (seen fields : List Field) (field : Field) → has_name seen field ≡ true
+    → bounds_behind texts bounds seen (field ∷ fields) ≡ bounds_behind texts bounds (seen ++ field ∷ []) fields
+named_before texts bounds seen fields field e = ap (λ b. option_map (λ rest. bounds ++ rest) (further texts seen field fields b)) e
+
+pub bad_bound : (texts : List (List ℕ)) (bounds : List Bound) (seen fields : List Field) (field : Field) → has_name seen field ≡ false → both_ends texts field ≡ None
+    → bounds_behind texts bounds seen (field ∷ fields) ≡ None
+bad_bound texts bounds seen fields field e f =
+    ap (λ b. option_map (λ rest. bounds ++ rest) (further texts seen field fields b)) e
+    ∙ ap (λ o. option_map (λ rest. bounds ++ rest) (option_map (λ (found : (Option Scalar × Option Scalar) × List Bound). with_bound field.name found.0 found.1) (option_zip o (all_bounds texts (seen ++ field ∷ []) fields)))) f
+
+same_bounds : (bounds : List Bound) (field : Field) (o : Option (List Bound))
+    → option_map (λ rest. bounds ++ rest) (option_map (λ (found : (Option Scalar × Option Scalar) × List Bound). with_bound field.name found.0 found.1) (option_zip (Some (None, None)) o)) ≡ option_map (λ rest. bounds ++ rest) o
+same_bounds bounds field None = refl
+same_bounds bounds field (Some rest) = refl
+
+pub no_bound : (texts : List (List ℕ)) (bounds : List Bound) (seen fields : List Field) (field : Field) → has_name seen field ≡ false → both_ends texts field ≡ Some (None, None)
+    → bounds_behind texts bounds seen (field ∷ fields) ≡ bounds_behind texts bounds (seen ++ field ∷ []) fields
+no_bound texts bounds seen fields field e f =
+    ap (λ b. option_map (λ rest. bounds ++ rest) (further texts seen field fields b)) e
+    ∙ ap (λ o. option_map (λ rest. bounds ++ rest) (option_map (λ (found : (Option Scalar × Option Scalar) × List Bound). with_bound field.name found.0 found.1) (option_zip o (all_bounds texts (seen ++ field ∷ []) fields)))) f
+    ∙ same_bounds bounds field (all_bounds texts (seen ++ field ∷ []) fields)
+
+-- one of the ends is given
+abbrev pub has_end : Option Scalar → Option Scalar → Bool
+has_end low high = is_some low || is_some high
+
+more_bounds : (bounds : List Bound) (name : List ℕ) (low high : Option Scalar) (o : Option (List Bound)) → has_end low high ≡ true
+    → option_map (λ rest. bounds ++ rest) (option_map (λ (found : (Option Scalar × Option Scalar) × List Bound). with_bound name found.0 found.1) (option_zip (Some (low, high)) o))
+    ≡ option_map (λ rest. (bounds ++ record { field = name; low = low; high = high } ∷ []) ++ rest) o
+more_bounds bounds name low high None e = refl
+more_bounds bounds name (Some low) high (Some rest) e = ap Some (sym (append_assoc bounds (record { field = name; low = Some low; high = high } ∷ []) rest))
+more_bounds bounds name None (Some high) (Some rest) e = ap Some (sym (append_assoc bounds (record { field = name; low = None; high = Some high } ∷ []) rest))
+more_bounds bounds name None None (Some rest) e = absurd (true≢false (sym e))
+
+pub one_bound : (texts : List (List ℕ)) (bounds : List Bound) (seen fields : List Field) (field : Field) (low high : Option Scalar) → has_name seen field ≡ false
+    → both_ends texts field ≡ Some (low, high) → has_end low high ≡ true
+    → bounds_behind texts bounds seen (field ∷ fields) ≡ bounds_behind texts (bounds ++ record { field = field.name; low = low; high = high } ∷ []) (seen ++ field ∷ []) fields
+one_bound texts bounds seen fields field low high e f some =
+    ap (λ b. option_map (λ rest. bounds ++ rest) (further texts seen field fields b)) e
+    ∙ ap (λ o. option_map (λ rest. bounds ++ rest) (option_map (λ (found : (Option Scalar × Option Scalar) × List Bound). with_bound field.name found.0 found.1) (option_zip o (all_bounds texts (seen ++ field ∷ []) fields)))) f
+    ∙ more_bounds bounds field.name low high (all_bounds texts (seen ++ field ∷ []) fields) some
+
+-- ---- all of it
+
+-- the word is read as an entry
+no_dash : (word : List ℕ) → begins_with_dash word ≡ false → one_word word ≡ Some (Entry word)
+no_dash [] e = refl
+no_dash (first ∷ rest) e =
+    ap (λ b. option_or (option_map Chunk (if b && bytes_eq (take 7 rest) (codes "-chunk=") then number (drop 7 rest) else None))
+    (option_or (option_map Limit (if b && bytes_eq (take 7 rest) (codes "-limit=") then number (drop 7 rest) else None))
+    (if b && bytes_eq rest (codes "-summary") then Some Summary else if b then None else Some (Entry (first ∷ rest))))) e
+
+no_pair : (word next : List ℕ) → begins_with_dash word ≡ false → is_some (two_words word next) ≡ false
+no_pair [] next e = refl
+no_pair (first ∷ rest) next e =
+    ap (λ b. is_some (if b && bytes_eq rest (codes "-chunk") then option_map Chunk (number next)
+    else if b && bytes_eq rest (codes "-limit") then option_map Limit (number next) else None)) e
+
+no_end : (word : List ℕ) → begins_with_dash word ≡ false → bytes_eq word (codes "--") ≡ false
+no_end [] e = refl
+no_end (first ∷ rest) e = ap (λ b. b && bytes_eq rest (codes "-")) e
+
+not_true : (b : Bool) → not b ≡ true → b ≡ false
+not_true false e = refl
+not_true true e = sym e
+
+dashless : (word : List ℕ) → is_built_word word ≡ true → begins_with_dash word ≡ false
+dashless word e = not_true (begins_with_dash word) (first_so (not (begins_with_dash word)) (is_some (split_bound word) || is_built_field word) e)
+
+commands : (items : List (List ℕ)) → list_all is_built_word items ≡ true → read_words items ≡ Some (map Entry items)
+commands [] e = refl
+commands (item ∷ []) e =
+    let plain : begins_with_dash item ≡ false = dashless item (first_so (is_built_word item) true e) in
+    ap (λ b. if b then Some [] else joined (one_word item) (Some [])) (no_end item plain) ∙ ap (λ o. joined o (Some [])) (no_dash item plain)
+commands (item ∷ next ∷ items) e =
+    let plain : begins_with_dash item ≡ false = dashless item (first_so (is_built_word item) (list_all is_built_word (next ∷ items)) e) in
+    ap (λ b. if b then joined (two_words item next) (read_words items)
+    else if bytes_eq item (codes "--") then Some (map Entry (next ∷ items)) else joined (one_word item) (read_words (next ∷ items))) (no_pair item next plain)
+    ∙ ap (λ b. if b then Some (map Entry (next ∷ items)) else joined (one_word item) (read_words (next ∷ items))) (no_end item plain)
+    ∙ ap (λ o. joined o (read_words (next ∷ items))) (no_dash item plain)
+    ∙ ap (joined (Some (Entry item))) (commands (next ∷ items) (second_so (is_built_word item) (list_all is_built_word (next ∷ items)) e))
+
+entries_of : (items : List (List ℕ)) → entries (map Entry items) ≡ items
+entries_of [] = refl
+entries_of (item ∷ items) = ap (λ rest. item ∷ rest) (entries_of items)
+
+no_sizes : (items : List (List ℕ)) → chunk_sizes (map Entry items) ≡ []
+no_sizes [] = refl
+no_sizes (item ∷ items) = no_sizes items
+
+no_limits : (items : List (List ℕ)) → limits (map Entry items) ≡ []
+no_limits [] = refl
+no_limits (item ∷ items) = no_limits items
+
+no_flags : (items : List (List ℕ)) → summaries (map Entry items) ≡ []
+no_flags [] = refl
+no_flags (item ∷ items) = no_flags items
+
+-- a command with no option
+abbrev pub plain_command : List Field → List Bound → Command
+plain_command fields bounds = record { request = record { fields = fields; bounds = bounds; chunk_size = None; limit = None }; summary = false }
+
+abbrev pub asked_of : List (List ℕ) → List Field → Option Command
+asked_of items fields = option_map (plain_command fields) (bounds_of items fields)
+
+zipped : (fields : List Field) (o : Option (List Bound))
+    → option_map (λ (found : ((List Bound × Option ℕ) × Option ℕ) × Option ℕ).
+    record { request = record { fields = fields; bounds = ((found.0).0).0; chunk_size = ((found.0).0).1; limit = (found.0).1 }; summary = is_some found.1 })
+    (option_zip (option_zip (option_zip o (Some None)) (Some None)) (Some None)) ≡ option_map (plain_command fields) o
+zipped fields None = refl
+zipped fields (Some bounds) = refl
+
+no_options : (items : List (List ℕ)) (fields : List Field) → command_of (map Entry items) fields ≡ asked_of items fields
+no_options items fields =
+    (λ i. option_map (λ (found : ((List Bound × Option ℕ) × Option ℕ) × Option ℕ).
+    record { request = record { fields = fields; bounds = ((found.0).0).0; chunk_size = ((found.0).0).1; limit = (found.0).1 }; summary = is_some found.1 })
+    (option_zip (option_zip (option_zip (bounds_of (entries_of items i) fields) (at_most_one (no_sizes items i))) (at_most_one (no_limits items i))) (at_most_one (no_flags items i))))
+    ∙ zipped fields (bounds_of items fields)
+
+-- Words of which none is an option spell what their fields and bounds ask for.
+pub spelled : (file : List ℕ) (items : List (List ℕ)) → list_all is_built_word items ≡ true → built_command (file ∷ items) ≡ option_and_then (asked_of items) (all_fields items)
+spelled file items e =
+    ap (λ b. if b then spelled_command (file ∷ items) else None) e
+    ∙ ap (λ o. option_and_then (λ found. option_and_then (command_of found) (all_fields (entries found))) o) (commands items e)
+    ∙ ap (λ texts. option_and_then (command_of (map Entry items)) (all_fields texts)) (entries_of items)
+    ∙ each (all_fields items) where
+      each : (o : Option (List Field)) → option_and_then (command_of (map Entry items)) o ≡ option_and_then (asked_of items) o
+      each None = refl
+      each (Some fields) = no_options items fields
+
+pub not_built : (file : List ℕ) (items : List (List ℕ)) → list_all is_built_word items ≡ false → built_command (file ∷ items) ≡ None
+not_built file items e = ap (λ b. if b then spelled_command (file ∷ items) else None) e
+
+-- ---- the field of an item
+
+bytes_same : (xs ys : List ℕ) → bytes_eq xs ys ≡ true → xs ≡ ys
+bytes_same [] [] e = refl
+bytes_same [] (y ∷ ys) e = absurd (true≢false (sym e))
+bytes_same (x ∷ xs) [] e = absurd (true≢false (sym e))
+bytes_same (x ∷ xs) (y ∷ ys) e =
+    let first : x ≡ y = eqb-true x y (first_so (x == y) (bytes_eq xs ys) e) in
+    let rest : xs ≡ ys = bytes_same xs ys (second_so (x == y) (bytes_eq xs ys) e) in
+    λ i. first i ∷ rest i
+
+int32_field : (parts : List ℕ × List ℕ) → bytes_eq parts.1 (codes "Int32") ≡ true → 0 < length parts.0 → named_field parts ≡ Some (record { name = parts.0; data_type = Int32; is_nullable = true })
+int32_field parts e some =
+    ap (λ b. if b then option_map (λ data_type. record { name = parts.0; data_type = data_type; is_nullable = true }) (spelled_type parts.1) else None) (lt-ltb 0 (length parts.0) some)
+    ∙ ap (λ text. option_map (λ data_type. record { name = parts.0; data_type = data_type; is_nullable = true }) (spelled_type text)) (bytes_same parts.1 (codes "Int32") e)
+
+pub built_field : (text name data_type : List ℕ) → split_field text ≡ Some (name, data_type) → is_built_field text ≡ true → 0 < length name
+    → field_of text ≡ Some (record { name = name; data_type = Int32; is_nullable = true })
+built_field text name data_type e built some =
+    ap (option_and_then named_field) e ∙ int32_field (name, data_type) (sym (ap (λ o. option_map_or (λ (found : List ℕ × List ℕ). bytes_eq found.1 (codes "Int32")) o false) e) ∙ built) some
+
+pub nameless_field : (text name data_type : List ℕ) → split_field text ≡ Some (name, data_type) → length name ≡ 0 → field_of text ≡ None
+nameless_field text name data_type e none =
+    ap (option_and_then named_field) e
+    ∙ ap (λ n. if nat_lt 0 n then option_map (λ data_type. record { name = name; data_type = data_type; is_nullable = true }) (spelled_type data_type) else None) none
+
+pub no_parts : (text : List ℕ) → split_field text ≡ None → field_of text ≡ None
+no_parts text e = ap (option_and_then named_field) e
+
+-- a built word that is no bound is a field of the type Int32
+pub field_word : (word : List ℕ) → is_built_word word ≡ true → is_some (split_bound word) ≡ false → is_built_field word ≡ true
+field_word word e none =
+    sym (ap (λ b. b || is_built_field word) none) ∙ second_so (not (begins_with_dash word)) (is_some (split_bound word) || is_built_field word) e
+
+all_one : (P : Field → Type 0) (field : Field) → P field → All P (field ∷ [])
+all_one P field h zero d k = h
+all_one P field h (suc n) d k = absurd (omega arith)
+
+pub int32_more : (fields : List Field) (field : Field) → AreInt32 fields → field.data_type ≡ Int32 → AreInt32 (fields ++ field ∷ [])
+int32_more fields field all one = All-append (λ (field : Field). field.data_type ≡ Int32) fields (field ∷ []) all (all_one (λ (field : Field). field.data_type ≡ Int32) field one)
+
+-- no field is left
+pub no_more_bounds : (texts : List (List ℕ)) (bounds : List Bound) (fields : List Field) (at : ℕ) → length fields ≤ at → bounds_behind texts bounds (take at fields) (drop at fields) ≡ Some bounds
+no_more_bounds texts bounds fields at h =
+    ap (λ rest. bounds_behind texts bounds (take at fields) rest) (drop_all at fields h) ∙ ap Some (append-nil bounds)
+
+-- ---- the words of a command line
+
+pub is_asked : (words items : List (String Global)) (file : String Global) → words ≡ file ∷ items → list_all (λ item. is_built_word (string_bytes item)) items ≡ true
+    → built_command (map string_bytes words) ≡ option_and_then (asked_of (map string_bytes items)) (all_fields (map string_bytes items))
+is_asked words items file e built =
+    ap (λ (words : List (String Global)). built_command (map string_bytes words)) e ∙ spelled (string_bytes file) (map string_bytes items) (list_all-map is_built_word string_bytes items ∙ built)
+
+pub is_not_asked : (words items : List (String Global)) (file : String Global) → words ≡ file ∷ items → list_all (λ item. is_built_word (string_bytes item)) items ≡ false
+    → built_command (map string_bytes words) ≡ None
+is_not_asked words items file e built =
+    ap (λ (words : List (String Global)). built_command (map string_bytes words)) e ∙ not_built (string_bytes file) (map string_bytes items) (list_all-map is_built_word string_bytes items ∙ built)

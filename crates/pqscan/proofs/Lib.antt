@@ -1,0 +1,7 @@
+pub mod Appended
+pub mod Examples
+pub mod ItemLemmas
+pub mod Joined
+pub mod NumberLemmas
+pub mod ReportLemmas
+pub mod SplitLemmas

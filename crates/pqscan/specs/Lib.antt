@@ -1,0 +1,11 @@
+pub mod CellText
+pub mod Endings
+pub mod Memory
+pub mod NotBuilt
+pub mod Numbers
+pub mod Parsed
+pub mod Program
+pub mod Report
+pub mod Spelled
+pub mod Words
+pub mod Written

@@ -1,0 +1,80 @@
+//! `pqscan`: rows of a Parquet file as text, without the row groups in which no row can meet the bounds.
+#![tactic(auto)]
+
+mod command;
+mod number;
+mod program;
+mod sink;
+mod status;
+#[cfg(test)]
+mod tests;
+mod text;
+
+ghost use Rattle.std.specs.Prelude.{◌≡◌, ◌<◌};
+
+use parquet_base::Steps;
+use parquet_meta::FileSource;
+pub use program::run;
+pub use sink::{FailingSink, MemorySink, Sink, StdSink, write_all};
+pub use status::{Status, status_text};
+use std::alloc::{AllocError, Global};
+use std::env;
+use std::marker::Brand;
+use std::process::ExitCode;
+use std::sync::ledger::{Blank, Ledger};
+
+/// Scans the file that the first word names, and says on standard error why it could not.
+fn main(rt: HostRuntime) -> ExitCode {
+    let status = status_of_process(&rt);
+    if status != Status::Done {
+        let _ = eprintln!(rt; "pqscan: {}", status_text(status));
+    }
+    ExitCode::from(status.number())
+}
+
+fn status_of_process(rt: &HostRuntime) -> Status {
+    match words_of(rt) {
+        Some(words) => scan_file::<Brand>(rt, &words, Blank::new(1)),
+        None => Status::Memory,
+    }
+}
+
+/// The words behind the program's name.
+fn words_of(rt: &HostRuntime) -> Option<Vec<String>> {
+    let args = env::args(rt).ok()?;
+    let mut words: Vec<String> = args.collect(rt.alloc()).ok()?;
+    if !words.is_empty() {
+        words.remove(0);
+    }
+    Some(words)
+}
+
+fn scan_file<L: Ledger>(rt: &HostRuntime, words: &[String], blank: Blank) -> Status
+    requires name { blank.name ≡ L.name }
+    requires parts { blank.parts ≡ L.parts }
+    requires whole { 0 < blank.parts }
+{
+    let Some(path) = path_of(rt.alloc(), words) else {
+        return Status::Memory;
+    };
+    let Ok((files, print)) = two_of(rt) else {
+        return Status::Memory;
+    };
+    let mut source = FileSource::new(files, path);
+    let mut out = StdSink::new(print);
+    let mut steps = Steps::<L>::new(blank);
+    run(rt.alloc(), words, &mut source, &mut out, &mut steps)
+}
+
+/// The runtime for the source and the runtime for the sink.
+fn two_of(rt: &HostRuntime) -> Result<(HostRuntime, HostRuntime), AllocError> {
+    Ok((rt.clone()?, rt.clone()?))
+}
+
+/// The first word, or the empty path.
+fn path_of(alloc: Global, words: &[String]) -> Option<String> {
+    match words.first() {
+        Some(word) => String::from_str(alloc, word).ok(),
+        None => Some(String::new(alloc)),
+    }
+}
