@@ -1,3 +1,4 @@
+pub mod BytesLemmas
 pub mod EndLemmas
 pub mod VarintLemmas
 pub mod RunLemmas

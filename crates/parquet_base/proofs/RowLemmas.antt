@@ -1,12 +1,12 @@
 -- The rows of intervals, one after another, and of the pages that they lie in.
-use Rattle.std.proofs.Common.{◌≡◌, ℕ, zero, suc, ◌+◌, ◌-◌, ◌<◌, ◌≤◌, Bool, true, false, cond, List, [], ◌∷◌, ◌++◌, refl, sym, ap, ◌∙◌, arith, inl, inr, length, length-append}
+use Rattle.std.proofs.Common.{◌≡◌, ℕ, zero, suc, ◌+◌, ◌-◌, ◌<◌, ◌≤◌, Bool, true, false, cond, List, [], ◌∷◌, ◌++◌, refl, sym, ap, ◌∙◌, arith, length, length-append}
 use Rattle.std.specs.Prelude.{map}
 use Rattle.std.specs.List.{filter, flat_map, range_with_len}
 use Rattle.std.proofs.lemmas.List.FromFn.{length-range_with_len}
 use Rattle.std.proofs.lemmas.List.Sums.{sum_by-cons}
 use Rattle.std.proofs.lemmas.Bool.{cond-true, cond-false, or_from}
 use Rattle.parquet_base.specs.declared.interval.Interval.{Interval}
-use Rattle.parquet_base.specs.Intervals.{interval, end, covers, is_well_shaped, is_well_shaped_from, overlaps, row_count, rows_of, rows_in_page, AreAdjacent}
+use Rattle.parquet_base.specs.Intervals.{end, covers, is_well_shaped, is_well_shaped_from, overlaps, row_count, rows_of, rows_in_page, AreAdjacent}
 use Rattle.parquet_base.proofs.ShapeLemmas.{shape-cons, shape-here, shape-le, shape-weaker}
 use Rattle.parquet_base.proofs.SegmentLemmas.{adjacent-le, holds_before, covers_after, covers_inside}
 use Rattle.parquet_base.proofs.OverlapLemmas.{covers-overlaps, overlaps-shaped}

@@ -3,38 +3,14 @@ use Rattle.std.proofs.Common.{◌≡◌, ℕ, zero, suc, ◌+◌, ◌-◌, ◌*�
 use Rattle.std.specs.Int.{w32, w64, from_le_bytes}
 use Rattle.std.specs.Prelude.{slice_get, Some}
 use Rattle.std.proofs.Math.Pow.{mod-mod-pow}
-use Rattle.std.proofs.Math.Nat.{zero-div}
 use Rattle.std.proofs.lemmas.List.{get_or-take, get_or-drop, drop_all}
-use Rattle.std.proofs.lemmas.Nat.{shr-shr, field_of, mod_low, pow-add, pow_pos}
+use Rattle.std.proofs.lemmas.Nat.{shr-shr, field_of, mod_low}
 use Rattle.parquet_base.specs.Bytes.{little_endian}
+use Rattle.parquet_base.proofs.BytesLemmas.{AreBytes, little_endian-drop, little_endian-step, little_endian-none}
 use Rattle.parquet_encoding.specs.Bits.{bits_at, packed}
 
--- each byte is below 256
-abbrev pub IsBytes : List ℕ → Type 0
-IsBytes bytes = (i : ℕ) → get_or bytes i 0 < 256
-
-IsBytes-tail : (byte : ℕ) (bytes : List ℕ) → IsBytes (byte ∷ bytes) → IsBytes bytes
-IsBytes-tail byte bytes fits i = fits (suc i)
-
-pub IsBytes-drop : (n : ℕ) (bytes : List ℕ) → IsBytes bytes → IsBytes (drop n bytes)
-IsBytes-drop n bytes fits i = rw get_or-drop (fits (n + i))
-
--- without its first byte a number is shifted down by eight bits
-little_endian-tail : (byte : ℕ) (bytes : List ℕ) → byte < 256 → little_endian bytes ≡ little_endian (byte ∷ bytes) / 2 ^ 8
-unfolding little_endian
-little_endian-tail byte bytes lt = omega arith
-
-pub little_endian-drop : (n : ℕ) (bytes : List ℕ) → IsBytes bytes → little_endian (drop n bytes) ≡ little_endian bytes / 2 ^ (8 * n)
-unfolding little_endian
-little_endian-drop zero bytes fits = omega arith
-little_endian-drop (suc n) [] fits = sym (zero-div (2 ^ (8 * suc n)))
-little_endian-drop (suc n) (byte ∷ bytes) fits =
-    let k : 8 + 8 * n ≡ 8 * suc n = omega arith in
-    let whole = little_endian (byte ∷ bytes) in
-    little_endian-drop n bytes (IsBytes-tail byte bytes fits) ∙ ap (λ m. m / 2 ^ (8 * n)) (little_endian-tail byte bytes (fits 0)) ∙ shr-shr whole 8 (8 * n) ∙ ap (λ m. whole / 2 ^ m) k
-
 -- the number in some bits behind whole bytes
-pub bits_at-drop : (bytes : List ℕ) (n place width : ℕ) → IsBytes bytes → bits_at (drop n bytes) place width ≡ bits_at bytes (8 * n + place) width
+pub bits_at-drop : (bytes : List ℕ) (n place width : ℕ) → AreBytes bytes → bits_at (drop n bytes) place width ≡ bits_at bytes (8 * n + place) width
 bits_at-drop bytes n place width fits = ap (λ m. m / 2 ^ place % 2 ^ width) (little_endian-drop n bytes fits) ∙ ap (λ m. m % 2 ^ width) (shr-shr (little_endian bytes) (8 * n) place)
 
 -- the low bits of a word that is shifted down
@@ -45,14 +21,6 @@ bits_of_word n place shift width h =
     let m = n / 2 ^ place in
     ap (λ t. m % 2 ^ t / 2 ^ shift % 2 ^ width) k ∙ ap (λ t. t % 2 ^ width) (field_of m (64 - shift) shift) ∙ ap (λ t. m / 2 ^ shift % 2 ^ t % 2 ^ width) j
     ∙ mod-mod-pow (m / 2 ^ shift) (64 - shift - width) width ∙ ap (λ t. t % 2 ^ width) (shr-shr n place shift)
-
--- the byte at a place, and those behind it
-pub little_endian-step : (bytes : List ℕ) (n : ℕ) → little_endian (drop n bytes) ≡ get_or bytes n 0 + 256 * little_endian (drop (suc n) bytes)
-unfolding little_endian
-little_endian-step [] zero = refl
-little_endian-step [] (suc n) = refl
-little_endian-step (byte ∷ bytes) zero = refl
-little_endian-step (byte ∷ bytes) (suc n) = little_endian-step bytes n
 
 -- eight bytes, and those behind them
 little_endian-word : (bytes : List ℕ) → little_endian bytes ≡ from_le_bytes w64 bytes + 2 ^ 64 * little_endian (drop 8 bytes)
@@ -65,19 +33,15 @@ from_le_bytes-take bytes =
     let t : (i : ℕ) → i < 8 → get_or (take 8 bytes) i 0 ≡ get_or bytes i 0 = λ i lt. get_or-take 8 bytes i 0 lt in
     omega (arith, t 0 (omega arith), t 1 (omega arith), t 2 (omega arith), t 3 (omega arith), t 4 (omega arith), t 5 (omega arith), t 6 (omega arith), t 7 (omega arith))
 
-word_below : (bytes : List ℕ) → IsBytes bytes → from_le_bytes w64 bytes < 2 ^ 64
+word_below : (bytes : List ℕ) → AreBytes bytes → from_le_bytes w64 bytes < 2 ^ 64
 word_below bytes fits = omega (arith, fits 0, fits 1, fits 2, fits 3, fits 4, fits 5, fits 6, fits 7)
 
 -- eight bytes as the machine reads them
-pub word_is : (bytes : List ℕ) → IsBytes bytes → from_le_bytes w64 (take 8 bytes) ≡ little_endian bytes % 2 ^ 64
+pub word_is : (bytes : List ℕ) → AreBytes bytes → from_le_bytes w64 (take 8 bytes) ≡ little_endian bytes % 2 ^ 64
 word_is bytes fits =
     let low : from_le_bytes w64 bytes < 2 ^ 64 = word_below bytes fits in
     let turned : little_endian bytes ≡ little_endian (drop 8 bytes) * 2 ^ 64 + from_le_bytes w64 bytes = omega (arith, little_endian-word bytes) in
     from_le_bytes-take bytes ∙ sym (ap (λ n. n % 2 ^ 64) turned ∙ mod_low (little_endian (drop 8 bytes)) 64 (from_le_bytes w64 bytes) low)
-
-little_endian-nil : little_endian [] ≡ 0
-unfolding little_endian
-little_endian-nil = refl
 
 -- a list of fewer than eight bytes, with zeros behind it
 get_or-append-zeros : (xs zs : List ℕ) → ((i : ℕ) → get_or zs i 0 ≡ 0) → (i : ℕ) → get_or (xs ++ zs) i 0 ≡ get_or xs i 0
@@ -95,12 +59,12 @@ short_word_is bytes n short =
     let zeros : List ℕ = drop n (0 ∷ 0 ∷ 0 ∷ 0 ∷ 0 ∷ 0 ∷ 0 ∷ 0 ∷ []) in
     let none : (i : ℕ) → get_or zeros i 0 ≡ 0 = λ i. get_or-drop n (0 ∷ 0 ∷ 0 ∷ 0 ∷ 0 ∷ 0 ∷ 0 ∷ 0 ∷ []) i 0 ∙ get_or-zeros 8 (n + i) in
     let t : (i : ℕ) → get_or (bytes ++ zeros) i 0 ≡ get_or bytes i 0 = get_or-append-zeros bytes zeros none in
-    let rest : little_endian (drop 8 bytes) ≡ 0 = ap little_endian (drop_all 8 bytes (omega arith)) ∙ little_endian-nil in
+    let rest : little_endian (drop 8 bytes) ≡ 0 = ap little_endian (drop_all 8 bytes (omega arith)) ∙ little_endian-none in
     let whole = little_endian-word bytes in
     omega (arith, t 0, t 1, t 2, t 3, t 4, t 5, t 6, t 7)
 
 -- a number that lies in the word from a place on
-pub field_of_word : (bytes : List ℕ) (start shift width word : ℕ) → IsBytes bytes → word ≡ little_endian (drop start bytes) % 2 ^ 64 → shift + width ≤ 64 → word / 2 ^ shift % 2 ^ width ≡ bits_at bytes (8 * start + shift) width
+pub field_of_word : (bytes : List ℕ) (start shift width word : ℕ) → AreBytes bytes → word ≡ little_endian (drop start bytes) % 2 ^ 64 → shift + width ≤ 64 → word / 2 ^ shift % 2 ^ width ≡ bits_at bytes (8 * start + shift) width
 field_of_word bytes start shift width word fits is inside =
     ap (λ n. n / 2 ^ shift % 2 ^ width) (is ∙ ap (λ n. n % 2 ^ 64) (little_endian-drop start bytes fits)) ∙ bits_of_word (little_endian bytes) (8 * start) shift width inside
 
@@ -124,11 +88,11 @@ eight_packed bytes width place bit =
 pub four_bytes : (bytes : List ℕ) → length bytes ≡ 4 → from_le_bytes w32 bytes ≡ little_endian bytes
 four_bytes bytes long =
     let s : (n : ℕ) → little_endian (drop n bytes) ≡ get_or bytes n 0 + 256 * little_endian (drop (suc n) bytes) = little_endian-step bytes in
-    let rest : little_endian (drop 4 bytes) ≡ 0 = ap little_endian (drop_all 4 bytes (omega arith)) ∙ little_endian-nil in
+    let rest : little_endian (drop 4 bytes) ≡ 0 = ap little_endian (drop_all 4 bytes (omega arith)) ∙ little_endian-none in
     omega (arith, s 0, s 1, s 2, s 3)
 
 -- the bits of a number behind a place, wherever its first byte is
-pub value_in_word : (bytes : List ℕ) (place bit width word : ℕ) → IsBytes bytes → width ≤ 32 → word ≡ little_endian (drop (place + bit / 8) bytes) % 2 ^ 64
+pub value_in_word : (bytes : List ℕ) (place bit width word : ℕ) → AreBytes bytes → width ≤ 32 → word ≡ little_endian (drop (place + bit / 8) bytes) % 2 ^ 64
     → word / 2 ^ (bit % 8) % 2 ^ width ≡ bits_at bytes (8 * place + bit) width
 value_in_word bytes place bit width word fits narrow is =
     let whole : 8 * (place + bit / 8) + bit % 8 ≡ 8 * place + bit = omega arith in
@@ -141,36 +105,6 @@ whole_groups count width =
     let bits = ap (λ n. n * width) split in
     omega (arith, bits)
 
--- ---- the first bytes
-
-little_endian-split : (n : ℕ) (bytes : List ℕ) → little_endian bytes ≡ little_endian (take n bytes) + 2 ^ (8 * n) * little_endian (drop n bytes)
-unfolding little_endian
-little_endian-split zero bytes = omega arith
-little_endian-split (suc n) [] = omega arith
-little_endian-split (suc n) (byte ∷ bytes) =
-    let k : 8 * suc n ≡ 8 + 8 * n = omega arith in
-    let high : 2 ^ (8 * suc n) ≡ 256 * 2 ^ (8 * n) = ap (λ m. 2 ^ m) k ∙ pow-add 2 8 (8 * n) in
-    let rest = little_endian-split n bytes in
-    rw high (omega (arith, rest))
-
-little_endian-small : (n : ℕ) (bytes : List ℕ) → IsBytes bytes → little_endian (take n bytes) < 2 ^ (8 * n)
-unfolding little_endian
-little_endian-small zero bytes fits = omega arith
-little_endian-small (suc n) [] fits = pow_pos (8 * suc n)
-little_endian-small (suc n) (byte ∷ bytes) fits =
-    let k : 8 * suc n ≡ 8 + 8 * n = omega arith in
-    let high : 2 ^ (8 * suc n) ≡ 256 * 2 ^ (8 * n) = ap (λ m. 2 ^ m) k ∙ pow-add 2 8 (8 * n) in
-    let low = little_endian-small n bytes (IsBytes-tail byte bytes fits) in
-    let first : byte < 256 = fits 0 in
-    rw high (omega (arith, low))
-
--- the first bytes are the low bits
-pub little_endian-take : (n : ℕ) (bytes : List ℕ) → IsBytes bytes → little_endian (take n bytes) ≡ little_endian bytes % 2 ^ (8 * n)
-little_endian-take n bytes fits =
-    let low = little_endian-small n bytes fits in
-    let turned : little_endian bytes ≡ little_endian (drop n bytes) * 2 ^ (8 * n) + little_endian (take n bytes) = omega (arith, little_endian-split n bytes) in
-    sym (ap (λ m. m % 2 ^ (8 * n)) turned ∙ mod_low (little_endian (drop n bytes)) (8 * n) (little_endian (take n bytes)) low)
-
 -- ---- lists of numbers side by side
 
 pub length-packed : (bytes : List ℕ) (width place count : ℕ) → length (packed bytes width place count) ≡ count
@@ -179,7 +113,7 @@ length-packed bytes width place zero = refl
 length-packed bytes width place (suc count) = ap suc (length-packed bytes width (place + width) count)
 
 -- behind whole bytes
-pub packed-drop : (bytes : List ℕ) (n width place count : ℕ) → IsBytes bytes → packed (drop n bytes) width place count ≡ packed bytes width (8 * n + place) count
+pub packed-drop : (bytes : List ℕ) (n width place count : ℕ) → AreBytes bytes → packed (drop n bytes) width place count ≡ packed bytes width (8 * n + place) count
 unfolding packed
 packed-drop bytes n width place zero fits = refl
 packed-drop bytes n width place (suc count) fits =

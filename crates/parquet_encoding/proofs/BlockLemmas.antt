@@ -5,10 +5,11 @@ use Rattle.std.proofs.lemmas.Bool.{le-leb, lt-leb, and_from, and_left, and_right
 use Rattle.std.proofs.lemmas.List.{length-drop, drop-drop, drop_more, length-map}
 use Rattle.parquet_base.specs.Reading.{◌>>=◌, given, map_value}
 use Rattle.parquet_base.specs.Varint.{varint, varint_within, zigzag}
+use Rattle.parquet_base.proofs.BytesLemmas.{AreBytes}
 use Rattle.parquet_encoding.specs.Bits.{packed}
 use Rattle.parquet_encoding.specs.Places.{bytes_from, VarintAt}
 use Rattle.parquet_encoding.specs.DeltaBinary.{deltas_of, miniblocks, first_block, blocks}
-use Rattle.parquet_encoding.proofs.BitsLemmas.{IsBytes, packed-drop, length-packed}
+use Rattle.parquet_encoding.proofs.BitsLemmas.{packed-drop, length-packed}
 use Rattle.parquet_encoding.proofs.StepLemmas.{bind_some, some_is, same_steps}
 use Rattle.parquet_encoding.proofs.HybridLemmas.{varint-shorter}
 
@@ -147,7 +148,7 @@ joined limit size parts count many own (Some first) p e long =
     moved (Some others) = ap (λ whole. Some (whole, others.1)) (append_assoc own first.0 others.0)
 
 -- the next miniblock of the block
-pub part_opens : (size parts : ℕ) (least : ℤ) (count widths k next width body many : ℕ) (bytes : List ℕ) → IsBytes bytes → widths + k ≤ length bytes → next ≤ length bytes → 0 < count → 0 < k
+pub part_opens : (size parts : ℕ) (least : ℤ) (count widths k next width body many : ℕ) (bytes : List ℕ) → AreBytes bytes → widths + k ≤ length bytes → next ≤ length bytes → 0 < count → 0 < k
     → width ≡ get_or bytes widths 0 → width ≤ 64 → body ≡ size * width / 8 → body ≤ length bytes - next → many ≡ min size count
     → behind_of size parts least count widths k next bytes
     ≡ map_value (λ others. deltas_of least (packed bytes width (8 * next + 0) many) ++ others) (behind_of size parts least (count - many) (widths + 1) (k - 1) (next + body) bytes)

@@ -15,7 +15,8 @@ use Rattle.parquet_encoding.specs.HybridRun.{count_of, run_values, IsIn, Opens, 
 use Rattle.parquet_encoding.specs.declared.run.OpenedRun.{OpenedRun}
 use Rattle.parquet_encoding.specs.declared.run.HybridRun.TheVariants.{Packed, Repeated}
 use Rattle.parquet_encoding.specs.declared.run.HybridRun.{HybridRun}
-use Rattle.parquet_encoding.proofs.BitsLemmas.{IsBytes, IsBytes-drop, little_endian-take, bits_at-drop, packed-drop, length-packed}
+use Rattle.parquet_base.proofs.BytesLemmas.{AreBytes, AreBytes-drop, little_endian-take}
+use Rattle.parquet_encoding.proofs.BitsLemmas.{bits_at-drop, packed-drop, length-packed}
 
 -- ---- counting
 
@@ -55,7 +56,7 @@ groups_header header odd = rw (eq-eqb _ _ odd) refl
 copies_header : (header : ℕ) → header % 2 ≢ 1 → run_of header ≡ Copies (header / 2)
 copies_header header even = elim (eqb_tells (header % 2) 1) [ inl same ↦ absurd (even same.1) | inr other ↦ rw other.0 refl ]
 
-pub opens_packed : (bytes : List ℕ) (place width wanted header body : ℕ) (opened : OpenedRun) → IsBytes bytes → VarintAt bytes place (header, body) → header % 2 ≡ 1
+pub opens_packed : (bytes : List ℕ) (place width wanted header body : ℕ) (opened : OpenedRun) → AreBytes bytes → VarintAt bytes place (header, body) → header % 2 ≡ 1
     → OpensPacked bytes body width (header / 2) wanted opened → Opens bytes place width wanted opened
 unfolding first_run
 opens_packed bytes place width wanted header body opened fits at odd packs =
@@ -83,7 +84,7 @@ copies_count opened value count is = ap count_of is
 copies_values : (bytes : List ℕ) (opened : OpenedRun) (value count : ℕ) → opened.run ≡ Repeated value count → run_values opened.run bytes ≡ replicate count value
 copies_values bytes opened value count is = ap (λ run. run_values run bytes) is
 
-pub opens_repeated : (bytes : List ℕ) (place width wanted header body : ℕ) (opened : OpenedRun) → IsBytes bytes → VarintAt bytes place (header, body) → header % 2 ≢ 1
+pub opens_repeated : (bytes : List ℕ) (place width wanted header body : ℕ) (opened : OpenedRun) → AreBytes bytes → VarintAt bytes place (header, body) → header % 2 ≢ 1
     → OpensRepeated bytes body width (header / 2) wanted opened → Opens bytes place width wanted opened
 unfolding first_run
 opens_repeated bytes place width wanted header body opened fits at even repeats =
@@ -92,7 +93,7 @@ opens_repeated bytes place width wanted header body opened fits at even repeats 
     let count = min (header / 2) wanted in
     let there : leb size (length (drop body bytes)) ≡ true = le-leb _ _ (omega (arith, length-drop body bytes, repeats.end, repeats.within)) in
     let value-is : little_endian (take size (drop body bytes)) ≡ value =
-    little_endian-take size (drop body bytes) (IsBytes-drop body bytes fits) ∙ sym (div-one-of (little_endian (drop body bytes)) (8 * size)) ∙ bits_at-drop bytes body 0 (8 * size) fits in
+    little_endian-take size (drop body bytes) (AreBytes-drop body bytes fits) ∙ sym (div-one-of (little_endian (drop body bytes)) (8 * size)) ∙ bits_at-drop bytes body 0 (8 * size) fits in
     let end : drop opened.end bytes ≡ drop size (drop body bytes) = ap (λ n. drop n bytes) repeats.end ∙ sym (drop-drop size body bytes) in
     record {
       lies = copies_lie bytes opened value count repeats.run;

@@ -6,10 +6,11 @@ use Rattle.std.proofs.Math.Nat.{mul-mod_left}
 use Rattle.std.proofs.lemmas.Nat.{shr-shr, field_of, mod-pow-add, shl-shr, or_comm, or_shifted, shr_below, mod_below, pow_pos}
 use Rattle.parquet_base.specs.Bytes.{little_endian}
 use Rattle.parquet_encoding.specs.Bits.{bits_at}
-use Rattle.parquet_encoding.proofs.BitsLemmas.{IsBytes, little_endian-step, little_endian-drop, bits_of_word}
+use Rattle.parquet_base.proofs.BytesLemmas.{AreBytes, little_endian-step, little_endian-drop}
+use Rattle.parquet_encoding.proofs.BitsLemmas.{bits_of_word}
 
 -- the byte at a place, of all bytes as one number
-byte_is : (bytes : List ℕ) (n : ℕ) → IsBytes bytes → get_or bytes n 0 ≡ little_endian bytes / 2 ^ (8 * n) % 2 ^ 8
+byte_is : (bytes : List ℕ) (n : ℕ) → AreBytes bytes → get_or bytes n 0 ≡ little_endian bytes / 2 ^ (8 * n) % 2 ^ 8
 byte_is bytes n fits =
     let step = little_endian-step bytes n in
     let low : get_or bytes n 0 ≡ little_endian (drop n bytes) % 2 ^ 8 = omega (arith, fits n) in
@@ -43,7 +44,7 @@ two_words n shift k whole few =
     ap_below n k shift turned = rw turned (mod_below n (2 ^ 64) (pow_pos 64))
 
 -- the bits of a number that lies in one word
-pub in_one_word : (bytes : List ℕ) (place bit width word : ℕ) → IsBytes bytes → bit % 8 + width ≤ 64 → word ≡ little_endian (drop (place + bit / 8) bytes) % 2 ^ 64
+pub in_one_word : (bytes : List ℕ) (place bit width word : ℕ) → AreBytes bytes → bit % 8 + width ≤ 64 → word ≡ little_endian (drop (place + bit / 8) bytes) % 2 ^ 64
     → word / 2 ^ (bit % 8) % 2 ^ width ≡ bits_at bytes (8 * place + bit) width
 in_one_word bytes place bit width word fits inside is =
     let start = place + bit / 8 in
@@ -52,7 +53,7 @@ in_one_word bytes place bit width word fits inside is =
     ∙ bits_of_word (little_endian bytes) (8 * start) (bit % 8) width inside ∙ ap (λ n. bits_at bytes n width) whole
 
 -- the bits of a number that reaches into the byte behind a word
-pub in_two_words : (bytes : List ℕ) (place bit width word byte k : ℕ) → IsBytes bytes → width ≤ 64 → word ≡ little_endian (drop (place + bit / 8) bytes) % 2 ^ 64
+pub in_two_words : (bytes : List ℕ) (place bit width word byte k : ℕ) → AreBytes bytes → width ≤ 64 → word ≡ little_endian (drop (place + bit / 8) bytes) % 2 ^ 64
     → byte ≡ get_or bytes (place + bit / 8 + 8) 0 → bit % 8 + k ≡ 64 → bit_or (word / 2 ^ (bit % 8)) (byte * 2 ^ k % 2 ^ 64) % 2 ^ width ≡ bits_at bytes (8 * place + bit) width
 in_two_words bytes place bit width word byte k fits narrow is is-byte turned =
     let start = place + bit / 8 in

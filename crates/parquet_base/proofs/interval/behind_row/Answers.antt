@@ -1,6 +1,6 @@
-use Rattle.std.proofs.Common.{rules, ◌≡◌, ◌∙◌, ◌^◌, ◌-◌, ap, sym, arith, drop, Bool, true}
+use Rattle.std.proofs.Common.{rules, ◌∙◌, ◌^◌, ◌-◌, ap}
 use Rattle.std.proofs.lemmas.List.Sorted.{IsPartitionPoint-from_clause}
-use Rattle.parquet_base.specs.Intervals.{overlaps, is_well_shaped}
+use Rattle.parquet_base.specs.Intervals.{overlaps}
 use Rattle.parquet_base.proofs.OverlapLemmas.{ends_by, ends-partitioned, overlaps-from, rest_is}
 use Rattle.parquet_base.proofs.ShapeLemmas.{shape-drop}
 use Rattle.parquet_base.proofs.interval.behind_row.Goals as goal
