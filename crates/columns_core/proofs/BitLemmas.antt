@@ -1,14 +1,16 @@
 -- Truth values packed in bytes.
-use Rattle.std.proofs.Common.{◌≡◌, ℕ, zero, suc, ◌+◌, ◌-◌, ◌*◌, ◌/◌, ◌%◌, ◌^◌, ◌<◌, Bool, true, false, List, [], ◌∷◌, ◌++◌, length, drop, get_or, replicate, refl, sym, ap, ◌∙◌, arith}
+use Rattle.std.proofs.Common.{◌≡◌, ℕ, zero, suc, ◌+◌, ◌-◌, ◌*◌, ◌/◌, ◌%◌, ◌^◌, ◌<◌, Bool, true, false, List, [], ◌∷◌, ◌++◌, length, take, drop, get_or, replicate, refl, sym, ap, ◌∙◌, arith}
 use Rattle.std.specs.Prelude.{slice_get, Some, ◌==◌, not, cond, if◌then◌else◌, bit_and, bit_or}
 use Rattle.std.specs.List.{count_by}
+use Rattle.std.specs.Int.{w64, from_le_bytes}
 use Rattle.std.specs.Int.Count.{ones}
+use Rattle.std.proofs.lemmas.List.{get_or-take}
 use Rattle.std.proofs.lemmas.List.Sums.{sum_by-cons}
 use Rattle.std.proofs.Math.Pow.{mod-mod-pow}
 use Rattle.std.proofs.lemmas.Nat.{shr-shr, field_of, mod_low, shr_high, pow-add, pow_pos, ones_cat, and_mask, or_shifted, mul-add-lt}
 use Rattle.parquet_base.specs.Bytes.{little_endian}
 use Rattle.columns_core.specs.Bits.{low_bits, bits_of}
-use Rattle.columns_core.proofs.BytesLemmas.{AreBytes, little_endian-drop, little_endian-step}
+use Rattle.parquet_base.proofs.BytesLemmas.{AreBytes, little_endian-drop, little_endian-step}
 
 pub length-low_bits : (n count : ℕ) → length (low_bits n count) ≡ count
 unfolding low_bits
@@ -89,6 +91,18 @@ ones-step bytes i fits =
     let turned : little_endian (drop i bytes) ≡ rest * 2 ^ 8 + get_or bytes i 0 = omega (arith, little_endian-step bytes i) in
     let split = ones_cat 8 rest (get_or bytes i 0) (fits i) in
     omega (arith, ap ones turned, split)
+
+-- the ones of eight bytes as the machine reads them, and of the bytes behind them
+pub ones-word : (bytes : List ℕ) → AreBytes bytes → ones (little_endian bytes) ≡ ones (from_le_bytes w64 (take 8 bytes)) + ones (little_endian (drop 8 bytes))
+ones-word bytes fits =
+    let s : (n : ℕ) → little_endian (drop n bytes) ≡ get_or bytes n 0 + 256 * little_endian (drop (suc n) bytes) = little_endian-step bytes in
+    let t : (i : ℕ) → i < 8 → get_or (take 8 bytes) i 0 ≡ get_or bytes i 0 = λ i lt. get_or-take 8 bytes i 0 lt in
+    let word : from_le_bytes w64 (take 8 bytes) ≡ from_le_bytes w64 bytes =
+    omega (arith, t 0 (omega arith), t 1 (omega arith), t 2 (omega arith), t 3 (omega arith), t 4 (omega arith), t 5 (omega arith), t 6 (omega arith), t 7 (omega arith)) in
+    let small : from_le_bytes w64 bytes < 2 ^ 64 = omega (arith, fits 0, fits 1, fits 2, fits 3, fits 4, fits 5, fits 6, fits 7) in
+    let whole : little_endian bytes ≡ little_endian (drop 8 bytes) * 2 ^ 64 + from_le_bytes w64 bytes = omega (arith, s 0, s 1, s 2, s 3, s 4, s 5, s 6, s 7) in
+    let split = ones_cat 64 (little_endian (drop 8 bytes)) (from_le_bytes w64 bytes) small in
+    omega (arith, ap ones whole, split, ap ones word)
 
 pub no_ones : ones (little_endian []) ≡ 0
 unfolding little_endian ones

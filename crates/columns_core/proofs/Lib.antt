@@ -1,5 +1,4 @@
 pub mod Masked
-pub mod BytesLemmas
 pub mod BitLemmas
 pub mod Places
 pub mod FixedLemmas

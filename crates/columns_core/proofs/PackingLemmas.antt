@@ -9,7 +9,7 @@ use Rattle.std.proofs.lemmas.List.{take_all, length-drop, length-take, take-appe
 use Rattle.parquet_base.specs.Bytes.{little_endian}
 use Rattle.columns_core.specs.Bits.{low_bits, IsPacked}
 use Rattle.columns_core.proofs.BitLemmas.{appended, below_appended}
-use Rattle.columns_core.proofs.BytesLemmas.{AreBytes, little_endian-append, little_endian-set, little_endian-drop, little_endian-take, little_endian-split, little_endian-step, little_endian-ones, little_endian-zeros}
+use Rattle.parquet_base.proofs.BytesLemmas.{AreBytes, little_endian-append, little_endian-set, little_endian-drop, little_endian-take, little_endian-split, little_endian-step, little_endian-ones, little_endian-zeros}
 
 -- ---- one byte more
 
@@ -66,12 +66,12 @@ pushed_bits start out bytes at place more byte fits long read is =
     more_bits (little_endian start) (length start) (little_endian bytes / 2 ^ place) (8 * at) more byte (little_endian out) (little_endian (out ++ byte ∷ [])) read next these
 
 -- whole bytes at a byte's border
-pub pushed_bytes : (start bytes : List ℕ) (count place : ℕ) → AreBytes bytes → count ≤ length bytes → place ≡ 0
+pub pushed_bytes : (start bytes : List ℕ) (count place : ℕ) → AreBytes bytes → place ≡ 0
     → little_endian (start ++ take count bytes) ≡ little_endian start + 2 ^ (8 * length start) * (little_endian bytes / 2 ^ place % 2 ^ (8 * count))
-pushed_bytes start bytes count place fits few is =
+pushed_bytes start bytes count place fits is =
     let none : little_endian bytes / 2 ^ place ≡ little_endian bytes = ap (λ k. little_endian bytes / 2 ^ k) is ∙ omega arith in
     little_endian-append start (take count bytes)
-    ∙ ap (λ n. little_endian start + 2 ^ (8 * length start) * n) (little_endian-take count bytes few fits ∙ ap (λ n. n % 2 ^ (8 * count)) (sym none))
+    ∙ ap (λ n. little_endian start + 2 ^ (8 * length start) * n) (little_endian-take count bytes fits ∙ ap (λ n. n % 2 ^ (8 * count)) (sym none))
 
 -- the low bits of eight
 pub masked_bits : (n more byte ones : ℕ) → more < 8 → byte ≡ n % 256 → ones ≡ 2 ^ more - 1 → bit_and byte ones ≡ n % 2 ^ more

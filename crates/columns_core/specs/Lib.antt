@@ -1,4 +1,6 @@
 pub mod Causes
+pub mod Refusals
+pub mod Types
 pub mod Column
 pub mod Bits
 pub mod Offsets

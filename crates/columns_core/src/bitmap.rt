@@ -1,7 +1,9 @@
 //! Lists of truth values, packed in bytes.
-ghost use Rattle.std.specs.Prelude.{◌≡◌, ◌<◌, length, slice_get, not, Some, IfOk, IfErr};
-ghost use Rattle.columns_core.specs.Causes.{IsWantOfMemory};
+ghost use Rattle.std.specs.Prelude.{◌≡◌, ◌<◌, ◌^◌, length, slice_get, not, Some, IfOk, IfErr};
+ghost use Rattle.std.specs.Int.Count.{ones};
 ghost use Rattle.std.specs.List.{count_by};
+ghost use Rattle.parquet_base.specs.Bytes.{little_endian};
+ghost use Rattle.columns_core.specs.Causes.{IsWantOfMemory};
 
 use crate::Error;
 use crate::bits::bit_at;
@@ -46,10 +48,7 @@ impl Bitmap {
         ensures { result ≡ count_by not self.now }
     {
         let length = self.length;
-        let mut set = 0;
-        for byte in self.bytes.as_slice() {
-            set += byte.count_ones() as usize;
-        }
+        let set = count_ones(self.bytes.as_slice());
         length - set
     }
 
@@ -62,4 +61,21 @@ impl Bitmap {
             length: self.length,
         })
     }
+}
+
+/// How many bits of some bytes are 1, counted eight bytes at a time.
+fn count_ones(bytes: &[u8]) -> usize
+    requires { ones (little_endian bytes.now) < 2 ^ 64 }
+    ensures { result ≡ ones (little_endian bytes.now) }
+{
+    let mut set = 0;
+    let mut rest = bytes;
+    while let Some((word, behind)) = rest.split_first_chunk::<8>() {
+        set += u64::from_le_bytes(*word).count_ones() as usize;
+        rest = behind;
+    }
+    for byte in rest {
+        set += byte.count_ones() as usize;
+    }
+    set
 }

@@ -2,7 +2,7 @@
 
 ghost use Rattle.std.specs.Prelude.{◌≡◌, ◌↔◌, IsTrue};
 
-use crate::{Cell, DataType, Field, Schema};
+use crate::{Cell, DataType, Field, IntegerType, Name, Schema, TimeUnit};
 
 impl PartialEq for DataType {
     ghost use Rattle.columns_core.specs.Equal.{is_same};
@@ -80,13 +80,9 @@ pub(crate) fn is_same_type(a: &DataType, b: &DataType) -> bool
         DataType::Time32(unit) => matches!(b, DataType::Time32(other) if unit == other),
         DataType::Time64(unit) => matches!(b, DataType::Time64(other) if unit == other),
         DataType::Duration(unit) => matches!(b, DataType::Duration(other) if unit == other),
-        DataType::Timestamp(unit, zone) => {
-            matches!(b, DataType::Timestamp(other, place) if unit == other && zone == place)
-        }
+        DataType::Timestamp(unit, zone) => is_timestamp(*unit, zone, b),
         DataType::Interval(unit) => matches!(b, DataType::Interval(other) if unit == other),
-        DataType::Decimal(precision, scale) => {
-            matches!(b, DataType::Decimal(digits, places) if precision == digits && scale == places)
-        }
+        DataType::Decimal(precision, scale) => is_decimal(*precision, *scale, b),
         DataType::Utf8 => matches!(b, DataType::Utf8),
         DataType::LargeUtf8 => matches!(b, DataType::LargeUtf8),
         DataType::Binary => matches!(b, DataType::Binary),
@@ -94,32 +90,85 @@ pub(crate) fn is_same_type(a: &DataType, b: &DataType) -> bool
         DataType::FixedSizeBinary(size) => {
             matches!(b, DataType::FixedSizeBinary(other) if size == other)
         }
-        DataType::Dictionary(key, value, is_ordered) => match b {
-            DataType::Dictionary(other_key, other_value, other_is_ordered) => {
-                key == other_key
-                    && is_ordered == other_is_ordered
-                    && is_same_type(value.get(), other_value.get())
-            }
-            _ => false,
-        },
-        DataType::List(field) => match b {
-            DataType::List(other) => is_same_field(field.get(), other.get()),
-            _ => false,
-        },
-        DataType::LargeList(field) => match b {
-            DataType::LargeList(other) => is_same_field(field.get(), other.get()),
-            _ => false,
-        },
-        DataType::Struct(fields) => match b {
-            DataType::Struct(others) => is_same_fields(fields.as_slice(), others.as_slice()),
-            _ => false,
-        },
-        DataType::Map(field, is_sorted) => match b {
-            DataType::Map(other, other_is_sorted) => {
-                is_sorted == other_is_sorted && is_same_field(field.get(), other.get())
-            }
-            _ => false,
-        },
+        DataType::Dictionary(key, value, is_ordered) => {
+            is_dictionary(value.get(), *key, *is_ordered, b)
+        }
+        DataType::List(field) => is_list(field.get(), b),
+        DataType::LargeList(field) => is_large_list(field.get(), b),
+        DataType::Struct(fields) => is_struct(fields.as_slice(), b),
+        DataType::Map(field, is_sorted) => is_map(field.get(), *is_sorted, b),
+    }
+}
+
+fn is_timestamp(unit: TimeUnit, zone: &Option<Name>, data_type: &DataType) -> bool
+    ensures { IsTrue result ↔ (DataType.Timestamp unit zone.now ≡ data_type.now) }
+{
+    match data_type {
+        DataType::Timestamp(other, place) => unit == *other && zone == place,
+        _ => false,
+    }
+}
+
+fn is_decimal(precision: usize, scale: usize, data_type: &DataType) -> bool
+    ensures { IsTrue result ↔ (DataType.Decimal precision scale ≡ data_type.now) }
+{
+    match data_type {
+        DataType::Decimal(digits, places) => precision == *digits && scale == *places,
+        _ => false,
+    }
+}
+
+#[cycle(same)]
+fn is_dictionary(value: &DataType, key: IntegerType, is_ordered: bool, data_type: &DataType) -> bool
+    ensures { IsTrue result ↔ (DataType.Dictionary key value.now is_ordered ≡ data_type.now) }
+{
+    match data_type {
+        DataType::Dictionary(other_key, other, other_is_ordered) => {
+            key == *other_key && is_ordered == *other_is_ordered && is_same_type(value, other.get())
+        }
+        _ => false,
+    }
+}
+
+#[cycle(same)]
+fn is_list(field: &Field, data_type: &DataType) -> bool
+    ensures { IsTrue result ↔ (DataType.List field.now ≡ data_type.now) }
+{
+    match data_type {
+        DataType::List(other) => is_same_field(field, other.get()),
+        _ => false,
+    }
+}
+
+#[cycle(same)]
+fn is_large_list(field: &Field, data_type: &DataType) -> bool
+    ensures { IsTrue result ↔ (DataType.LargeList field.now ≡ data_type.now) }
+{
+    match data_type {
+        DataType::LargeList(other) => is_same_field(field, other.get()),
+        _ => false,
+    }
+}
+
+#[cycle(same)]
+fn is_struct(fields: &[Field], data_type: &DataType) -> bool
+    ensures { IsTrue result ↔ (DataType.Struct fields.now ≡ data_type.now) }
+{
+    match data_type {
+        DataType::Struct(others) => is_same_fields(fields, others.as_slice()),
+        _ => false,
+    }
+}
+
+#[cycle(same)]
+fn is_map(field: &Field, is_sorted: bool, data_type: &DataType) -> bool
+    ensures { IsTrue result ↔ (DataType.Map field.now is_sorted ≡ data_type.now) }
+{
+    match data_type {
+        DataType::Map(other, other_is_sorted) => {
+            is_sorted == *other_is_sorted && is_same_field(field, other.get())
+        }
+        _ => false,
     }
 }
 

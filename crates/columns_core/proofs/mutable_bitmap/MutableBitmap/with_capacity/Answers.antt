@@ -1,7 +1,7 @@
 use Rattle.std.proofs.Common.{length, ap, arith}
 use Rattle.parquet_base.specs.Bytes.{little_endian}
 use Rattle.columns_core.proofs.BitLemmas.{no_bits}
-use Rattle.columns_core.proofs.BytesLemmas.{little_endian-none}
+use Rattle.parquet_base.proofs.BytesLemmas.{little_endian-none}
 use Rattle.columns_core.proofs.mutable_bitmap.MutableBitmap.with_capacity.Goals as goal
 
 pub invariant_of-result : goal.invariant_of-result
