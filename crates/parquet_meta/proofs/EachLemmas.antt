@@ -1,41 +1,25 @@
 -- Parts of a file that are read for each of a list in turn.
-use Rattle.std.proofs.Common.{◌≡◌, ℕ, ◌+◌, ◌≤◌, ◌<◌, List, [], ◌∷◌, ◌++◌, Option, Some, None, Err, refl, sym, ap, subst, ◌∙◌, arith, length, drop, get_or, append_assoc, option_map, sum_by}
+use Rattle.std.proofs.Common.{◌≡◌, ℕ, ◌+◌, ◌≤◌, List, [], ◌∷◌, ◌++◌, Option, Some, None, Err, refl, subst, arith, sum_by}
 use Rattle.std.specs.Prelude.{IfSome}
-use Rattle.std.proofs.lemmas.List.{append-nil, drop_more}
 use Rattle.std.proofs.lemmas.List.Sums.{sum_by-cons}
 use Rattle.columns_core.specs.declared.error.Error.{Error}
 use Rattle.columns_core.specs.declared.error.Error.TheVariants as error
 use Rattle.parquet_base.specs.Failures.{MayFail}
-use Rattle.parquet_base.specs.Reading.{◌>>=◌}
-use Rattle.parquet_meta.specs.Indexes.{all_of}
+use Rattle.parquet_meta.specs.Lists.{all_of}
 use Rattle.parquet_meta.specs.Source.{Finds}
-
-abbrev before : {B : Type 0} → List B → Option (List B) → Option (List B)
-before {B = B} front o = option_map {T = List B} {U = List B} (λ behind. front ++ behind) o
+use Rattle.parquet_meta.proofs.ListLemmas.{IsMaking, making-begins, making-goes_on, making-fails, making-ends}
 
 -- what was read, and what is left, are all of it; what was taken, and what is left to take, are at most all
 pub record IsReadingEach {A B : Type 0} (value : List ℕ → A → Option B) (cost : A → ℕ) (told : Option (List ℕ)) (all rest : List A) (items : List B) (before_all now : ℕ) : Type 0 where
-  pub found : IfSome told (λ file. before items (all_of (value file) rest) ≡ all_of (value file) all)
+  pub found : IfSome told (λ file. IsMaking (value file) all rest items)
   pub taken : now + sum_by cost rest ≤ before_all + sum_by cost all
-
-before_none : {B : Type 0} (o : Option (List B)) → before [] o ≡ o
-before_none None = refl
-before_none (Some xs) = refl
-
-all_of-next : {A B : Type 0} (value : A → Option B) (x : A) (rest : List A) → all_of value (x ∷ rest) ≡ (value x >>= λ first. all_of value rest >>= λ others. Some (first ∷ others))
-unfolding all_of
-all_of-next value x rest = refl
-
-pushed : {B : Type 0} (items : List B) (y : B) (o : Option (List B)) → before items (o >>= λ others. Some (y ∷ others)) ≡ before (items ++ y ∷ []) o
-pushed items y None = refl
-pushed {B = B} items y (Some ys) = ap (λ (l : List B). Some l) (sym (append_assoc items (y ∷ []) ys))
 
 pub each_begins : {A B : Type 0} (value : List ℕ → A → Option B) (cost : A → ℕ) (told : Option (List ℕ)) (all : List A) (now : ℕ) → IsReadingEach value cost told all all [] now now
 each_begins {A = A} {B = B} value cost told all now = record { found = found told; taken = omega arith }
   where
-    found : (o : Option (List ℕ)) → IfSome o (λ file. before [] (all_of (value file) all) ≡ all_of (value file) all)
+    found : (o : Option (List ℕ)) → IfSome o (λ file. IsMaking (value file) all all [])
     found None = tt
-    found (Some file) = before_none (all_of (value file) all)
+    found (Some file) = making-begins (value file) all
 
 pub each_goes_on : {A B : Type 0} (value : List ℕ → A → Option B) (cost : A → ℕ) (told : Option (List ℕ)) (all rest : List A) (x : A) (items : List B) (y : B) (before_all now then : ℕ) →
     IsReadingEach value cost told all (x ∷ rest) items before_all now → IfSome told (λ file. value file x ≡ Some y) → then ≤ now + cost x → IsReadingEach value cost told all rest (items ++ y ∷ []) before_all then
@@ -44,29 +28,22 @@ each_goes_on {A = A} {B = B} value cost told all rest x items y before_all now t
   taken = omega (arith, reading.taken, le, sum_by-cons cost x rest);
 }
   where
-    found : (o : Option (List ℕ)) → IfSome o (λ file. before items (all_of (value file) (x ∷ rest)) ≡ all_of (value file) all) → IfSome o (λ file. value file x ≡ Some y) →
-        IfSome o (λ file. before (items ++ y ∷ []) (all_of (value file) rest) ≡ all_of (value file) all)
-    found None r e = tt
-    found (Some file) r e =
-        sym (pushed items y (all_of (value file) rest))
-        ∙ ap (λ (o : Option B). before items (o >>= λ first. all_of (value file) rest >>= λ others. Some (first ∷ others))) (sym e)
-        ∙ ap (before items) (sym (all_of-next (value file) x rest)) ∙ r
+    found : (o : Option (List ℕ)) → IfSome o (λ file. IsMaking (value file) all (x ∷ rest) items) → IfSome o (λ file. value file x ≡ Some y) → IfSome o (λ file. IsMaking (value file) all rest (items ++ y ∷ []))
+    found None making e = tt
+    found (Some file) making e = making-goes_on (value file) all (x ∷ rest) rest x items y making refl e
 
 -- one that has no value leaves none for all
-pub each_fails : {A B : Type 0} (value : List ℕ → A → Option B) (cost : A → ℕ) (all rest : List A) (x : A) (items : List B) (before_all now : ℕ) (file : List ℕ) →
+each_fails : {A B : Type 0} (value : List ℕ → A → Option B) (cost : A → ℕ) (all rest : List A) (x : A) (items : List B) (before_all now : ℕ) (file : List ℕ) →
     IsReadingEach value cost (Some file) all (x ∷ rest) items before_all now → value file x ≡ None → all_of (value file) all ≡ None
-each_fails {A = A} {B = B} value cost all rest x items before_all now file reading none =
-    sym reading.found ∙ ap (before items) (all_of-next (value file) x rest)
-    ∙ ap (λ (o : Option B). before items (o >>= λ first. all_of (value file) rest >>= λ others. Some (first ∷ others))) none
+each_fails value cost all rest x items before_all now file reading none = making-fails (value file) all (x ∷ rest) rest x items reading.found refl none
 
 pub each_ends : {A B : Type 0} (value : List ℕ → A → Option B) (cost : A → ℕ) (told : Option (List ℕ)) (all : List A) (items : List B) (before_all now : ℕ) →
     IsReadingEach value cost told all [] items before_all now → IfSome told (λ file. all_of (value file) all ≡ Some items)
-unfolding all_of
 each_ends {A = A} {B = B} value cost told all items before_all now reading = found told reading.found
   where
-    found : (o : Option (List ℕ)) → IfSome o (λ file. before items (all_of (value file) []) ≡ all_of (value file) all) → IfSome o (λ file. all_of (value file) all ≡ Some items)
-    found None r = tt
-    found (Some file) r = sym r ∙ ap (λ (l : List B). Some l) (append-nil items)
+    found : (o : Option (List ℕ)) → IfSome o (λ file. IsMaking (value file) all [] items) → IfSome o (λ file. all_of (value file) all ≡ Some items)
+    found None making = tt
+    found (Some file) making = making-ends (value file) all [] items making refl
 
 -- a failure of a later call is one of the whole
 pub may_fail-later : (a b c : ℕ) → a ≤ b → MayFail b c → MayFail a c
@@ -89,7 +66,3 @@ pub each_refused : {X Y A B : Type 0} (view : X → B) (views : Y → List B) (v
     IsReadingEach value cost told all (x ∷ rest) items before_all now → a ≤ b → here ≡ told → Finds view (λ file. value file x) here b c (Err e) → Finds views (λ file. all_of (value file) all) told a c (Err e)
 each_refused view views value cost told here all rest x items before_all now a b c e reading le same finds =
     refused view views value cost told all rest x items before_all now a b c e reading le (subst (λ (o : Option (List ℕ)). Finds view (λ file. value file x) o b c (Err e)) same finds)
-
--- an item, and those behind it
-pub item_and_others : {A : Type 0} (xs : List A) (i : ℕ) (x : A) → i < length xs → x ≡ get_or xs i x → drop i xs ≡ x ∷ drop (i + 1) xs
-item_and_others {A = A} xs i x lt e = drop_more xs i x lt ∙ ap (λ (y : A). y ∷ drop (i + 1) xs) (sym e)

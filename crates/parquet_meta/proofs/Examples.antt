@@ -13,7 +13,8 @@ use Rattle.parquet_meta.specs.Schema.{repetition, element_field, element}
 use Rattle.parquet_meta.specs.Tree.{neighbours, node_within, leaves}
 use Rattle.parquet_meta.specs.Footer.{chunk_meta_data_field, chunk_meta_data_of, chunk_meta_data, column_chunk_field, column_chunk_of, column_chunk, row_group_field, row_group_of, row_group, schema, footer_field, footer_of, file_meta_data}
 use Rattle.parquet_meta.specs.Front.{value_in}
-use Rattle.parquet_meta.specs.File.{columns_of, groups_of, meta_data_of, meta_data_in, footer_length, footer_at, footer}
+use Rattle.parquet_meta.specs.File.{columns_of, meta_data_of, meta_data_in, footer_length, footer_at, footer}
+use Rattle.parquet_meta.specs.Lists.{all_of}
 use Rattle.parquet_meta.specs.TypedStatistics.{ends_by, typed_statistics}
 use Rattle.parquet_meta.specs.declared.code.TypeCode.TheVariants as codes
 use Rattle.parquet_meta.specs.declared.metadata.ColumnDescriptor.{ColumnDescriptor}
@@ -50,11 +51,11 @@ the_chunk = record {
 }
 
 no_groups-says : footer no_groups ≡ Some (record { num_rows = 0; columns = the_leaf ∷ []; row_groups = [] })
-unfolding varint_within varint signed signed_byte raw bytes_of_length field_header list_header map_header list_truth elements entries fields_within value_within value i32 i64 byte_string name unknown in_turn struct_of each list_of setting made by_rule count small_count type_code statistics_field statistics repetition element_field element chunk_meta_data_field chunk_meta_data_of chunk_meta_data column_chunk_field column_chunk_of column_chunk row_group_field row_group_of row_group schema footer_field footer_of file_meta_data neighbours node_within leaves columns_of groups_of meta_data_of value_in meta_data_in footer_length footer_at footer is_utf8 chars encode
+unfolding varint_within varint signed signed_byte raw bytes_of_length field_header list_header map_header list_truth elements entries fields_within value_within value i32 i64 byte_string name unknown in_turn struct_of each list_of setting made by_rule count small_count type_code statistics_field statistics repetition element_field element chunk_meta_data_field chunk_meta_data_of chunk_meta_data column_chunk_field column_chunk_of column_chunk row_group_field row_group_of row_group schema footer_field footer_of file_meta_data neighbours node_within leaves columns_of all_of meta_data_of value_in meta_data_in footer_length footer_at footer is_utf8 chars encode
 no_groups-says = refl
 
 one_group-says : footer one_group ≡ Some (record { num_rows = 5; columns = the_leaf ∷ []; row_groups = record { columns = the_chunk ∷ []; num_rows = 5 } ∷ [] })
-unfolding varint_within varint signed signed_byte raw bytes_of_length field_header list_header map_header list_truth elements entries fields_within value_within value i32 i64 byte_string name unknown in_turn struct_of each list_of setting made by_rule count small_count type_code statistics_field statistics repetition element_field element chunk_meta_data_field chunk_meta_data_of chunk_meta_data column_chunk_field column_chunk_of column_chunk row_group_field row_group_of row_group schema footer_field footer_of file_meta_data neighbours node_within leaves columns_of groups_of meta_data_of value_in meta_data_in footer_length footer_at footer is_utf8 chars encode
+unfolding varint_within varint signed signed_byte raw bytes_of_length field_header list_header map_header list_truth elements entries fields_within value_within value i32 i64 byte_string name unknown in_turn struct_of each list_of setting made by_rule count small_count type_code statistics_field statistics repetition element_field element chunk_meta_data_field chunk_meta_data_of chunk_meta_data column_chunk_field column_chunk_of column_chunk row_group_field row_group_of row_group schema footer_field footer_of file_meta_data neighbours node_within leaves columns_of all_of meta_data_of value_in meta_data_in footer_length footer_at footer is_utf8 chars encode
 one_group-says = refl
 
 -- ids 4 and 5 place the offset index, 6 and 7 the column index
@@ -70,13 +71,13 @@ chunk-indexes : option_map (λ x. x.0) (by_rule in_struct column_chunk 12 (60 �
       foreign = false;
       encrypted = false;
     })
-unfolding varint_within varint signed signed_byte raw bytes_of_length field_header list_header map_header list_truth elements entries fields_within value_within value i32 i64 byte_string name unknown in_turn struct_of each list_of setting made by_rule count small_count type_code statistics_field statistics repetition element_field element chunk_meta_data_field chunk_meta_data_of chunk_meta_data column_chunk_field column_chunk_of column_chunk row_group_field row_group_of row_group schema footer_field footer_of file_meta_data neighbours node_within leaves columns_of groups_of meta_data_of value_in meta_data_in footer_length footer_at footer is_utf8 chars encode
+unfolding varint_within varint signed signed_byte raw bytes_of_length field_header list_header map_header list_truth elements entries fields_within value_within value i32 i64 byte_string name unknown in_turn struct_of each list_of setting made by_rule count small_count type_code statistics_field statistics repetition element_field element chunk_meta_data_field chunk_meta_data_of chunk_meta_data column_chunk_field column_chunk_of column_chunk row_group_field row_group_of row_group schema footer_field footer_of file_meta_data neighbours node_within leaves columns_of all_of meta_data_of value_in meta_data_in footer_length footer_at footer is_utf8 chars encode
 chunk-indexes = refl
 
 -- nulls -1, distinct values 2, greatest 5, least 6
 statistics-are : option_map (λ x. x.0) (by_rule in_struct statistics 12 (54 ∷ 1 ∷ 22 ∷ 4 ∷ 24 ∷ 1 ∷ 5 ∷ 24 ∷ 1 ∷ 6 ∷ 0 ∷ []))
     ≡ Some (record { null_count = Some (negsuc 0); distinct_count = Some (pos 2); max_value = Some (5 ∷ []); min_value = Some (6 ∷ []) })
-unfolding varint_within varint signed signed_byte raw bytes_of_length field_header list_header map_header list_truth elements entries fields_within value_within value i32 i64 byte_string name unknown in_turn struct_of each list_of setting made by_rule count small_count type_code statistics_field statistics repetition element_field element chunk_meta_data_field chunk_meta_data_of chunk_meta_data column_chunk_field column_chunk_of column_chunk row_group_field row_group_of row_group schema footer_field footer_of file_meta_data neighbours node_within leaves columns_of groups_of meta_data_of value_in meta_data_in footer_length footer_at footer is_utf8 chars encode
+unfolding varint_within varint signed signed_byte raw bytes_of_length field_header list_header map_header list_truth elements entries fields_within value_within value i32 i64 byte_string name unknown in_turn struct_of each list_of setting made by_rule count small_count type_code statistics_field statistics repetition element_field element chunk_meta_data_field chunk_meta_data_of chunk_meta_data column_chunk_field column_chunk_of column_chunk row_group_field row_group_of row_group schema footer_field footer_of file_meta_data neighbours node_within leaves columns_of all_of meta_data_of value_in meta_data_in footer_length footer_at footer is_utf8 chars encode
 statistics-are = refl
 
 typed-are : typed_statistics types.Int32 (record { null_count = Some (pos 0); distinct_count = None; max_value = Some (20 ∷ 0 ∷ 0 ∷ 0 ∷ []); min_value = Some (10 ∷ 0 ∷ 0 ∷ 0 ∷ []) })

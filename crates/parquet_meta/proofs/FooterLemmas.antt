@@ -1,5 +1,5 @@
 -- The footer, from the end of the file.
-use Rattle.std.proofs.Common.{◌≡◌, ℕ, ◌+◌, ◌-◌, ◌^◌, ◌<◌, ◌≤◌, Bool, true, false, cond, List, Option, Some, None, Err, refl, sym, ap, ◌∙◌, arith, length, take, drop, nat_le, le-leb}
+use Rattle.std.proofs.Common.{◌≡◌, ℕ, ◌+◌, ◌-◌, ◌^◌, ◌<◌, ◌≤◌, Bool, true, false, cond, List, Option, Some, None, Err, sym, ap, ◌∙◌, arith, length, take, drop, nat_le, le-leb}
 use Rattle.std.specs.Prelude.{IfSome, ◌&&◌}
 use Rattle.std.specs.Option.{option_map_or}
 use Rattle.std.proofs.lemmas.Bool.{lt-leb}
@@ -49,17 +49,6 @@ at-is file end size o is le there found =
 nowhere : (file : List ℕ) → footer_at file ≡ None → footer file ≡ None
 unfolding footer
 nowhere file h = ap (λ (o : Option Place). o >>= λ place. meta_data_in (bytes_at file place)) h
-
-pub short : (told : Option (List ℕ)) (size : ℕ) → IfSome told (λ file. size ≡ length file) → size < 12 → IfSome told (λ file. footer file ≡ None)
-unfolding footer_at
-short None size is lt = tt
-short (Some file) size is lt =
-    nowhere file (ap (λ (b : Bool). footer_length (drop (length file - 8) file) >>= λ n. given (b && nat_le n (length file - 8)) (before_eight (length file) n)) (lt-leb 12 (length file) (omega (arith, is)))
-    ∙ never (footer_length (drop (length file - 8) file)))
-  where
-    never : (o : Option ℕ) → (o >>= λ n. given false (before_eight (length file) n)) ≡ None
-    never None = refl
-    never (Some n) = refl
 
 pub no_length : (told : Option (List ℕ)) (size : ℕ) (end : List ℕ) → IfSome told (λ file. size ≡ length file) → 12 ≤ size → IfSome told (λ file. part_at file (last_eight size) ≡ Some end) →
     footer_length end ≡ None → IfSome told (λ file. footer file ≡ None)

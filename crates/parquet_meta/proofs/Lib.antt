@@ -1,9 +1,11 @@
 pub mod Steps
 pub mod Rules
 pub mod Filling
+pub mod ListLemmas
 pub mod GroupLemmas
 pub mod TreeLemmas
 pub mod FooterLemmas
+pub mod FileRows
 pub mod EndLemmas
 pub mod StructFronts
 pub mod FrontLemmas

@@ -1,30 +1,23 @@
 -- Typed ends, a page at a time.
-use Rattle.std.proofs.Common.{◌≡◌, ℕ, ◌+◌, ◌<◌, ◌≤◌, ℤ, pos, Bool, true, false, List, [], ◌∷◌, ◌++◌, Option, Some, None, refl, sym, ap, ◌∙◌, arith, length, drop, get_or, append_assoc, option_map, nat_eq, ◌&&◌}
+use Rattle.std.proofs.Common.{◌≡◌, ℕ, ◌+◌, ◌<◌, ◌≤◌, ℤ, pos, Bool, true, false, List, [], ◌∷◌, ◌++◌, Option, Some, None, refl, sym, ap, ◌∙◌, arith, length, drop, get_or, option_map, nat_eq, ◌&&◌}
 use Rattle.std.proofs.lemmas.Bool.{and_parts, eqb-true}
 use Rattle.std.proofs.lemmas.List.{append-nil, drop_all, drop_more}
 use Rattle.std.specs.Prelude.{IfSome}
 use Rattle.std.specs.Option.{option_map_or}
 use Rattle.parquet_meta.specs.ColumnIndex.{has_one_length}
-use Rattle.parquet_base.specs.Reading.{◌>>=◌}
 use Rattle.parquet_meta.specs.PageIndexes.{count_at, page_index, pages, page_indexes}
 use Rattle.parquet_meta.specs.declared.column_index.ColumnIndex.{ColumnIndex}
 use Rattle.parquet_meta.specs.declared.metadata.PageIndex.{PageIndex}
+use Rattle.parquet_meta.proofs.ListLemmas.{before, one_and, before_none, pushed, item_and_others}
 
 -- the pages from one on
 abbrev pub pages_from : {A : Type 0} → (List ℕ → Option A) → ColumnIndex → ℕ → Option (List (PageIndex A))
 pages_from end index page = pages end (drop page index.null_pages) (drop page index.min_values) (drop page index.max_values) (option_map (λ ns. drop page ns) index.null_counts)
 
-abbrev before : {A : Type 0} → List (PageIndex A) → Option (List (PageIndex A)) → Option (List (PageIndex A))
-before {A = A} front o = option_map {T = List (PageIndex A)} {U = List (PageIndex A)} (λ behind. front ++ behind) o
-
 -- the pages so far, and those that are left, are all of them
 pub record IsTyping {A : Type 0} (end : List ℕ → Option A) (index : ColumnIndex) (page : ℕ) (items : List (PageIndex A)) : Type 0 where
   pub even : has_one_length index ≡ true
   pub same : before items (pages_from end index page) ≡ page_indexes end index
-
-before_none : {A : Type 0} (o : Option (List (PageIndex A))) → before [] o ≡ o
-before_none None = refl
-before_none (Some xs) = refl
 
 all_counts : (counts : Option (List ℤ)) → option_map (λ ns. drop 0 ns) counts ≡ counts
 all_counts None = refl
@@ -37,10 +30,6 @@ begins {A = A} end index even = record {
   same = before_none (pages_from end index 0) ∙ ap (λ (ns : Option (List ℤ)). pages end index.null_pages index.min_values index.max_values ns) (all_counts index.null_counts);
 }
 
--- a page before others
-abbrev pub after_first : {A : Type 0} → Option (PageIndex A) → Option (List (PageIndex A)) → Option (List (PageIndex A))
-after_first o others = o >>= λ first. others >>= λ behind. Some (first ∷ behind)
-
 -- what the lists hold from a page on
 pub record StartsWith (index : ColumnIndex) (page : ℕ) (is_null : Bool) (low high : List ℕ) : Type 0 where
   pub null_pages : drop page index.null_pages ≡ is_null ∷ drop (page + 1) index.null_pages
@@ -51,27 +40,23 @@ pub record StartsWith (index : ColumnIndex) (page : ℕ) (is_null : Bool) (low h
 pages-next : {A : Type 0} (end : List ℕ → Option A) (is_null : Bool) (low high : List ℕ) (others : List Bool) (lows highs : List (List ℕ)) (counts : Option (List ℤ)) (page : ℕ) →
     IfSome counts (λ ns. page < length ns) →
     pages end (is_null ∷ others) (low ∷ lows) (high ∷ highs) (option_map (λ ns. drop page ns) counts)
-    ≡ after_first (page_index end is_null low high (count_at counts page)) (pages end others lows highs (option_map (λ ns. drop (page + 1) ns) counts))
+    ≡ one_and (page_index end is_null low high (count_at counts page)) (pages end others lows highs (option_map (λ ns. drop (page + 1) ns) counts))
 unfolding pages
 pages-next end is_null low high others lows highs None page counted = refl
 pages-next end is_null low high others lows highs (Some ns) page counted = rw (drop_more ns page (pos 0) counted) refl
 
 pages_from-next : {A : Type 0} (end : List ℕ → Option A) (index : ColumnIndex) (page : ℕ) (is_null : Bool) (low high : List ℕ) → StartsWith index page is_null low high →
-    pages_from end index page ≡ after_first (page_index end is_null low high (count_at index.null_counts page)) (pages_from end index (page + 1))
+    pages_from end index page ≡ one_and (page_index end is_null low high (count_at index.null_counts page)) (pages_from end index (page + 1))
 pages_from-next end index page is_null low high starts =
     rw (starts.null_pages, starts.min_values, starts.max_values)
     (pages-next end is_null low high (drop (page + 1) index.null_pages) (drop (page + 1) index.min_values) (drop (page + 1) index.max_values) index.null_counts page starts.counted)
-
-pushed : {A : Type 0} (front : List (PageIndex A)) (x : PageIndex A) (o : Option (List (PageIndex A))) → before front (after_first (Some x) o) ≡ before (front ++ x ∷ []) o
-pushed front x None = refl
-pushed {A = A} front x (Some xs) = ap (λ (l : List (PageIndex A)). Some l) (sym (append_assoc front (x ∷ []) xs))
 
 pub goes_on : {A : Type 0} (end : List ℕ → Option A) (index : ColumnIndex) (page : ℕ) (items : List (PageIndex A)) (is_null : Bool) (low high : List ℕ) (x : PageIndex A) →
     IsTyping end index page items → StartsWith index page is_null low high → page_index end is_null low high (count_at index.null_counts page) ≡ Some x → IsTyping end index (page + 1) (items ++ x ∷ [])
 goes_on {A = A} end index page items is_null low high x typing starts one = record {
   even = typing.even;
   same = sym (pushed items x (pages_from end index (page + 1)))
-      ∙ ap (λ (o : Option (PageIndex A)). before items (after_first o (pages_from end index (page + 1)))) (sym one)
+      ∙ ap (λ (o : Option (PageIndex A)). before items (one_and o (pages_from end index (page + 1)))) (sym one)
       ∙ ap (before items) (sym (pages_from-next end index page is_null low high starts)) ∙ typing.same;
 }
 
@@ -79,7 +64,7 @@ pub fails : {A : Type 0} (end : List ℕ → Option A) (index : ColumnIndex) (pa
     IsTyping end index page items → StartsWith index page is_null low high → page_index end is_null low high (count_at index.null_counts page) ≡ None → page_indexes end index ≡ None
 fails {A = A} end index page items is_null low high typing starts none =
     sym typing.same ∙ ap (before items) (pages_from-next end index page is_null low high starts)
-    ∙ ap (λ (o : Option (PageIndex A)). before items (after_first o (pages_from end index (page + 1)))) none
+    ∙ ap (λ (o : Option (PageIndex A)). before items (one_and o (pages_from end index (page + 1)))) none
 
 -- the lists are as long as that of the null pages
 pub record HasLengths (index : ColumnIndex) : Type 0 where
@@ -122,8 +107,8 @@ starts index page low high even lt l h =
     let long = has_lengths index even in
     record {
       null_pages = drop_more index.null_pages page false lt;
-      min_values = drop_more index.min_values page low (omega (arith, lt, long.min_values)) ∙ ap (λ (x : List ℕ). x ∷ drop (page + 1) index.min_values) (sym l);
-      max_values = drop_more index.max_values page high (omega (arith, lt, long.max_values)) ∙ ap (λ (x : List ℕ). x ∷ drop (page + 1) index.max_values) (sym h);
+      min_values = item_and_others index.min_values page low (omega (arith, lt, long.min_values)) l;
+      max_values = item_and_others index.max_values page high (omega (arith, lt, long.max_values)) h;
       counted = counted index.null_counts long.null_counts;
     }
   where

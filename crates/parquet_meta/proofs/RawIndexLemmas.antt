@@ -4,10 +4,11 @@ use Rattle.std.specs.Prelude.{IfSome}
 use Rattle.std.specs.List.{list_all, list_any}
 use Rattle.columns_core.specs.declared.error.Error.{Error}
 use Rattle.columns_core.specs.declared.error.Error.TheVariants as error
-use Rattle.parquet_meta.specs.Indexes.{FindsIndex, FindsIndexes, all_of, begins_with, column_index_length, field_columns, has_index, is_broken, is_read, raw_index}
+use Rattle.parquet_meta.specs.Indexes.{FindsIndex, FindsIndexes, begins_with, column_index_length, field_columns, has_index, is_broken, is_read, raw_index}
+use Rattle.parquet_meta.specs.Lists.{all_of}
 use Rattle.parquet_meta.specs.declared.metadata.ColumnChunkMetaData.{ColumnChunkMetaData}
 use Rattle.parquet_meta.specs.declared.metadata.Index.{Index}
-use Rattle.parquet_meta.proofs.EachLemmas.{IsReadingEach, each_begins, each_goes_on, each_ends, may_fail-later}
+use Rattle.parquet_meta.proofs.EachLemmas.{IsReadingEach, each_goes_on, each_ends, may_fail-later}
 
 -- what is left decides whether all are carried, there and whole
 pub record IsReadingIndexes (told : Option (List ℕ)) (all rest : List ColumnChunkMetaData) (items : List Index) (before_all now : ℕ) : Type 0 where
@@ -15,13 +16,6 @@ pub record IsReadingIndexes (told : Option (List ℕ)) (all rest : List ColumnCh
   pub carried : list_all is_read rest ≡ list_all is_read all
   pub present : list_all has_index rest ≡ list_all has_index all
   pub broken : IfSome told (λ file. list_any (is_broken file) rest ≡ list_any (is_broken file) all)
-
-pub indexes_begin : (told : Option (List ℕ)) (all : List ColumnChunkMetaData) (now : ℕ) → IsReadingIndexes told all all [] now now
-indexes_begin told all now = record { each = each_begins raw_index column_index_length told all now; carried = refl; present = refl; broken = same told }
-  where
-    same : (o : Option (List ℕ)) → IfSome o (λ file. list_any (is_broken file) all ≡ list_any (is_broken file) all)
-    same None = tt
-    same (Some file) = refl
 
 -- one that has a value is not broken
 whole : (file : List ℕ) (x : ColumnChunkMetaData) (y : Index) → is_read x ≡ true → raw_index file x ≡ Some y → is_broken file x ≡ false
@@ -66,6 +60,3 @@ indexes_refused views told here all rest x items before_all now a b c e reading 
 -- a column of the field stands before those behind it, and another is left out
 pub of_the_field : (name : List ℕ) (columns others : List ColumnChunkMetaData) (x : ColumnChunkMetaData) → columns ≡ x ∷ others → begins_with name x ≡ true → field_columns name columns ≡ x ∷ field_columns name others
 of_the_field name columns others x e begins = rw (e, begins) refl
-
-pub of_another : (name : List ℕ) (columns others : List ColumnChunkMetaData) (x : ColumnChunkMetaData) → columns ≡ x ∷ others → begins_with name x ≡ false → field_columns name columns ≡ field_columns name others
-of_another name columns others x e other = rw (e, other) refl

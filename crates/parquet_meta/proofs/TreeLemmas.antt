@@ -1,11 +1,11 @@
 -- The schema's list, read with the open groups at hand.
-use Rattle.std.proofs.Common.{◌≡◌, ℕ, suc, ◌-◌, ◌<◌, ◌≤◌, List, [], ◌∷◌, ◌++◌, Option, Some, None, refl, sym, ap, ◌∙◌, arith, length, take, drop, get_or, append_assoc}
+use Rattle.std.proofs.Common.{◌≡◌, ℕ, zero, suc, ◌+◌, ◌-◌, List, [], ◌∷◌, ◌++◌, Option, Some, None, refl, sym, ap, ◌∙◌, arith, length, append_assoc}
 use Rattle.std.specs.Borrow.{Bor}
-use Rattle.std.specs.Prelude.{option_map, is_some, true, false}
-use Rattle.std.proofs.lemmas.Bool.{true≢false, false≢true}
-use Rattle.std.proofs.lemmas.List.{append-nil, length-append, take_all}
-use Rattle.parquet_base.specs.Reading.{◌>>=◌}
-use Rattle.parquet_meta.specs.OpenGroups.{name_of, path_of}
+use Rattle.std.specs.Prelude.{option_map, Bool, true, false, nat_le}
+use Rattle.std.proofs.lemmas.Bool.{leb-true, leb-false}
+use Rattle.std.proofs.lemmas.List.{append-nil, length-append}
+use Rattle.parquet_base.specs.Reading.{◌>>=◌, given}
+use Rattle.parquet_meta.specs.OpenGroups.{name_of, path_of, next_element}
 use Rattle.parquet_meta.specs.Tree.{Walk, neighbours, children_of, leaf_of, node_of, node_within, all_used, below_root, leaves}
 use Rattle.parquet_meta.specs.declared.tree.OpenGroup.{OpenGroup}
 use Rattle.parquet_meta.specs.declared.code.TypeCode.{TypeCode}
@@ -101,51 +101,18 @@ first_child groups group less n es left less-left name =
 
 -- ---- the walk
 
--- the first of a list, and what is behind it
-pub first-is : {A : Type 0} (xs : List A) (x : A) → 1 ≤ length xs → x ≡ get_or xs 0 x → xs ≡ x ∷ take (length xs - 1) (drop 1 xs)
-first-is [] x le is = absurd (omega arith)
-first-is {A = A} (first ∷ xs) x le is =
-    let n : suc (length xs) - 1 ≡ length xs = omega arith in
-    ap (λ (y : A). y ∷ xs) (sym is) ∙ ap (λ (ys : List A). x ∷ ys) (sym (ap (λ (k : ℕ). take k xs) n ∙ take_all (length xs) xs (omega arith)))
-
-pub none-there : {A : Type 0} (xs : List A) → length xs < 1 → xs ≡ []
-none-there [] lt = refl
-none-there (x ∷ xs) lt = absurd (omega arith)
-
--- the leaves so far, and those of the open groups, are the leaves of the tree
-pub record IsWalking (elements : List SchemaElement) (groups : List OpenGroup) (columns : List ColumnDescriptor) (rest : List SchemaElement) : Type 0 where
-  pub same : all_used (with_front columns (after_groups groups rest)) ≡ leaves elements
-
-pub no_type : (o : Option TypeCode) → is_some o ≡ false → o ≡ None
-no_type None h = refl
-no_type (Some code) h = absurd (true≢false h)
-
-pub root_is_leaf : (elements : List SchemaElement) (root : SchemaElement) (es : List SchemaElement) → elements ≡ root ∷ es → is_some root.physical_type ≡ true → leaves elements ≡ None
+pub below_first : (elements : List SchemaElement) (root : SchemaElement) (es : List SchemaElement) (code : Option TypeCode) → elements ≡ root ∷ es → root.physical_type ≡ code → leaves elements ≡ below_root root code es
 unfolding leaves
-root_is_leaf elements root es is coded = ap leaves is ∙ coded_root root.physical_type coded
-  where
-    coded_root : (o : Option TypeCode) → is_some o ≡ true → below_root root o es ≡ None
-    coded_root None h = absurd (false≢true h)
-    coded_root (Some code) h = refl
+below_first elements root es code is coded = ap leaves is ∙ ap (λ (o : Option TypeCode). below_root root o es) coded
 
-pub begins : (elements : List SchemaElement) (root : SchemaElement) (es : List SchemaElement) (group : OpenGroup) → elements ≡ root ∷ es → root.physical_type ≡ None →
-    group.name ≡ None → group.left ≡ children_of root → IsWalking elements (group ∷ []) [] es
-unfolding leaves
-begins elements root es group is group-like nameless left = record {
-  same = ap all_used (front_none (after_groups (group ∷ []) es) ∙ last_none (neighbours (node_within 31) group.left (name_of group.name) es)
-      ∙ ap (λ (name : Option (Bor (List ℕ))). neighbours (node_within 31) group.left (name_of name) es) nameless
-      ∙ ap (λ (n : ℕ). neighbours (node_within 31) n [] es) left)
-      ∙ sym (ap leaves is ∙ ap (λ (t : Option TypeCode). below_root root t es) group-like);
-}
-  where
-    last_none : (o : Found) → then o (λ rest. Some ([], rest)) ≡ o
-    last_none None = refl
-    last_none (Some found) = ap (λ (xs : List ColumnDescriptor). Some (xs, found.1)) (append-nil found.0)
+-- the leaves so far, and those of the open groups, are the leaves that are spelled
+pub record IsWalking (spelled : Option (List ColumnDescriptor)) (groups : List OpenGroup) (columns : List ColumnDescriptor) (rest : List SchemaElement) : Type 0 where
+  pub same : all_used (with_front columns (after_groups groups rest)) ≡ spelled
 
-pub closes : (elements : List SchemaElement) (groups : List OpenGroup) (group : OpenGroup) (columns : List ColumnDescriptor) (rest : List SchemaElement) →
-    IsWalking elements (groups ++ group ∷ []) columns rest → group.left ≡ 0 → IsWalking elements groups columns rest
+pub closes : (spelled : Option (List ColumnDescriptor)) (groups : List OpenGroup) (group : OpenGroup) (columns : List ColumnDescriptor) (rest : List SchemaElement) →
+    IsWalking spelled (groups ++ group ∷ []) columns rest → group.left ≡ 0 → IsWalking spelled groups columns rest
 unfolding neighbours
-closes elements groups group columns rest h left = record {
+closes spelled groups group columns rest h left = record {
   same = ap (λ (o : Found). all_used (with_front columns o)) (sym (after_last groups group rest
       ∙ ap (λ (n : ℕ). then (neighbours (node_within (31 - length groups)) n (path_of (groups ++ group ∷ [])) rest) (after_groups groups)) left
       ∙ front_none (after_groups groups rest)))
@@ -153,63 +120,74 @@ closes elements groups group columns rest h left = record {
 }
 
 -- nothing is read for the next element
-none_next : (elements : List SchemaElement) (groups : List OpenGroup) (group : OpenGroup) (n : ℕ) (columns : List ColumnDescriptor) (rest : List SchemaElement) →
-    IsWalking elements (groups ++ group ∷ []) columns rest → group.left ≡ suc n →
-    ((path : List (List ℕ)) → node_within (31 - length groups) path rest ≡ None) → leaves elements ≡ None
-none_next elements groups group n columns rest h left none =
+none_next : (spelled : Option (List ColumnDescriptor)) (groups : List OpenGroup) (group : OpenGroup) (n : ℕ) (columns : List ColumnDescriptor) (rest : List SchemaElement) →
+    IsWalking spelled (groups ++ group ∷ []) columns rest → group.left ≡ suc n →
+    ((path : List (List ℕ)) → node_within (31 - length groups) path rest ≡ None) → spelled ≡ None
+none_next spelled groups group n columns rest h left none =
     let less : OpenGroup = record { name = group.name; left = n } in
     sym h.same ∙ ap (λ (o : Found). all_used (with_front columns o)) (first_child groups group less n rest left refl refl
     ∙ ap (λ (o : Found). then o (after_groups (groups ++ less ∷ []))) (none (path_of (groups ++ less ∷ []))))
 
-pub too_deep : (elements : List SchemaElement) (groups : List OpenGroup) (group : OpenGroup) (n : ℕ) (columns : List ColumnDescriptor) (rest : List SchemaElement) →
-    IsWalking elements (groups ++ group ∷ []) columns rest → group.left ≡ suc n → 31 ≤ length groups → leaves elements ≡ None
-unfolding node_within
-too_deep elements groups group n columns rest h left le =
-    none_next elements groups group n columns rest h left (λ path. let e : 31 - length groups ≡ 0 = omega arith in rw e refl)
+-- what an element with a repetition spells below so many open groups
+abbrev below_open : ℕ → List (List ℕ) → SchemaElement × Repetition × List SchemaElement → Found
+below_open n path next = node_of (node_within (30 - n)) (path ++ next.0.name ∷ []) next.0 (Some next.1) next.0.physical_type next.2
 
-pub lacks : (elements : List SchemaElement) (groups : List OpenGroup) (group : OpenGroup) (n : ℕ) (columns : List ColumnDescriptor) (rest : List SchemaElement) →
-    IsWalking elements (groups ++ group ∷ []) columns rest → group.left ≡ suc n → length groups < 31 → rest ≡ [] → leaves elements ≡ None
+-- below so many open groups stands the next element, if any
+node_is : (n : ℕ) (path : List (List ℕ)) (rest : List SchemaElement) → node_within (31 - n) path rest ≡ (next_element (n + 2) rest >>= below_open n path)
 unfolding node_within
-lacks elements groups group n columns rest h left lt is =
-    none_next elements groups group n columns rest h left (λ path. let e : 31 - length groups ≡ suc (30 - length groups) = omega arith in rw (e, is) refl)
+node_is n path [] = nothing (31 - n)
+  where
+    nothing : (d : ℕ) → node_within d path [] ≡ None
+    nothing zero = refl
+    nothing (suc d) = refl
+node_is n path (e ∷ es) = by_depth (nat_le (n + 2) 32) refl
+  where
+    fits : (o : Option Repetition) → node_of (node_within (30 - n)) (path ++ e.name ∷ []) e o e.physical_type es ≡ ((o >>= λ r. given true (e, r, es)) >>= below_open n path)
+    fits None = refl
+    fits (Some r) = refl
 
--- an element in a group that is not too deep
-node_is : (depth : ℕ) (path : List (List ℕ)) (rest : List SchemaElement) (e : SchemaElement) (es : List SchemaElement) → depth < 31 → rest ≡ e ∷ es →
-    node_within (31 - depth) path rest ≡ node_of (node_within (30 - depth)) (path ++ e.name ∷ []) e e.repetition e.physical_type es
-unfolding node_within
-node_is depth path rest e es lt is = let d : 31 - depth ≡ suc (30 - depth) = omega arith in rw (d, is) refl
+    too_deep : (o : Option Repetition) → None ≡ ((o >>= λ r. given false (e, r, es)) >>= below_open n path)
+    too_deep None = refl
+    too_deep (Some r) = refl
 
-pub no_repetition : (elements : List SchemaElement) (groups : List OpenGroup) (group : OpenGroup) (n : ℕ) (columns : List ColumnDescriptor) (rest : List SchemaElement) (e : SchemaElement) (es : List SchemaElement) →
-    IsWalking elements (groups ++ group ∷ []) columns rest → group.left ≡ suc n → length groups < 31 → rest ≡ e ∷ es → e.repetition ≡ None → leaves elements ≡ None
-no_repetition elements groups group n columns rest e es h left lt is none =
-    none_next elements groups group n columns rest h left (λ path. node_is (length groups) path rest e es lt is
-    ∙ ap (λ (r : Option Repetition). node_of (node_within (30 - length groups)) (path ++ e.name ∷ []) e r e.physical_type es) none)
+    by_depth : (b : Bool) → nat_le (n + 2) 32 ≡ b → node_within (31 - n) path (e ∷ es) ≡ (next_element (n + 2) (e ∷ es) >>= below_open n path)
+    by_depth true is =
+        let d : 31 - n ≡ suc (30 - n) = omega (arith, leb-true (n + 2) 32 is) in
+        ap (λ (d : ℕ). node_within d path (e ∷ es)) d ∙ fits e.repetition ∙ ap (λ (b : Bool). (e.repetition >>= λ r. given b (e, r, es)) >>= below_open n path) (sym is)
+    by_depth false is =
+        let d : 31 - n ≡ 0 = omega (arith, leb-false (n + 2) 32 is) in
+        ap (λ (d : ℕ). node_within d path (e ∷ es)) d ∙ too_deep e.repetition ∙ ap (λ (b : Bool). (e.repetition >>= λ r. given b (e, r, es)) >>= below_open n path) (sym is)
+
+pub lacks : (spelled : Option (List ColumnDescriptor)) (groups : List OpenGroup) (group : OpenGroup) (n : ℕ) (columns : List ColumnDescriptor) (rest : List SchemaElement) →
+    IsWalking spelled (groups ++ group ∷ []) columns rest → group.left ≡ suc n → next_element (length groups + 2) rest ≡ None → spelled ≡ None
+lacks spelled groups group n columns rest h left none =
+    none_next spelled groups group n columns rest h left (λ path. node_is (length groups) path rest ∙ ap (λ (o : Option (SchemaElement × Repetition × List SchemaElement)). o >>= below_open (length groups) path) none)
 
 -- a leaf
-leaf_is : (groups : List OpenGroup) (less : OpenGroup) (rest : List SchemaElement) (e : SchemaElement) (es : List SchemaElement) (r : Repetition) (code : TypeCode) → length groups < 31 → rest ≡ e ∷ es →
-    e.repetition ≡ Some r → e.physical_type ≡ Some code →
+leaf_is : (groups : List OpenGroup) (less : OpenGroup) (rest : List SchemaElement) (e : SchemaElement) (es : List SchemaElement) (r : Repetition) (code : TypeCode) →
+    next_element (length groups + 2) rest ≡ Some (e, r, es) → e.physical_type ≡ Some code →
     node_within (31 - length groups) (path_of (groups ++ less ∷ [])) rest ≡ option_map (λ leaf. (leaf ∷ [], es)) (leaf_of (path_of (groups ++ less ∷ []) ++ e.name ∷ []) e r code)
-leaf_is groups less rest e es r code lt is repetition coded =
-    node_is (length groups) (path_of (groups ++ less ∷ [])) rest e es lt is
-    ∙ ap (λ (o : Option Repetition). node_of (node_within (30 - length groups)) (path_of (groups ++ less ∷ []) ++ e.name ∷ []) e o e.physical_type es) repetition
+leaf_is groups less rest e es r code next coded =
+    node_is (length groups) (path_of (groups ++ less ∷ [])) rest
+    ∙ ap (λ (o : Option (SchemaElement × Repetition × List SchemaElement)). o >>= below_open (length groups) (path_of (groups ++ less ∷ []))) next
     ∙ ap (λ (o : Option TypeCode). node_of (node_within (30 - length groups)) (path_of (groups ++ less ∷ []) ++ e.name ∷ []) e (Some r) o es) coded
 
-pub leaf_fails : (elements : List SchemaElement) (groups : List OpenGroup) (group less : OpenGroup) (n : ℕ) (columns : List ColumnDescriptor) (rest : List SchemaElement) (e : SchemaElement) (es : List SchemaElement) (r : Repetition) (code : TypeCode) →
-    IsWalking elements (groups ++ group ∷ []) columns rest → group.left ≡ suc n → less.left ≡ n → less.name ≡ group.name → length groups < 31 → rest ≡ e ∷ es →
-    e.repetition ≡ Some r → e.physical_type ≡ Some code → leaf_of (path_of (groups ++ less ∷ []) ++ e.name ∷ []) e r code ≡ None → leaves elements ≡ None
-leaf_fails elements groups group less n columns rest e es r code h left less-left name lt is repetition coded none =
+pub leaf_fails : (spelled : Option (List ColumnDescriptor)) (groups : List OpenGroup) (group less : OpenGroup) (n : ℕ) (columns : List ColumnDescriptor) (rest : List SchemaElement) (e : SchemaElement) (es : List SchemaElement) (r : Repetition) (code : TypeCode) →
+    IsWalking spelled (groups ++ group ∷ []) columns rest → group.left ≡ suc n → less.left ≡ n → less.name ≡ group.name →
+    next_element (length groups + 2) rest ≡ Some (e, r, es) → e.physical_type ≡ Some code → leaf_of (path_of (groups ++ less ∷ []) ++ e.name ∷ []) e r code ≡ None → spelled ≡ None
+leaf_fails spelled groups group less n columns rest e es r code h left less-left name next coded none =
     sym h.same ∙ ap (λ (o : Found). all_used (with_front columns o)) (first_child groups group less n rest left less-left name
-    ∙ ap (λ (o : Found). then o (after_groups (groups ++ less ∷ []))) (leaf_is groups less rest e es r code lt is repetition coded
+    ∙ ap (λ (o : Found). then o (after_groups (groups ++ less ∷ []))) (leaf_is groups less rest e es r code next coded
     ∙ ap (λ (o : Option ColumnDescriptor). option_map (λ leaf. (leaf ∷ [], es)) o) none))
 
-pub passes : (elements : List SchemaElement) (groups : List OpenGroup) (group less : OpenGroup) (n : ℕ) (columns : List ColumnDescriptor) (rest : List SchemaElement) (e : SchemaElement) (es : List SchemaElement) (r : Repetition) (code : TypeCode) (leaf : ColumnDescriptor) →
-    IsWalking elements (groups ++ group ∷ []) columns rest → group.left ≡ suc n → less.left ≡ n → less.name ≡ group.name → length groups < 31 → rest ≡ e ∷ es →
-    e.repetition ≡ Some r → e.physical_type ≡ Some code → leaf_of (path_of (groups ++ less ∷ []) ++ e.name ∷ []) e r code ≡ Some leaf →
-    IsWalking elements (groups ++ less ∷ []) (columns ++ leaf ∷ []) es
-passes elements groups group less n columns rest e es r code leaf h left less-left name lt is repetition coded one = record {
+pub passes : (spelled : Option (List ColumnDescriptor)) (groups : List OpenGroup) (group less : OpenGroup) (n : ℕ) (columns : List ColumnDescriptor) (rest : List SchemaElement) (e : SchemaElement) (es : List SchemaElement) (r : Repetition) (code : TypeCode) (leaf : ColumnDescriptor) →
+    IsWalking spelled (groups ++ group ∷ []) columns rest → group.left ≡ suc n → less.left ≡ n → less.name ≡ group.name →
+    next_element (length groups + 2) rest ≡ Some (e, r, es) → e.physical_type ≡ Some code → leaf_of (path_of (groups ++ less ∷ []) ++ e.name ∷ []) e r code ≡ Some leaf →
+    IsWalking spelled (groups ++ less ∷ []) (columns ++ leaf ∷ []) es
+passes spelled groups group less n columns rest e es r code leaf h left less-left name next coded one = record {
   same = ap all_used (sym (front_front columns (leaf ∷ []) (after_groups (groups ++ less ∷ []) es)))
       ∙ sym (ap (λ (o : Found). all_used (with_front columns o)) (first_child groups group less n rest left less-left name
-      ∙ ap (λ (o : Found). then o (after_groups (groups ++ less ∷ []))) (leaf_is groups less rest e es r code lt is repetition coded
+      ∙ ap (λ (o : Found). then o (after_groups (groups ++ less ∷ []))) (leaf_is groups less rest e es r code next coded
       ∙ ap (λ (o : Option ColumnDescriptor). option_map (λ leaf. (leaf ∷ [], es)) o) one)))
       ∙ h.same;
 }
@@ -218,11 +196,11 @@ path-last : (groups : List OpenGroup) (name : Bor (List ℕ)) (group : OpenGroup
 path-last [] name group is = ap (λ (o : Option (Bor (List ℕ))). name_of o ++ []) is
 path-last (g ∷ groups) name group is = ap (λ (names : List (List ℕ)). name_of g.name ++ names) (path-last groups name group is) ∙ sym (append_assoc (name_of g.name) (path_of groups) (name.now ∷ []))
 
-pub opens : (elements : List SchemaElement) (groups : List OpenGroup) (group less new : OpenGroup) (n : ℕ) (columns : List ColumnDescriptor) (rest : List SchemaElement) (e : SchemaElement) (es : List SchemaElement) (r : Repetition) (name : Bor (List ℕ)) →
-    IsWalking elements (groups ++ group ∷ []) columns rest → group.left ≡ suc n → less.left ≡ n → less.name ≡ group.name → length groups < 31 → rest ≡ e ∷ es →
-    e.repetition ≡ Some r → e.physical_type ≡ None → new.name ≡ Some name → name.now ≡ e.name → new.left ≡ children_of e →
-    IsWalking elements ((groups ++ less ∷ []) ++ new ∷ []) columns es
-opens elements groups group less new n columns rest e es r name h left less-left same_name lt is repetition group-like named name-is new-left = record {
+pub opens : (spelled : Option (List ColumnDescriptor)) (groups : List OpenGroup) (group less new : OpenGroup) (n : ℕ) (columns : List ColumnDescriptor) (rest : List SchemaElement) (e : SchemaElement) (es : List SchemaElement) (r : Repetition) (name : Bor (List ℕ)) →
+    IsWalking spelled (groups ++ group ∷ []) columns rest → group.left ≡ suc n → less.left ≡ n → less.name ≡ group.name →
+    next_element (length groups + 2) rest ≡ Some (e, r, es) → e.physical_type ≡ None → new.name ≡ Some name → name.now ≡ e.name → new.left ≡ children_of e →
+    IsWalking spelled ((groups ++ less ∷ []) ++ new ∷ []) columns es
+opens spelled groups group less new n columns rest e es r name h left less-left same_name next group-like named name-is new-left = record {
   same = ap (λ (o : Found). all_used (with_front columns o)) (after_last (groups ++ less ∷ []) new es ∙ ap (λ (o : Found). then o (after_groups (groups ++ less ∷ []))) (sym child))
       ∙ sym (ap (λ (o : Found). all_used (with_front columns o)) (first_child groups group less n rest left less-left same_name))
       ∙ h.same;
@@ -236,15 +214,9 @@ opens elements groups group less new n columns rest e es r name h left less-left
 
     child : node_within (31 - length groups) path rest ≡ neighbours (node_within (31 - length (groups ++ less ∷ []))) new.left (path_of ((groups ++ less ∷ []) ++ new ∷ [])) es
     child =
-        node_is (length groups) path rest e es lt is
-        ∙ ap (λ (o : Option Repetition). node_of (node_within (30 - length groups)) (path ++ e.name ∷ []) e o e.physical_type es) repetition
+        node_is (length groups) path rest
+        ∙ ap (λ (o : Option (SchemaElement × Repetition × List SchemaElement)). o >>= below_open (length groups) path) next
         ∙ ap (λ (o : Option TypeCode). node_of (node_within (30 - length groups)) (path ++ e.name ∷ []) e (Some r) o es) group-like
         ∙ sym (ap (λ (d : ℕ). neighbours (node_within d) new.left (path_of ((groups ++ less ∷ []) ++ new ∷ [])) es) deeper
         ∙ ap (λ (k : ℕ). neighbours (node_within (30 - length groups)) k (path_of ((groups ++ less ∷ []) ++ new ∷ [])) es) new-left
         ∙ ap (λ (names : List (List ℕ)). neighbours (node_within (30 - length groups)) (children_of e) names es) (path-last (groups ++ less ∷ []) name new named ∙ ap (λ (x : List ℕ). path ++ x ∷ []) name-is))
-
-pub is_over : (elements : List SchemaElement) (columns : List ColumnDescriptor) (rest : List SchemaElement) → IsWalking elements [] columns rest → rest ≡ [] → leaves elements ≡ Some columns
-is_over elements columns rest h is = sym h.same ∙ ap (λ (es : List SchemaElement). all_used (Some (columns ++ [], es))) is ∙ ap (λ (xs : List ColumnDescriptor). Some xs) (append-nil columns)
-
-pub exceeds : (elements : List SchemaElement) (columns : List ColumnDescriptor) (rest : List SchemaElement) (e : SchemaElement) (es : List SchemaElement) → IsWalking elements [] columns rest → rest ≡ e ∷ es → leaves elements ≡ None
-exceeds elements columns rest e es h is = sym h.same ∙ ap (λ (es : List SchemaElement). all_used (Some (columns ++ [], es))) is

@@ -5,6 +5,7 @@ use Rattle.std.specs.Option.{option_map_or}
 use Rattle.parquet_base.specs.Reading.{◌>>=◌, given}
 use Rattle.parquet_meta.specs.Footer.{file_meta_data}
 use Rattle.parquet_meta.specs.Front.{value_in}
+use Rattle.parquet_meta.specs.Lists.{all_of}
 use Rattle.parquet_meta.specs.Places.{bytes_at}
 use Rattle.parquet_meta.specs.declared.code.TypeCode.{TypeCode}
 use Rattle.parquet_meta.specs.declared.code.TypeCode.TheVariants as codes
@@ -72,12 +73,11 @@ columns_of (leaf ∷ leaves) (chunk ∷ chunks) = do
   others ← columns_of leaves chunks
   Some (first ∷ others)
 
-unfoldable pub groups_of : List ColumnDescriptor → List RowGroup → Option (List RowGroupMetaData)
-groups_of leaves [] = Some []
-groups_of leaves (group ∷ groups) = do
-  columns ← columns_of leaves group.columns
-  others ← groups_of leaves groups
-  Some (record { columns = columns; num_rows = group.num_rows } ∷ others)
+abbrev pub group_with : RowGroup → List ColumnChunkMetaData → RowGroupMetaData
+group_with group columns = record { columns = columns; num_rows = group.num_rows }
+
+abbrev pub group_of : List ColumnDescriptor → RowGroup → Option RowGroupMetaData
+group_of leaves group = option_map (group_with group) (columns_of leaves group.columns)
 
 abbrev pub rows_of : List RowGroup → ℕ
 rows_of groups = sum_by (λ group. group.num_rows) groups
@@ -85,7 +85,7 @@ rows_of groups = sum_by (λ group. group.num_rows) groups
 -- the rows of all groups together are at most 2 ^ 63 - 1
 unfoldable pub meta_data_of : Footer → Option FileMetaData
 meta_data_of footer = do
-  groups ← groups_of footer.columns footer.row_groups
+  groups ← all_of (group_of footer.columns) footer.row_groups
   given (nat_lt (rows_of footer.row_groups) (2 ^ 63)) (record { num_rows = footer.num_rows; columns = footer.columns; row_groups = groups })
 
 -- the metadata in the struct that the bytes begin with

@@ -8,6 +8,7 @@ use Rattle.columns_core.specs.declared.error.Error.TheVariants as error
 use Rattle.parquet_base.specs.Failures.{MayFail}
 use Rattle.parquet_base.specs.Reading.{◌>>=◌}
 use Rattle.parquet_meta.specs.ColumnIndex.{column_index_in}
+use Rattle.parquet_meta.specs.Lists.{all_of}
 use Rattle.parquet_meta.specs.OffsetIndex.{locations_in}
 use Rattle.parquet_meta.specs.PageIndexes.{typed_index}
 use Rattle.parquet_meta.specs.Places.{part_at}
@@ -39,14 +40,6 @@ field_items name (column ∷ columns) [] = []
 field_items name (column ∷ columns) (item ∷ items) = if begins_with name column then item ∷ field_items name columns items else field_items name columns items
 
 -- ---- where pages stand
-
--- the values of a list in turn, where each has one
-unfoldable pub all_of : {A B : Type 0} → (A → Option B) → List A → Option (List B)
-all_of value [] = Some []
-all_of value (x ∷ xs) = do
-  first ← value x
-  others ← all_of value xs
-  Some (first ∷ others)
 
 abbrev pub locations_at : List ℕ → Option Place → Option (List PageLocation)
 locations_at file None = Some []

@@ -1,4 +1,5 @@
 pub mod Fault
+pub mod Lists
 pub mod Meaning
 pub mod Code
 pub mod Places

@@ -75,8 +75,12 @@ all_used None = None
 all_used (Some (leaves, [])) = Some leaves
 all_used (Some (leaves, e ∷ es)) = None
 
+-- what so many children of the root spell
+abbrev pub leaves_below : ℕ → List SchemaElement → Option (List ColumnDescriptor)
+leaves_below n es = all_used (neighbours (node_within 31) n [] es)
+
 abbrev pub below_root : SchemaElement → Option TypeCode → List SchemaElement → Option (List ColumnDescriptor)
-below_root root None es = all_used (neighbours (node_within 31) (children_of root) [] es)
+below_root root None es = leaves_below (children_of root) es
 below_root root (Some code) es = None
 
 -- The first element is the root, a group. The tree is at most 32 deep, with the root at depth 1.

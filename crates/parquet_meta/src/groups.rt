@@ -2,7 +2,8 @@
 
 ghost use Rattle.std.specs.Prelude.{◌≡◌, ◌^◌, nat_lt, Some, true};
 ghost use Rattle.parquet_meta.specs.Fault.{MakesOr};
-ghost use Rattle.parquet_meta.specs.File.{column_of, columns_of, groups_of, has_code, meta_data_of, numbers_of, rows_of};
+ghost use Rattle.parquet_meta.specs.File.{column_of, columns_of, group_of, has_code, meta_data_of, numbers_of, rows_of};
+ghost use Rattle.parquet_meta.specs.Lists.{all_of};
 
 use crate::code::TypeCode;
 use crate::fault::Fault;
@@ -127,21 +128,30 @@ fn columns_of(
     Ok(Seq::new(columns))
 }
 
+fn group_of(
+    alloc: Global,
+    leaves: &[ColumnDescriptor],
+    group: RowGroup,
+) -> Result<RowGroupMetaData, Fault>
+    ensures { MakesOr true result (group_of leaves.now group) }
+{
+    let RowGroup { columns, num_rows } = group;
+    Ok(RowGroupMetaData {
+        columns: columns_of(alloc, leaves, columns.into_vec())?,
+        num_rows: num_rows as usize,
+    })
+}
+
 fn groups_of(
     alloc: Global,
     leaves: &[ColumnDescriptor],
     groups: Vec<RowGroup>,
 ) -> Result<Seq<RowGroupMetaData>, Fault>
-    ensures { MakesOr true result (groups_of leaves.now groups.items) }
+    ensures { MakesOr true result (all_of (group_of leaves.now) groups.items) }
 {
     let mut found = Vec::new(alloc);
     'groups: for group in groups {
-        let RowGroup { columns, num_rows } = group;
-        let columns = columns_of(alloc, leaves, columns.into_vec())?;
-        found.push(RowGroupMetaData {
-            columns,
-            num_rows: num_rows as usize,
-        })?;
+        found.push(group_of(alloc, leaves, group)?)?;
     }
     Ok(Seq::new(found))
 }

@@ -2,7 +2,8 @@
 
 ghost use Rattle.std.specs.Prelude.{◌≡◌, ◌+◌, ◌≤◌, map, sum_by, true};
 ghost use Rattle.parquet_meta.specs.Fault.{MakesOr};
-ghost use Rattle.parquet_meta.specs.Indexes.{FindsIndex, FindsIndexes, all_of, column_index_length, field_columns, index_in, is_read, length_of, locations_at, locations_of, offset_index_length};
+ghost use Rattle.parquet_meta.specs.Indexes.{FindsIndex, FindsIndexes, column_index_length, field_columns, index_in, is_read, length_of, locations_at, locations_of, offset_index_length};
+ghost use Rattle.parquet_meta.specs.Lists.{all_of};
 ghost use Rattle.parquet_meta.specs.OffsetIndex.{locations_in};
 ghost use Rattle.parquet_meta.specs.Places.{part_at};
 ghost use Rattle.parquet_meta.specs.Source.{Finds};

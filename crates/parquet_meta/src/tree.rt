@@ -1,18 +1,20 @@
 //! Reads the schema's list as a tree, and gives its leaves.
 
 ghost use Rattle.std.specs.Prelude.{◌≡◌, ◌++◌, ◌∷◌, [], Some, true};
+ghost use Rattle.parquet_base.specs.Reading.{Gives};
 ghost use Rattle.parquet_meta.specs.Fault.{MakesOr};
-ghost use Rattle.parquet_meta.specs.OpenGroups.{path_of};
-ghost use Rattle.parquet_meta.specs.Tree.{children_of, is_flat, leaf_of, leaves, physical_type_of};
+ghost use Rattle.parquet_meta.specs.OpenGroups.{next_element, path_of};
+ghost use Rattle.parquet_meta.specs.Tree.{children_of, is_flat, leaf_of, leaves, leaves_below, physical_type_of};
 
 use crate::code::TypeCode;
 use crate::fault::Fault;
 use crate::metadata::{ColumnDescriptor, PhysicalType, PrimitiveType, Repetition};
 use crate::schema::SchemaElement;
 use columns_core::{Name, Seq};
+use parquet_base::Unspelled;
 use std::alloc::Global;
 
-/// How deep a tree may be, the root having depth 1.
+/// How deep an element may stand, the root having depth 1.
 const DEEPEST: usize = 32;
 
 /// A group whose children are being read.
@@ -105,52 +107,50 @@ fn leaf_of(
     })
 }
 
-/// The leaves of a tree that uses all elements, in their order.
-pub(crate) fn read_leaves(
+/// The next element so deep, which has a repetition, and those behind it.
+fn next_element(
+    depth: usize,
+    elements: &[SchemaElement],
+) -> Result<(&SchemaElement, Repetition, &[SchemaElement]), Unspelled>
+    ensures { Gives (λ next. (next.0.now, next.1, next.2.now)) result (next_element depth elements.now) }
+{
+    match elements {
+        [element, behind @ ..] if depth <= DEEPEST => {
+            let repetition = element.repetition.ok_or(Unspelled)?;
+            Ok((element, repetition, behind))
+        }
+        _ => Err(Unspelled),
+    }
+}
+
+/// The leaves below a root with so many children, which use all elements.
+fn leaves_below(
     alloc: Global,
+    children: u32,
     elements: &[SchemaElement],
 ) -> Result<Seq<ColumnDescriptor>, Fault>
-    ensures { MakesOr true result (leaves elements.now) }
+    ensures { MakesOr true result (leaves_below children elements.now) }
 {
-    let [root, below @ ..] = elements else {
-        return Err(Fault::Unspelled);
-    };
-    if root.physical_type.is_some() {
-        return Err(Fault::Unspelled);
-    }
     let mut columns = Vec::new(alloc);
     let mut groups = Vec::new(alloc);
     groups.push(OpenGroup {
         name: None,
-        left: children_of(root),
+        left: children,
     })?;
-    let mut rest = below;
-    'walk: while let Some(group) = groups.pop() {
+    let mut rest = elements;
+    'walk: while let Some(mut group) = groups.pop() {
         if group.left == 0 {
             continue;
         }
-        if DEEPEST <= groups.len() + 1 {
-            return Err(Fault::Unspelled);
-        }
-        let [element, behind @ ..] = rest else {
-            return Err(Fault::Unspelled);
-        };
-        let Some(repetition) = element.repetition else {
-            return Err(Fault::Unspelled);
-        };
+        let (element, repetition, behind) = next_element(groups.len() + 2, rest)?;
         rest = behind;
-        groups.push(OpenGroup {
-            name: group.name,
-            left: group.left - 1,
-        })?;
+        group.left -= 1;
+        groups.push(group)?;
         match element.physical_type {
-            Some(code) => columns.push(leaf_of(
-                alloc,
-                groups.as_slice(),
-                element,
-                repetition,
-                code,
-            )?)?,
+            Some(code) => {
+                let leaf = leaf_of(alloc, groups.as_slice(), element, repetition, code)?;
+                columns.push(leaf)?;
+            }
             None => groups.push(OpenGroup {
                 name: Some(&element.name),
                 left: children_of(element),
@@ -161,4 +161,20 @@ pub(crate) fn read_leaves(
         return Err(Fault::Unspelled);
     }
     Ok(Seq::new(columns))
+}
+
+/// The leaves of a tree that uses all elements, in their order.
+pub(crate) fn read_leaves(
+    alloc: Global,
+    elements: &[SchemaElement],
+) -> Result<Seq<ColumnDescriptor>, Fault>
+    ensures { MakesOr true result (leaves elements.now) }
+{
+    let [root, below @ ..] = elements else {
+        return Err(Fault::Unspelled);
+    };
+    match root.physical_type {
+        Some(_) => Err(Fault::Unspelled),
+        None => leaves_below(alloc, children_of(root), below),
+    }
 }

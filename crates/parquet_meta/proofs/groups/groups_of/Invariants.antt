@@ -1,5 +1,6 @@
-use Rattle.parquet_meta.proofs.GroupLemmas.{IsGrouping}
+use Rattle.parquet_meta.specs.File.{group_of}
+use Rattle.parquet_meta.proofs.ListLemmas.{IsMaking}
 use Rattle.parquet_meta.proofs.groups.groups_of.Given as goal
 
 abbrev pub invariant-groups : goal.invariant-groups
-invariant-groups l = IsGrouping l.fn.leaves l.fn.groups.items l.found.items l.group-iterator.rest.items
+invariant-groups l = IsMaking (group_of l.fn.leaves) l.fn.groups.items l.group-iterator.rest.items l.found.items

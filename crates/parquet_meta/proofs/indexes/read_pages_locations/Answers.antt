@@ -3,7 +3,8 @@ use Rattle.std.proofs.lemmas.List.{drop_all, map_push}
 use Rattle.std.proofs.lemmas.Result.{err_from_is_err_and}
 use Rattle.parquet_meta.specs.Indexes.{locations_of, offset_index_length}
 use Rattle.parquet_meta.specs.declared.metadata.PageLocation.{PageLocation}
-use Rattle.parquet_meta.proofs.EachLemmas.{each_goes_on, each_ends, each_refused, item_and_others}
+use Rattle.parquet_meta.proofs.EachLemmas.{each_goes_on, each_ends, each_refused}
+use Rattle.parquet_meta.proofs.ListLemmas.{item_and_others}
 use Rattle.parquet_meta.proofs.indexes.read_pages_locations.Goals as goal
 
 pub returns-in_err-read_locations-clause-found : goal.returns-in_err-read_locations-clause-found

@@ -3,7 +3,7 @@ use Rattle.std.proofs.lemmas.List.{drop_all}
 use Rattle.std.proofs.lemmas.Result.{err_from_is_err_and}
 use Rattle.parquet_meta.specs.Indexes.{field_columns}
 use Rattle.parquet_meta.specs.declared.metadata.Index.{Index}
-use Rattle.parquet_meta.proofs.EachLemmas.{item_and_others}
+use Rattle.parquet_meta.proofs.ListLemmas.{item_and_others}
 use Rattle.parquet_meta.proofs.RawIndexLemmas.{indexes_go_on, indexes_end, indexes_refused, of_the_field}
 use Rattle.parquet_meta.proofs.indexes.read_raw_indexes.Goals as goal
 
