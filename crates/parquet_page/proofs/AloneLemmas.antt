@@ -1,10 +1,10 @@
 -- Pages are read from their own bytes.
-use Rattle.std.proofs.Common.{◌≡◌, ℕ, zero, suc, ◌+◌, ◌-◌, ◌≤◌, leb, Bool, true, false, List, [], ◌∷◌, ◌++◌, length, take, drop, Option, Some, None, refl, sym, ap, subst, ◌∙◌, arith, append_assoc, length-append}
+use Rattle.std.proofs.Common.{◌≡◌, ℕ, zero, suc, ◌+◌, ◌-◌, ◌≤◌, eqb, leb, Bool, true, false, List, [], ◌∷◌, ◌++◌, length, take, drop, Option, Some, None, refl, sym, ap, subst, ◌∙◌, arith, append_assoc, length-append}
 use Rattle.std.specs.Prelude.{IfSome, All}
 use Rattle.std.specs.List.{AllByRecursion}
 use Rattle.std.specs.Option.{option_map_or}
-use Rattle.std.proofs.Math.Seq.{take-append_seam, drop-append_seam}
-use Rattle.std.proofs.lemmas.Bool.{le-leb, leb-true, eq-eqb}
+use Rattle.std.proofs.Math.Seq.{take-append-add, take-append_seam, drop-append_seam}
+use Rattle.std.proofs.lemmas.Bool.{le-leb, leb-true, eq-eqb, ne_eqb}
 use Rattle.std.proofs.lemmas.List.{length-drop, length-take-le, take-append-drop, drop-drop, append-nil}
 use Rattle.parquet_base.specs.Reading.{◌>>=◌, given}
 use Rattle.parquet_thrift.specs.Front.{IsAtFront, ReadsFront}
@@ -14,11 +14,12 @@ use Rattle.parquet_meta.specs.declared.page_header.DataPageHeader.{DataPageHeade
 use Rattle.parquet_meta.specs.declared.page_header.PageHeader.{PageHeader}
 use Rattle.parquet_meta.specs.declared.page_header.PageKind.{PageKind}
 use Rattle.parquet_meta.specs.declared.page_header.PageKind.TheVariants as kind
-use Rattle.parquet_page.specs.Alone.{IsReadAlone}
-use Rattle.parquet_page.specs.Chunk.{AnyPage, ChunkPage, DictionaryPage, Walk, chunk_pages, data_header, data_page_at, dictionary_at, dictionary_page, dictionary_size, page_at, pages_from, placed_pages, walk_on}
+use Rattle.parquet_page.specs.Alone.{IsDictionaryReadAlone, IsReadAlone}
+use Rattle.parquet_page.specs.Chunk.{AnyPage, ChunkPage, Defined, DictionaryPage, NoDictionary, Walk, chunk_dictionary, chunk_pages, data_header, data_page_at, dictionary_at, dictionary_page, dictionary_size, if_defined, page_at, pages_from, placed_pages, walk_on}
 use Rattle.parquet_page.specs.Content.{header_values}
-use Rattle.parquet_page.specs.Located.{located_page, page_in}
-use Rattle.parquet_page.proofs.HeaderLemmas.{bind_some, dictionary_measured, given_some}
+use Rattle.parquet_page.specs.Located.{dictionary_in, located_page, page_in}
+use Rattle.parquet_encoding.proofs.StepLemmas.{bind_some, given_some}
+use Rattle.parquet_page.proofs.HeaderLemmas.{dictionary_measured}
 
 -- a header and its body, with the bytes before a rest
 body_front : (bytes : List ℕ) (header : PageHeader) (behind : List ℕ) → IsAtFront page_header 1 bytes (header, behind) → header.size ≤ length behind
@@ -122,6 +123,28 @@ dictionary_front bytes = go (page_at bytes) (page_front bytes) where
       → IfSome (o >>= λ page. dictionary_page (length bytes - length page.1) page.0.kind page.0.body >>= λ dictionary. Some (dictionary, page.1)) (IsAtFront dictionary_at 1 bytes)
   go None at = tt
   go (Some page) at = of_kind page.1 page.0.kind page.0.body at
+
+-- the part before a place has the whole dictionary page, and what stands behind the page does not matter
+dictionary_begins : (bytes front rest : List ℕ) (page : DictionaryPage) (first : ℕ) → bytes ≡ front ++ rest → 1 ≤ length front → ((more : List ℕ) → dictionary_at (front ++ more) ≡ Some (page, more)) → length front ≤ first → dictionary_in (take first bytes) ≡ Defined page
+dictionary_begins bytes front rest page first whole some same enough =
+    let behind = first - length front in
+    let at : first ≡ length front + behind = omega (arith, enough) in
+    let part : take first bytes ≡ front ++ take behind rest = ap (take first) whole ∙ ap (λ n. take n (front ++ rest)) at ∙ take-append-add front rest behind in
+    let full : eqb (length (front ++ take behind rest)) 0 ≡ false = ne_eqb _ _ (λ e. omega (arith, e, length-append front (take behind rest), some)) in
+    rw (part, full, same (take behind rest)) refl
+
+pub dictionary_alone : (chunk : List ℕ) (page : DictionaryPage) → chunk_dictionary chunk ≡ Defined page → IsDictionaryReadAlone chunk page
+dictionary_alone chunk page = go (dictionary_at chunk) (dictionary_front chunk) refl where
+  is_defined : (x y : DictionaryPage) → Defined x ≡ Defined y → x ≡ y
+  is_defined x y e = cc
+
+  go : (o : Option (DictionaryPage × List ℕ)) → IfSome o (IsAtFront dictionary_at 1 chunk) → dictionary_at chunk ≡ o → if_defined o NoDictionary ≡ Defined page → IsDictionaryReadAlone chunk page
+  go None at e is = absurd cc
+  go (Some read) at e is = λ first size within.
+      let own = is_defined read.0 page is in
+      let long = (dictionary_measured chunk read e).size ∙ before_rest at.front read.1 chunk at.whole in
+      let enough : length at.front ≤ first = omega (arith, long, ap (λ (p : DictionaryPage). p.size) own, size) in
+      rw (le-leb _ _ within) (dictionary_begins chunk at.front read.1 page first at.whole at.some (λ more. at.same more ∙ ap (λ p. Some (p, more)) own) enough)
 
 -- ---- the pages of a chunk
 

@@ -15,7 +15,7 @@ use Rattle.parquet_page.specs.Parts.{are_shaped, lent_left, parts_from, part_at,
 use Rattle.parquet_page.specs.declared.page.FilteredPage.{FilteredPage}
 use Rattle.parquet_page.specs.declared.parts.Parts.{Parts}
 use Rattle.parquet_base.proofs.ShapeLemmas.{shape-count}
-use Rattle.parquet_page.proofs.HeaderLemmas.{given_some}
+use Rattle.parquet_encoding.proofs.StepLemmas.{given_some}
 use Rattle.parquet_page.proofs.PartLemmas.{before_within}
 
 -- the wanted pages lie in a chunk of so many bytes, and so does the place where the first page begins

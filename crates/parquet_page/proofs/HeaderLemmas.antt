@@ -1,10 +1,11 @@
 -- Pages at the front of bytes.
-use Rattle.std.proofs.Common.{◌≡◌, ℕ, ◌+◌, ◌-◌, ◌<◌, ◌≤◌, leb, Bool, true, false, List, length, take, drop, Option, Some, None, refl, ap, subst, ◌∙◌, arith}
+use Rattle.std.proofs.Common.{◌≡◌, ℕ, ◌+◌, ◌-◌, ◌<◌, ◌≤◌, leb, true, List, length, take, drop, Option, Some, None, refl, ap, subst, ◌∙◌, arith}
 use Rattle.std.proofs.lemmas.Bool.{le-leb, lt-leb, leb-true}
 use Rattle.std.proofs.Math.Seq.{take-length}
 use Rattle.std.proofs.lemmas.List.{length-drop, drop-drop}
 use Rattle.parquet_base.specs.Reading.{◌>>=◌, given, IsEnd, Takes}
 use Rattle.parquet_base.proofs.EndLemmas.{IsEnd_drop, IsEnd_through}
+use Rattle.parquet_encoding.proofs.StepLemmas.{bind_some, given_some, some_is}
 use Rattle.parquet_thrift.proofs.Fronts.{front-ends, front-takes}
 use Rattle.parquet_meta.proofs.PageHeaderLemmas.{page_header-front}
 use Rattle.parquet_meta.specs.PageHeader.{page_header}
@@ -13,16 +14,6 @@ use Rattle.parquet_meta.specs.declared.page_header.PageKind.TheVariants as kind
 use Rattle.parquet_page.specs.Chunk.{AnyPage, ChunkPage, DictionaryPage, page_at, data_header, dictionary_page, data_page_at, dictionary_at}
 use Rattle.parquet_page.specs.Content.{header_values}
 use Rattle.parquet_page.specs.Found.{FoundAt}
-
--- ---- options
-
-pub bind_some : {A B : Type 0} (r : Option A) (f : A → Option B) (y : B) → (r >>= f) ≡ Some y → (x : A) × (r ≡ Some x) × (f x ≡ Some y)
-bind_some (Some x) f y e = (x, refl, e)
-bind_some None f y e = absurd cc
-
-pub given_some : {A : Type 0} (b : Bool) (x y : A) → given b x ≡ Some y → (b ≡ true) × (x ≡ y)
-given_some true x y e = (refl, cc)
-given_some false x y e = absurd cc
 
 -- ---- a shorter end of the bytes
 
@@ -58,9 +49,7 @@ pub record IsMeasured (bytes : List ℕ) (read : DictionaryPage × List ℕ) : T
   pub size : read.0.size ≡ length bytes - length read.1
 
 sized : (size : ℕ) (kind : _) (body : List ℕ) (page : DictionaryPage) → dictionary_page size kind body ≡ Some page → page.size ≡ size
-sized size (kind.Dictionary values encoding) body page e = rw (← some_is _ page e) refl where
-  some_is : {A : Type 0} (x y : A) → Some x ≡ Some y → x ≡ y
-  some_is x y e = cc
+sized size (kind.Dictionary values encoding) body page e = rw (← some_is _ page e) refl
 sized size (kind.Data header) body page e = absurd cc
 
 pub dictionary_measured : (bytes : List ℕ) (read : DictionaryPage × List ℕ) → dictionary_at bytes ≡ Some read → IsMeasured bytes read

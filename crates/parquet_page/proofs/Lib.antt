@@ -11,5 +11,10 @@ pub mod FirstLemmas
 pub mod EntryLemmas
 pub mod BodyLemmas
 pub mod AloneLemmas
+pub mod SpelledLemmas
 pub mod SliceLemmas
+pub mod PlanLemmas
+pub mod LevelLemmas
+pub mod ValidityLemmas
+pub mod ChunkExamples
 pub mod Examples

@@ -24,7 +24,7 @@ use Rattle.parquet_page.specs.declared.found.FoundPage.{FoundPage}
 use Rattle.parquet_page.specs.declared.page.FilteredPage.{FilteredPage}
 use Rattle.parquet_page.specs.declared.parts.Parts.{Parts}
 use Rattle.parquet_page.proofs.CursorLemmas.{is_damaged, not_carried}
-use Rattle.parquet_page.proofs.HeaderLemmas.{bind_some, given_some}
+use Rattle.parquet_encoding.proofs.StepLemmas.{bind_some, given_some}
 use Rattle.parquet_page.proofs.ListLemmas.{drop_all}
 
 -- ---- sums and shapes of entries

@@ -3,7 +3,7 @@ use Rattle.std.proofs.Common.{◌≡◌, Bool, true, false, Option, None, inl, i
 use Rattle.std.specs.Prelude.{Result, Ok, Err, IfErr, IfOk}
 use Rattle.std.specs.Result.{IsErrAnd}
 use Rattle.columns_core.specs.declared.error.Error.{Error}
-use Rattle.parquet_page.specs.Refusals.{IsDamaged, Refuses}
+use Rattle.columns_core.specs.Refusals.{IsDamaged, Refuses}
 
 -- what is said of a refusal is said of the same refusal passed on
 pub passed_on : {T : Type 0} (result : Result T Error) (error : Error) (Q : Error → Type 0) → IsErrAnd result (λ e. e ≡ error) → Q error → IfErr result Q

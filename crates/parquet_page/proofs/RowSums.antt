@@ -12,7 +12,7 @@ use Rattle.parquet_page.specs.Cursor.{lent_behind, lent_from}
 use Rattle.parquet_page.specs.Lent.{data_of, dictionary_of, in_front, lent_data}
 use Rattle.parquet_page.proofs.CursorLemmas.{not_carried}
 use Rattle.parquet_page.specs.Spelling.{has_plain_entries}
-use Rattle.parquet_page.proofs.HeaderLemmas.{bind_some, given_some}
+use Rattle.parquet_encoding.proofs.StepLemmas.{bind_some, given_some}
 
 abbrev pub page_values : ChunkPage → ℕ
 page_values page = header_values page.header
@@ -25,7 +25,7 @@ data_page_fits left bytes read e =
     let same = given_some _ _ read header.2 in
     rw (← same.1) (leb-true _ _ same.0)
 
-walk_sum : (limit left : ℕ) (bytes : List ℕ) → (pages_from limit left bytes).is_whole ≡ true → sum_by page_values (pages_from limit left bytes).pages ≡ left
+pub walk_sum : (limit left : ℕ) (bytes : List ℕ) → (pages_from limit left bytes).is_whole ≡ true → sum_by page_values (pages_from limit left bytes).pages ≡ left
 unfolding pages_from
 walk_sum zero zero bytes whole = refl
 walk_sum (suc limit) zero bytes whole = refl
@@ -45,7 +45,7 @@ same_sum type [] = refl
 same_sum type (page ∷ pages) =
     sum_by-cons content_rows (data_of type None page) (map (data_of type None) pages) ∙ ap (λ n. page_values page + n) (same_sum type pages) ∙ sym (sum_by-cons page_values page pages)
 
-is_whole : (b : Bool) → unless b ExternalFormat ≡ [] → b ≡ true
+pub is_whole : (b : Bool) → unless b ExternalFormat ≡ [] → b ≡ true
 is_whole true e = refl
 is_whole false e = absurd cc
 

@@ -11,7 +11,8 @@ use Rattle.std.specs.List.{flat_map}
 use Rattle.parquet_base.specs.declared.interval.Interval.{Interval}
 use Rattle.parquet_meta.specs.declared.metadata.PageLocation.{PageLocation}
 use Rattle.parquet_page.specs.Locations.{filtered_page, filtered_pages, page_intervals, next_row, begin_in_time, rows_between, selected_pages}
-use Rattle.parquet_page.proofs.HeaderLemmas.{bind_some, from_place, given_some}
+use Rattle.parquet_encoding.proofs.StepLemmas.{bind_some, given_some}
+use Rattle.parquet_page.proofs.HeaderLemmas.{from_place}
 use Rattle.parquet_page.proofs.ListLemmas.{drop_all, one_and}
 
 -- the rows of the first of these pages

@@ -7,7 +7,7 @@ use Rattle.std.proofs.lemmas.List.FromFn.{length-range_with_len}
 use Rattle.parquet_base.specs.Intervals.{end, is_well_shaped_from, rows_of}
 use Rattle.parquet_base.specs.declared.interval.Interval.{Interval}
 use Rattle.parquet_base.proofs.ShapeLemmas.{shape-cons, shape-here, shape-le}
-use Rattle.parquet_page.specs.SliceLeft.{rows_from, IsWalkOver, StandsBefore}
+use Rattle.parquet_page.specs.SliceLeft.{first_count, rows_from, IsWalkOver, StandsBefore}
 use Rattle.parquet_page.specs.declared.slice_filtered.SliceFiltered.{SliceFiltered}
 
 range-split : (from n m : ℕ) → range_with_len from (n + m) ≡ range_with_len from n ++ range_with_len (from + n) m
@@ -57,7 +57,7 @@ pub record Turn (limit place left : ℕ) (old : List Interval) (first taken : �
   pub rows : rows_from place old ≡ range_with_len (place + (first - place)) taken ++ rows_from (first + taken) new
   pub there : first + taken ≡ place + (first - place) + taken
   pub some : 0 < taken
-  pub within : taken ≤ limit
+  pub many : taken ≡ min limit (first_count place old)
   pub stands : StandsBefore (first + taken) new
   pub counted : left - taken ≡ length (rows_from (first + taken) new)
 
@@ -80,7 +80,7 @@ turn-to_end limit place left first taken run runs l stands c f t e =
       rows = given;
       there = omega (arith, from);
       some = omega (arith, stands.0, own.some, f, e);
-      within = omega (arith, t);
+      many = t ∙ ap (λ at. min limit (end run - at)) f;
       stands = subst S (sym e) (stands-next (end run) runs own.rest);
       counted = count-rest left taken (place + (first - place)) (rows_from place (run ∷ runs)) (rows_from (first + taken) runs) c given;
     }
@@ -104,7 +104,7 @@ turn-within limit place left first taken run runs l stands c f t other =
       rows = given;
       there = omega (arith, from);
       some = omega (arith, stands.0, own.some, f, t, l);
-      within = omega (arith, t);
+      many = t ∙ ap (λ at. min limit (end run - at)) f;
       stands = (before, stands.1);
       counted = count-rest left taken (place + (first - place)) (rows_from place (run ∷ runs)) (rows_from (first + taken) (run ∷ runs)) c given;
     }

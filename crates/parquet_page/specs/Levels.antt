@@ -44,6 +44,12 @@ presence Optional levels count = do
   given (list_all (λ level. nat_le level 1) numbers) (map (λ level. level == 1) numbers)
 presence Repeated levels count = None
 
+-- the level of a place that has a value
+abbrev pub top_level : Repetition → Option ℕ
+top_level Required = Some 0
+top_level Optional = Some 1
+top_level Repeated = None
+
 -- how many places have a value
 abbrev pub present_count : List Bool → ℕ
 present_count = count_by (λ present. present)

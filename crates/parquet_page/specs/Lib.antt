@@ -6,7 +6,6 @@ pub mod Stored
 pub mod Values
 pub mod Spelling
 pub mod Opened
-pub mod Refusals
 pub mod Locations
 pub mod Selected
 pub mod Lent
@@ -20,3 +19,8 @@ pub mod Parts
 pub mod LocatedLeft
 pub mod Indexed
 pub mod SliceLeft
+pub mod Plan
+pub mod Runs
+pub mod LevelsLeft
+pub mod ValidityLeft
+pub mod Stretches

@@ -1,5 +1,5 @@
 -- The selected rows that a walk over intervals has still to give.
-use Rattle.std.specs.Prelude.{◌≡◌, ℕ, ◌+◌, ◌-◌, ◌<◌, ◌≤◌, ◌^◌, max, true, List, [], ◌∷◌, ◌++◌, drop, length, Option, Some, None}
+use Rattle.std.specs.Prelude.{◌≡◌, ℕ, ◌+◌, ◌-◌, ◌<◌, ◌^◌, max, min, true, List, [], ◌∷◌, ◌++◌, drop, length, Option, Some, None}
 use Rattle.std.specs.List.{range_with_len}
 use Rattle.parquet_base.specs.Intervals.{end, is_well_shaped_from, rows_of}
 use Rattle.parquet_base.specs.declared.interval.Interval.{Interval}
@@ -24,9 +24,18 @@ pub record IsWalkOver (walk : SliceFiltered) (rows : List Interval) : Type 0 whe
   pub stands : StandsBefore walk.place (drop walk.interval rows)
   pub counted : walk.left ≡ length (rows_left walk rows)
 
--- The next values are passed over, and the rows behind them, at most so many, are the first of those that were left. Without an
--- answer none was left.
-abbrev pub GivesRows : ℕ → List Interval → SliceFiltered → SliceFiltered → Option (ℕ × ℕ) → Type 0
-GivesRows limit rows old new None = (rows_left old rows ≡ []) × (new ≡ old)
-GivesRows limit rows old new (Some run) =
-    (rows_left old rows ≡ range_with_len (old.place + run.0) run.1 ++ rows_left new rows) × (new.place ≡ old.place + run.0 + run.1) × (0 < run.1) × (run.1 ≤ limit)
+-- how many rows of the first interval lie at or behind a row
+abbrev pub first_count : ℕ → List Interval → ℕ
+first_count row [] = 0
+first_count row (run ∷ runs) = end run - max row run.start
+
+-- how many rows a walk has still to give of the interval at which it stands
+abbrev pub first_left : SliceFiltered → List Interval → ℕ
+first_left walk rows = first_count walk.place (drop walk.interval rows)
+
+-- The next values are passed over, and the rows behind them are the first of those that were left: all of one interval, or as
+-- many of them as are asked for. Without an answer none was left.
+abbrev pub GivesRun : ℕ → List Interval → SliceFiltered → SliceFiltered → Option (ℕ × ℕ) → Type 0
+GivesRun limit rows old new None = (rows_left old rows ≡ []) × (new ≡ old)
+GivesRun limit rows old new (Some run) =
+    (rows_left old rows ≡ range_with_len (old.place + run.0) run.1 ++ rows_left new rows) × (new.place ≡ old.place + run.0 + run.1) × (0 < run.1) × (run.1 ≡ min limit (first_left old rows))

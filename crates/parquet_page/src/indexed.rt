@@ -2,7 +2,7 @@
 ghost use Rattle.std.specs.Prelude.{◌≡◌, ◌&&◌, length, map, option_map, true, IfOk, IfErr, Some};
 ghost use Rattle.parquet_base.specs.Reading.{given};
 ghost use Rattle.parquet_page.specs.Lent.{are_well_shaped, has_parts, lie_within as lie_within_by, located_chunk, located_parts, selected_count};
-ghost use Rattle.parquet_page.specs.Refusals.{Refuses};
+ghost use Rattle.columns_core.specs.Refusals.{Refuses};
 
 use crate::entries::{count_selected, count_wanted, first_start, lie_within, wanted};
 use crate::located::{Located, LocatedPage};

@@ -7,15 +7,18 @@ mod entries;
 mod found;
 mod indexed;
 pub mod laws;
+mod level_runs;
 mod located;
 mod page;
 mod parts;
 mod reader;
+mod run;
 mod selection;
 mod slice_filtered;
 mod source;
 #[cfg(test)]
 mod tests;
+mod validity;
 
 pub use body::split_buffer;
 pub use indexed::IndexedPageReader;
@@ -23,6 +26,8 @@ pub use page::{DataPage, DictPage, FilteredPage, Page};
 pub use parquet_base::Interval;
 pub use parquet_meta::DataPageHeader;
 pub use reader::PageReader;
+pub use run::Run;
 pub use selection::{page_row_intervals, select_pages};
 pub use slice_filtered::SliceFiltered;
 pub use source::Pages;
+pub use validity::OptionalPageValidity;

@@ -3,7 +3,7 @@ ghost use Rattle.std.specs.Prelude.{◌≡◌, ◌+◌, ◌-◌, ◌^◌, ◌<�
 ghost use Rattle.parquet_base.specs.Intervals.{end, is_well_shaped as is_well_shaped_by};
 ghost use Rattle.parquet_meta.specs.Code.{not_negative};
 ghost use Rattle.parquet_page.specs.Locations.{begin_in_time, filtered_page as filtered_page_by, filtered_pages as filtered_pages_by, next_row, page_intervals, rows_between, selected_pages};
-ghost use Rattle.parquet_page.specs.Refusals.{IsDamaged, Refuses};
+ghost use Rattle.columns_core.specs.Refusals.{IsDamaged, Refuses};
 
 use crate::page::FilteredPage;
 use columns_core::{Error, Part, Seq};

@@ -8,7 +8,7 @@ use parquet_base::Interval;
 
 /// Tells a decoder of a page in which every row has a value how many values to skip and how many to read, so that it gives the
 /// selected rows. It holds places alone: the selected rows are handed to each call.
-#[derive(Drop)]
+#[derive(Clone, Copy)]
 pub struct SliceFiltered {
     /// The interval at which it stands.
     interval: usize,
@@ -19,7 +19,7 @@ pub struct SliceFiltered {
 }
 
 impl SliceFiltered {
-    ghost use Rattle.parquet_page.specs.SliceLeft.{GivesRows, IsWalkOver, rows_left};
+    ghost use Rattle.parquet_page.specs.SliceLeft.{GivesRun, IsWalkOver, rows_left};
 
     /// Before the first value.
     pub fn new(rows: &[Interval]) -> Self
@@ -35,11 +35,11 @@ impl SliceFiltered {
         }
     }
 
-    /// How many values to skip, and how many behind them to read, at most `limit`. The rows are those of `new`.
+    /// How many values to skip, and how many behind them to read: those of one interval, at most `limit`. The rows are those of `new`.
     pub fn next(&mut self, rows: &[Interval], limit: usize) -> Option<(usize, usize)>
         requires walk { IsWalkOver self.old rows.now }
         requires limit { 0 < limit }
-        ensures run { GivesRows limit rows.now self.old self.new result }
+        ensures run { GivesRun limit rows.now self.old self.new result }
         ensures walk { IsWalkOver self.new rows.now }
     {
         let interval = *rows.get(self.interval)?;

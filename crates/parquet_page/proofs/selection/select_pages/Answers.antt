@@ -1,7 +1,7 @@
 use Rattle.std.proofs.Common.{◌≡◌, ◌∙◌, sym, refl, inr, ap, Some, arith}
 use Rattle.parquet_page.specs.Locations.{filtered_pages, begin_in_time, selected_pages}
 use Rattle.parquet_base.specs.Intervals.{is_well_shaped}
-use Rattle.parquet_page.specs.Refusals.{IsDamaged, Refuses}
+use Rattle.columns_core.specs.Refusals.{IsDamaged, Refuses}
 use Rattle.parquet_base.proofs.ShapeLemmas.{shape-wider}
 use Rattle.parquet_page.proofs.RefusalLemmas.{damaged_whole, passed_on, refuses_damaged, when_ok, when_refused}
 use Rattle.parquet_page.proofs.SelectionLemmas.{no_rows, begins_late, pages-length, pages-within, selects}

@@ -25,7 +25,7 @@ returns-then-self-end-clause-run c =
     let run = c.in_ok-interval.field-0.now in
     let at = stands-at c.args.self.now c.args.rows.now run c.in_ok-interval.ensures.lookup.3.0 c.in_ok-interval.ensures.lookup.1 c.requires.walk in
     let turn = ends-interval c.args.self.now c.args.rows.now run c.args.limit c.max-first.result c.min-taken.result at c.requires.limit c.max-first.ensures c.min-taken.ensures c.if-self-end.true in
-    (turn.rows, turn.there, turn.some, turn.within)
+    (turn.rows, turn.there, turn.some, turn.many)
 
 pub returns-then-self-end-clause-walk : goal.returns-then-self-end-clause-walk
 returns-then-self-end-clause-walk c =
@@ -39,7 +39,7 @@ returns-else-self-end-clause-run c =
     let run = c.in_ok-interval.field-0.now in
     let at = stands-at c.args.self.now c.args.rows.now run c.in_ok-interval.ensures.lookup.3.0 c.in_ok-interval.ensures.lookup.1 c.requires.walk in
     let turn = stays-in-interval c.args.self.now c.args.rows.now run c.args.limit c.max-first.result c.min-taken.result at c.requires.limit c.max-first.ensures c.min-taken.ensures c.if-self-end.false in
-    (turn.rows, turn.there, turn.some, turn.within)
+    (turn.rows, turn.there, turn.some, turn.many)
 
 pub returns-else-self-end-clause-walk : goal.returns-else-self-end-clause-walk
 returns-else-self-end-clause-walk c =

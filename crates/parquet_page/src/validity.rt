@@ -1,0 +1,103 @@
+//! Which rows of a page have a value.
+ghost use Rattle.std.specs.Prelude.{◌≡◌, ◌<◌, [], length, IfOk, IfErr, IsSome, if◌then◌else◌};
+ghost use Rattle.columns_core.specs.Causes.{IsOneOf, cause_of};
+ghost use Rattle.parquet_page.specs.Content.{DataContent, data_content};
+ghost use Rattle.parquet_page.specs.Runs.{GivesRun};
+ghost use Rattle.parquet_page.specs.Spelling.{has_readable_levels as has_readable_levels_by};
+ghost use Rattle.parquet_page.specs.ValidityLeft.{levels_causes, page_left, page_places};
+ghost use Rattle.parquet_page.specs.declared.run.Run.TheVariants.{Present, Null};
+
+use crate::body::split_buffer;
+use crate::found::value_count;
+use crate::level_runs::LevelRuns;
+use crate::page::DataPage;
+use crate::run::Run;
+use columns_core::{Error, Part};
+use parquet_meta::{DataPageHeader, Repetition};
+
+/// The number of the one encoding of levels that is read.
+const HYBRID: i32 = 3;
+
+/// Whether the levels of a page are read. Only those of the first form have an encoding of their own.
+fn has_readable_levels(page: &DataPage<'_>) -> bool
+    ensures { result ≡ has_readable_levels_by page.now.type_.now.repetition page.now.header }
+{
+    match (page.type_.repetition, page.header) {
+        (
+            Repetition::Optional,
+            DataPageHeader::V1 {
+                definition_encoding,
+                ..
+            },
+        ) => definition_encoding == HYBRID,
+        _ => true,
+    }
+}
+
+/// The walk over the levels of a page.
+pub(crate) fn level_runs(page: &DataPage<'_>) -> Result<LevelRuns, Error>
+    ensures places { IfOk result (λ runs. page_left runs (data_content page.now) ≡ page_places (data_content page.now)) }
+    ensures ok { IfOk result (λ _. levels_causes (data_content page.now) ≡ []) }
+    ensures refusal { IfErr result (λ error. IsOneOf (levels_causes (data_content page.now)) (cause_of error)) }
+{
+    if !has_readable_levels(page) {
+        return Err(Error::NotYetImplemented(Part::Levels));
+    }
+    let (_, levels, _) = split_buffer(page)?;
+    LevelRuns::try_new(levels, page.type_.repetition, value_count(&page.header))
+}
+
+/// Walks all rows of a page, in runs of rows that have a value and rows that are null. It holds places, and the page is handed to
+/// each call.
+#[derive(Clone, Copy)]
+pub struct OptionalPageValidity {
+    runs: LevelRuns,
+}
+
+impl OptionalPageValidity {
+    ghost use Rattle.parquet_page.specs.ValidityLeft.{IsLongest, optional_left, optional_steps};
+
+    /// Before the first row.
+    pub fn try_new(page: &DataPage<'_>) -> Result<Self, Error>
+        ensures places { IfOk result (λ walk. optional_left walk (data_content page.now) ≡ page_places (data_content page.now)) }
+        ensures ok { IfOk result (λ _. levels_causes (data_content page.now) ≡ []) }
+        ensures refusal { IfErr result (λ error. IsOneOf (levels_causes (data_content page.now)) (cause_of error)) }
+    {
+        Ok(OptionalPageValidity {
+            runs: level_runs(page)?,
+        })
+    }
+
+    /// The next run of rows of one kind, with `limit` rows at most. The page is that of `try_new`.
+    pub fn next(&mut self, page: &DataPage<'_>, limit: usize) -> Option<Run>
+        requires page { IsSome (optional_left self.old (data_content page.now)) }
+        requires limit { 0 < limit }
+        ensures run { GivesRun limit (optional_steps self.old (data_content page.now)) (optional_steps self.new (data_content page.now)) result }
+        ensures longest { IsLongest limit result (optional_steps self.new (data_content page.now)) }
+        ensures page { IsSome (optional_left self.new (data_content page.now)) }
+    {
+        let Ok((_, levels, _)) = split_buffer(page) else {
+            return None;
+        };
+        let (present, rows) = self.runs.next(levels, limit)?;
+        Some(kept_run(present, rows))
+    }
+
+    /// How many rows are left.
+    pub fn len(&self) -> usize
+        ensures { (page : DataContent) → IsSome (optional_left self.now page) → result ≡ length (optional_steps self.now page) }
+    {
+        self.runs.len()
+    }
+}
+
+/// A run of rows that are given.
+pub(crate) fn kept_run(present: bool, rows: usize) -> Run
+    ensures { result ≡ (if present then Present rows else Null rows) }
+{
+    if present {
+        Run::Present(rows)
+    } else {
+        Run::Null(rows)
+    }
+}
