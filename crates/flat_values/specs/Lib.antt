@@ -1,0 +1,10 @@
+pub mod CellTypes
+pub mod Conversion
+pub mod Pairs
+pub mod Numbers
+pub mod Items
+pub mod Ends
+pub mod Sound
+pub mod Order
+pub mod Units
+pub mod FixedItems

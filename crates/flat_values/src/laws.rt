@@ -1,0 +1,23 @@
+//! Laws of the definitions.
+ghost use Rattle.flat_values.specs.Sound.{ConvertsToType, EndsAreStored, PageHasType};
+ghost use Rattle.flat_values.specs.Order.{KeepsOrder};
+
+/// A converted item is null or a value of the type that is asked for.
+pub fn items_are_of_the_type()
+    ensures { ConvertsToType }
+{}
+
+/// All items of a page are null or values of the type that is asked for.
+pub fn pages_have_their_type()
+    ensures { PageHasType }
+{}
+
+/// The ends of statistics are such values as their column stores, so that they are converted like them.
+pub fn ends_are_stored_values()
+    ensures { EndsAreStored }
+{}
+
+/// Of two timestamps that have values in a unit, the later one has no earlier value.
+pub fn timestamps_keep_their_order()
+    ensures { KeepsOrder }
+{}

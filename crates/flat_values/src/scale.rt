@@ -1,0 +1,72 @@
+//! Times of one unit as those of another.
+ghost use Rattle.std.specs.Prelude.{◌≡◌, ◌*ℤ◌, IfOk, IfErr};
+ghost use Rattle.flat_values.specs.Conversion.{Value, NotInRange, int64};
+ghost use Rattle.columns_core.specs.declared.cell.Cell.{Int};
+
+use crate::Convert;
+use columns_core::Error;
+use std::marker::Model;
+
+/// Times of one unit as those of another: times a factor, or divided by it toward zero.
+#[derive(Clone, Copy, Debug, PartialEq, Eq)]
+pub struct Scale {
+    factor: u32,
+    multiply: bool,
+}
+
+impl Model for Scale {
+    ghost use Rattle.std.specs.Prelude.{ℕ, Bool, ◌<◌};
+    ghost use Rattle.std.specs.Coded.{coded×, coded_ℕ, coded_bool};
+
+    ghost Value = { ℕ × Bool };
+
+    ghost coded = { coded× coded_ℕ coded_bool };
+
+    ghost view = { λ scale. (scale.factor, scale.multiply) };
+
+    ghost invariant = { λ scale. 0 < scale.factor };
+
+    ghost inverse = { λ value. record { factor = value.0; multiply = value.1 } };
+}
+
+impl Scale {
+    ghost use Rattle.std.specs.Prelude.{◌≡◌, nat_abs};
+    ghost use Rattle.flat_values.specs.Numbers.{IsFactor};
+
+    /// The conversion by a factor between units.
+    pub fn new(factor: i64, multiply: bool) -> Self
+        requires { IsFactor factor }
+        ensures { result ≡ (nat_abs factor, multiply) }
+    {
+        Scale {
+            factor: factor as u32,
+            multiply,
+        }
+    }
+}
+
+impl Convert<i64, i64> for Scale {
+    ghost use Rattle.flat_values.specs.Conversion.{Scale as Scaled};
+
+    ghost rule = { λ scale. Scaled scale.0 scale.1 };
+
+    fn convert(&self, x: i64) -> Result<i64, Error> {
+        let factor = self.factor as i64;
+        if self.multiply {
+            times(x, factor)
+        } else {
+            Ok(x / factor)
+        }
+    }
+}
+
+/// A product of 64 bits.
+fn times(x: i64, factor: i64) -> Result<i64, Error>
+    ensures item { IfOk result (λ y. int64 (x *ℤ factor) ≡ Value (Int y)) }
+    ensures refused { IfErr result (λ e. (e ≡ Error.Overflow) × (int64 (x *ℤ factor) ≡ NotInRange)) }
+{
+    match x.checked_mul(factor) {
+        Some(product) => Ok(product),
+        None => Err(Error::Overflow),
+    }
+}
