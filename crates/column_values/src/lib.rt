@@ -1,0 +1,12 @@
+//! The rows of a column, taken page by page by any decoder and cut into chunks.
+#![tactic(auto)]
+
+mod decoder;
+mod filtered_validity;
+mod next_chunk;
+mod queue;
+
+pub use decoder::{DecodedState, Decoder};
+pub use filtered_validity::FilteredOptionalPageValidity;
+pub use next_chunk::next;
+pub use queue::{MaybeNext, extend_from_new_page};
