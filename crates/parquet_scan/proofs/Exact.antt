@@ -16,7 +16,7 @@ use Rattle.parquet_scan.specs.declared.bound.Bound.{Bound}
 use Rattle.parquet_scan.specs.Bound.{value_of, is_past, is_above, is_within, meets, has_value, keeps}
 use Rattle.parquet_scan.specs.Exact.{IsValueOf, IsItemOf, MayBeMet, KeepsExactly, TrueEndsKeep, is_item_of, is_end_of}
 use Rattle.parquet_scan.specs.Request.{is_value_of}
-use Rattle.parquet_scan.specs.Types.{Layer, number_range_at, is_text_at, takes_bytes_at, is_ordered_at, is_ordered}
+use Rattle.columns_core.specs.Types.{Layer, number_range_at, is_text_at, takes_bytes_at, is_ordered_at, is_ordered}
 use Rattle.parquet_scan.specs.Truth.{is_null, is_between, are_true_ends}
 use Rattle.parquet_scan.proofs.Order.{kind, above_irrefl, above_asym, above_upto}
 
@@ -203,7 +203,7 @@ count-copies_no p (suc n) item rest here =
 
 -- ---- the kind of a type's values
 
-abbrev kind_at : Layer → ℕ
+abbrev pub kind_at : Layer → ℕ
 kind_at layer = cond (is_text_at layer) 1 (cond (is_some (number_range_at layer)) 0 2)
 
 kind-int : (layer : Layer) (n : ℤ) → option_map_or (λ range. int_le range.0 n && int_le n range.1) (number_range_at layer) false ≡ true → 0 ≡ kind_at layer
@@ -276,7 +276,7 @@ some_value _ p = absurd (false≢true p)
 -- ---- items of which the ends are true
 
 -- null, or a value of a kind
-abbrev IsItemIn : (Scalar → Type 0) → Cell → Type 0
+abbrev pub IsItemIn : (Scalar → Type 0) → Cell → Type 0
 IsItemIn V item = MatchOption (value_of item) (is_null item ≡ true) V
 
 module _ (V : Scalar → Type 0) (same : (a b : Scalar) → V a → V b → kind a ≡ kind b)
@@ -303,7 +303,7 @@ module _ (V : Scalar → Type 0) (same : (a b : Scalar) → V a → V b → kind
   has_value_from (Some k) n h e = and_from _ _ (lt-ltb 0 rows (omega arith)) (lt-ltb k rows (omega (arith, eqb-true k n e)))
 
   -- items of which the ends are true, as many as there are rows or fewer
-  from_items : (items : List Cell) → length items ≤ rows → AllByRecursion (IsItemIn V) items → are_true_ends low high nulls items ≡ true
+  pub from_items : (items : List Cell) → length items ≤ rows → AllByRecursion (IsItemIn V) items → are_true_ends low high nulls items ≡ true
       → list_any (meets bound) items ≡ true → keeps low high nulls rows bound ≡ true
   from_items items count of_type true_of is_met =
       let parts = and_parts (list_all (is_between low high) items) (option_map_or (λ n. n == count_by is_null items) nulls true) true_of in
@@ -374,7 +374,7 @@ keeps_exact data_type low high nulls rows bound ordered v_low v_high v_low' v_hi
 -- ---- ends that are true
 
 -- that a text is UTF-8 is not needed for its kind
-kind-of_value : (data_type : DataType) (v : Scalar) → is_value_of data_type v ≡ true → kind v ≡ kind_at (out-DataType data_type)
+pub kind-of_value : (data_type : DataType) (v : Scalar) → is_value_of data_type v ≡ true → kind v ≡ kind_at (out-DataType data_type)
 kind-of_value data_type (scalar.Int n) h = kind-int (out-DataType data_type) n h
 kind-of_value data_type (scalar.Text text) h = sym (cond-true _ _ _ h)
 kind-of_value data_type (scalar.Bytes bytes) h = kind-bytes (out-DataType data_type) (length bytes) h

@@ -1,13 +1,12 @@
 -- Pages of plain numbers.
-use Rattle.std.proofs.Common.{◌≡◌, ℕ, zero, suc, ◌+◌, ◌*◌, ◌/◌, ◌<◌, ◌≤◌, ℤ, pos, negsuc, Bool, true, false, List, [], ◌∷◌, ◌++◌, length, map, take, drop, replicate, refl, sym, ◌∙◌, ap, arith}
-use Rattle.std.specs.Prelude.{Option, Some, None, is_some, option_map, ◌==◌, ◌&&◌, if◌then◌else◌, fold, Result, Ok, Err, OnOk}
+use Rattle.std.proofs.Common.{◌≡◌, ℕ, zero, suc, ◌+◌, ◌*◌, ◌/◌, ◌≤◌, ℤ, pos, negsuc, Bool, true, false, List, [], ◌∷◌, length, map, take, drop, replicate, refl, sym, ◌∙◌, ap, arith}
+use Rattle.std.specs.Prelude.{Option, Some, None, is_some, option_map, ◌==◌, ◌&&◌, if◌then◌else◌, fold, Result, Ok, Err, IfErr, IfOk, OnOk}
 use Rattle.std.specs.Simd.{first_chunks}
 use Rattle.std.specs.Int.{w32, from_le_bytes, cast_signed}
 use Rattle.std.specs.Cmp.{first_so, second_so}
 use Rattle.std.proofs.lemmas.Bool.{true≢false, eqb-true}
 use Rattle.std.proofs.lemmas.List.{length-map, length-take-le, length-drop}
-use Rattle.columns_core.specs.Causes.{Cause, NotYetImplemented, ExternalFormat, and_then, unless}
-use Rattle.parquet_base.specs.Bytes.{little_endian}
+use Rattle.columns_core.specs.Causes.{NotYetImplemented, ExternalFormat, and_then, unless}
 use Rattle.parquet_base.specs.Reading.{◌>>=◌, given}
 use Rattle.parquet_encoding.specs.Plain.{plain_fixed}
 use Rattle.parquet_encoding.proofs.BitsLemmas.{four_bytes}
@@ -16,7 +15,6 @@ use Rattle.parquet_base.specs.declared.interval.Interval.{Interval}
 use Rattle.parquet_meta.specs.declared.metadata.PrimitiveLogicalType.{PrimitiveLogicalType as LogicalType}
 use Rattle.parquet_meta.specs.declared.metadata.PhysicalType.{PhysicalType}
 use Rattle.parquet_meta.specs.declared.metadata.PhysicalType.TheVariants.{Boolean, Int32, Int64, Int96, Float, Double, ByteArray, FixedLenByteArray}
-use Rattle.parquet_meta.specs.declared.metadata.PrimitiveType.{PrimitiveType}
 use Rattle.parquet_meta.specs.declared.metadata.Repetition.{Repetition}
 use Rattle.parquet_meta.specs.declared.metadata.Repetition.TheVariants.{Required, Optional, Repeated}
 use Rattle.parquet_meta.specs.declared.page_header.DataPageHeader.{DataPageHeader}
@@ -24,12 +22,12 @@ use Rattle.parquet_meta.specs.declared.page_header.DataPageHeader.TheVariants.{V
 use Rattle.parquet_page.specs.Content.{DataContent, header_values}
 use Rattle.parquet_page.specs.Levels.{prefixed_parts, presence, placed, present_count}
 use Rattle.parquet_page.specs.Opened.{page_causes}
-use Rattle.parquet_page.specs.Spelling.{spelled, page_encoding, places_and_values}
+use Rattle.parquet_page.specs.Spelling.{spelled, places_and_values}
 use Rattle.parquet_page.specs.Stored.{Stored, Number}
 use Rattle.parquet_page.specs.Values.{plain_values, unless_none, int32_of}
 use Rattle.parquet_scan.specs.Causes.{causes_of_data}
 use Rattle.parquet_scan.specs.Column.{number_causes}
-use Rattle.parquet_scan.specs.NotBuilt.{is_built_header, is_built_page, is_int32, is_required, not_built_page}
+use Rattle.parquet_scan.specs.NotBuilt.{is_built_header, is_built_page, is_int32, is_required}
 use Rattle.parquet_scan.specs.Numbers.{number_of, numbers_of, data_numbers}
 
 -- ---- numbers in bytes
@@ -177,6 +175,13 @@ plain_causes page e =
     ap causes_of_data (same_page page plain) ∙ causes_with plain.count plain.levels page.body page.type.logical_type page.selected
     ∙ sym (ap (λ header. number_causes (header_values header) page.body) plain.header)
 
+-- what is wrong with a page does not depend on the rows that are selected of it
+pub any_selection : (page : DataContent) (selected : Option (List Interval)) → causes_of_data (record page { selected = selected }) ≡ causes_of_data page
+any_selection page selected = by (is_built_page page) refl where
+  by : (b : Bool) → is_built_page page ≡ b → causes_of_data (record page { selected = selected }) ≡ causes_of_data page
+  by true e = plain_causes (record page { selected = selected }) e ∙ sym (plain_causes page e)
+  by false e = ap (λ b. and_then (unless b NotYetImplemented) (page_causes None false None (record page { selected = selected }))) e ∙ sym (ap (λ b. and_then (unless b NotYetImplemented) (page_causes None false None page)) e)
+
 built_alone : (page : DataContent) (b : Bool) → is_built_page page ≡ b → causes_of_data page ≡ [] → is_built_page page ≡ true
 built_alone page true e none = e
 built_alone page false e none = absurd (some_cause (sym (ap (λ b. and_then (unless b NotYetImplemented) (page_causes None false None page)) e) ∙ none)) where
@@ -214,6 +219,22 @@ plain_spelled page none =
 pub on_ok : {T E P Q : Type 0} (r : Result T E) → (P → Q) → OnOk r P → OnOk r Q
 on_ok (Ok x) f h = f h
 on_ok (Err e) f h = h
+
+pub if_ok : {T E : Type 0} {P Q : T → Type 0} (r : Result T E) → ((x : T) → P x → Q x) → IfOk r P → IfOk r Q
+if_ok (Ok x) f h = f x h
+if_ok (Err e) f h = h
+
+pub both_ok : {T E P : Type 0} {Q R : T → Type 0} (r : Result T E) → (P → (x : T) → Q x → R x) → OnOk r P → IfOk r Q → IfOk r R
+both_ok (Ok x) f p q = f p x q
+both_ok (Err e) f p q = tt
+
+pub ok_always : {T E P : Type 0} (r : Result T E) → P → OnOk r P
+ok_always (Ok x) p = p
+ok_always (Err e) p = tt
+
+pub if_err : {T E : Type 0} {P Q : E → Type 0} (r : Result T E) → ((e : E) → P e → Q e) → IfErr r P → IfErr r Q
+if_err (Ok x) f h = h
+if_err (Err e) f h = f e h
 
 -- of bytes of the right length all numbers are read
 pub whole_numbers : (count : ℕ) (bytes : List ℕ) → is_some (plain_fixed 4 bytes (suc count)) ≡ true → map number_of (first_chunks 4 (length bytes / 4) bytes) ≡ numbers_of (suc count) bytes

@@ -1,7 +1,9 @@
 -- Two lists side by side.
-use Rattle.std.proofs.Common.{◌≡◌, ℕ, zero, suc, ◌+◌, ◌<◌, Bool, true, false, List, [], ◌∷◌, ◌++◌, length, map, take, drop, get_or, refl, sym, ◌∙◌, ap, arith, drop-cons}
-use Rattle.std.specs.Prelude.{zip, ◌&&◌}
+use Rattle.std.proofs.Common.{◌≡◌, ℕ, zero, suc, ◌+◌, ◌<◌, Bool, true, false, List, [], ◌∷◌, ◌++◌, length, map, drop, get_or, refl, sym, ◌∙◌, ap, arith, drop-cons, append_assoc}
+use Rattle.std.specs.Prelude.{Option, Some, None, IfSome, zip, ◌&&◌}
+use Rattle.columns_core.specs.Causes.{Cause}
 use Rattle.std.specs.List.{flat_map, list_all}
+use Rattle.std.proofs.lemmas.Bool.{and_from, and_parts}
 
 -- the pair at a place stands in front of those behind it
 pub pair_at : {X Y : Type 0} (xs : List X) (ys : List Y) (i : ℕ) (x : X) (y : Y) → i < length xs → i < length ys
@@ -25,3 +27,42 @@ flat_behind f xs ys i x y h k = ap (flat_map f) (pair_at xs ys i x y h k)
 pub map_behind : {X Y Z : Type 0} (f : X × Y → Z) (xs : List X) (ys : List Y) (i : ℕ) (x : X) (y : Y) → i < length xs → i < length ys
     → map f (zip (drop i xs) (drop i ys)) ≡ f (get_or xs i x, get_or ys i y) ∷ map f (zip (drop (i + 1) xs) (drop (i + 1) ys))
 map_behind f xs ys i x y h k = ap (map f) (pair_at xs ys i x y h k)
+
+pub none_beside : {X Y : Type 0} (p : X × Y → Bool) (xs : List X) → list_all p (zip xs []) ≡ true
+none_beside p [] = refl
+none_beside p (x ∷ xs) = refl
+
+-- one more pair that passes, where the second list has come to a place
+pub all_more : {X Y : Type 0} (p : X × Y → Bool) (xs : List X) (ys : List Y) (i : ℕ) (x : X) (y : Y) → list_all p (zip xs ys) ≡ true → length ys ≡ i → i < length xs → x ≡ get_or xs i x → p (x, y) ≡ true
+    → list_all p (zip xs (ys ++ y ∷ [])) ≡ true
+all_more p [] ys i x y all count h e one = absurd (omega (arith, h))
+all_more p (first ∷ xs) [] zero x y all count h e one = and_from _ _ (ap (λ z. p (z, y)) (sym e) ∙ one) (none_beside p xs)
+all_more p (first ∷ xs) [] (suc i) x y all count h e one = absurd (omega (arith, count))
+all_more p (first ∷ xs) (second ∷ ys) zero x y all count h e one = absurd (omega (arith, count))
+all_more p (first ∷ xs) (second ∷ ys) (suc i) x y all count h e one =
+    let parts = and_parts _ _ all in and_from _ _ parts.0 (all_more p xs ys i x y parts.1 (omega (arith, count)) (omega (arith, h)) e one)
+
+pub pair_passes : {X Y : Type 0} (p : X × Y → Bool) (xs : List X) (ys : List Y) (i : ℕ) (x : X) (y : Y) → list_all p (zip xs ys) ≡ true → i < length xs → i < length ys → p (get_or xs i x, get_or ys i y) ≡ true
+pair_passes p [] ys i x y all h k = absurd (omega (arith, h))
+pair_passes p (first ∷ xs) [] i x y all h k = absurd (omega (arith, k))
+pair_passes p (first ∷ xs) (second ∷ ys) zero x y all h k = (and_parts _ _ all).0
+pair_passes p (first ∷ xs) (second ∷ ys) (suc i) x y all h k = pair_passes p xs ys i x y (and_parts _ _ all).1 (omega (arith, h)) (omega (arith, k))
+
+-- one more pair, where the source tells its bytes
+pub none_pair : {X Y : Type 0} (told : Option (List ℕ)) (f : List ℕ → X × Y → List Cause) (xs : List X) (ys : List Y) (i : ℕ) (x : X) (y d : Y) → i < length xs → i < length ys → x ≡ get_or xs i x → y ≡ get_or ys i d
+    → IfSome told (λ bytes. flat_map (f bytes) (zip xs ys) ≡ flat_map (f bytes) (zip (drop i xs) (drop i ys))) → IfSome told (λ bytes. f bytes (x, y) ≡ [])
+    → IfSome told (λ bytes. flat_map (f bytes) (zip xs ys) ≡ flat_map (f bytes) (zip (drop (i + 1) xs) (drop (i + 1) ys)))
+none_pair None f xs ys i x y d h k at beside e own = tt
+none_pair (Some bytes) f xs ys i x y d h k at beside e own =
+    e ∙ flat_behind (f bytes) xs ys i x d h k
+    ∙ ap (λ first. first ++ flat_map (f bytes) (zip (drop (i + 1) xs) (drop (i + 1) ys))) ((λ j. f bytes (sym at j, sym beside j)) ∙ own)
+
+pub map_pair : {X Y Z : Type 0} (told : Option (List ℕ)) (f : List ℕ → X × Y → Z) (xs : List X) (ys : List Y) (i : ℕ) (x : X) (y d : Y) (made : List Z) (z : Z) → i < length xs → i < length ys → x ≡ get_or xs i x → y ≡ get_or ys i d
+    → IfSome told (λ bytes. map (f bytes) (zip xs ys) ≡ made ++ map (f bytes) (zip (drop i xs) (drop i ys))) → IfSome told (λ bytes. z ≡ f bytes (x, y))
+    → IfSome told (λ bytes. map (f bytes) (zip xs ys) ≡ (made ++ z ∷ []) ++ map (f bytes) (zip (drop (i + 1) xs) (drop (i + 1) ys)))
+map_pair None f xs ys i x y d made z h k at beside e own = tt
+map_pair (Some bytes) f xs ys i x y d made z h k at beside e own =
+    let rest = map (f bytes) (zip (drop (i + 1) xs) (drop (i + 1) ys)) in
+    e ∙ ap (λ left. made ++ left) (map_behind (f bytes) xs ys i x d h k)
+    ∙ ap (λ first. made ++ first ∷ rest) ((λ j. f bytes (sym at j, sym beside j)) ∙ sym own)
+    ∙ sym (append_assoc made (z ∷ []) rest)

@@ -1,55 +1,30 @@
 -- How the causes of parts are put together to those of a file.
-use Rattle.std.proofs.Common.{◌≡◌, ℕ, zero, suc, ◌+◌, ◌<◌, ◌≤◌, Bool, true, false, not, List, [], ◌∷◌, ◌++◌, length, map, take, drop, get_or, refl, sym, subst, ◌∙◌, ap, arith, inl, inr}
-use Rattle.std.specs.Prelude.{Option, Some, None, zip, filter, min, ◌^◌, ◌&&◌, ◌||◌, ◌==◌, ◌⊎◌, nat_lt, IfSome, if◌then◌else◌}
-use Rattle.std.specs.List.{flat_map, list_all, list_any}
-use Rattle.parquet_base.specs.Failures.{MayFail}
-use Rattle.columns_core.specs.Causes.{Cause, IsOneOf, IsWantOfMemory, ComesOf, and_then, cause_of}
+use Rattle.std.proofs.Common.{◌≡◌, ℕ, zero, suc, ◌+◌, ◌<◌, ◌≤◌, Bool, true, false, not, List, [], ◌∷◌, ◌++◌, length, map, drop, get_or, refl, sym, subst, ◌∙◌, ap, arith, append_assoc, inl, inr}
+use Rattle.std.specs.Prelude.{Option, Some, None, zip, filter, ◌&&◌, ◌||◌, ◌==◌, nat_lt, IfSome, if◌then◌else◌}
+use Rattle.std.specs.List.{flat_map, list_all}
+use Rattle.columns_core.specs.Causes.{Cause, ExternalFormat, IsOneOf, IsWantOfMemory, cause_of}
 use Rattle.columns_core.specs.declared.data_type.Field.{Field}
 use Rattle.columns_core.specs.declared.error.Error.{Error}
 use Rattle.columns_core.specs.declared.error.Error.TheVariants as error
 use Rattle.parquet_meta.specs.declared.metadata.RowGroupMetaData.{RowGroupMetaData}
 use Rattle.parquet_scan.specs.declared.bound.Bound.{Bound}
-use Rattle.parquet_scan.specs.Causes.{index_causes}
-use Rattle.parquet_scan.specs.Counting.{causes_of_groups, has_indexes_for, has_indexes_if_counting, pruning_causes}
-use Rattle.parquet_scan.specs.NotBuilt.{not_built_pruning}
+use Rattle.parquet_scan.specs.Counting.{are_pruned}
 use Rattle.parquet_scan.specs.Request.{Request}
-use Rattle.parquet_scan.specs.Rows.{gives_rows, group_counts, has_needed_indexes, intervals, kept_rows}
-use Rattle.parquet_scan.specs.Scan.{FailsBy, kept_if}
+use Rattle.parquet_scan.specs.Rows.{group_counts, has_needed_indexes, prunes_pages}
+use Rattle.parquet_scan.specs.Scan.{FailsBy}
 use Rattle.std.specs.Option.{option_map_or}
 use Rattle.std.proofs.lemmas.Bool.{lt-ltb, eqb-true}
+use Rattle.std.proofs.lemmas.List.{drop_more}
 use Rattle.std.specs.Prelude.{option_map}
-use Rattle.columns_core.specs.Causes.{ExternalFormat}
 use Rattle.parquet_base.specs.Intervals.{maximal_runs}
 use Rattle.parquet_meta.specs.Chunks.{chunk_causes}
 use Rattle.parquet_meta.specs.Places.{bytes_at}
 use Rattle.parquet_meta.specs.declared.metadata.Place.{Place}
 use Rattle.parquet_meta.specs.declared.metadata.ColumnChunkMetaData.{ColumnChunkMetaData}
-use Rattle.parquet_page.specs.Lent.{Lent}
-use Rattle.parquet_scan.specs.Causes.{causes_of_chunk, causes_of_column, causes_of_group, chunk_opened, opened_causes}
+use Rattle.parquet_scan.specs.Causes.{causes_of_chunk, causes_of_column, chunk_opened, opened_causes}
 use Rattle.parquet_scan.specs.Cells.{chunk_of}
 use Rattle.parquet_scan.specs.Rows.{column_named}
-use Rattle.parquet_scan.proofs.CauseLemmas.{TellsOf, one_left, one_right, tells_left, tells_right, tells_first, tells_next, then_next}
-
--- ---- the metadata: a form, then fields and statistics, then pruning
-
-pub of_form : (form fields statistics pruning : List Cause) (e : Error) → TellsOf form e → TellsOf (and_then form (and_then (fields ++ statistics) pruning)) e
-of_form form fields statistics pruning e k = tells_first form (and_then (fields ++ statistics) pruning) e k
-
-pub of_fields : (form fields statistics pruning : List Cause) (e : Error) → form ≡ [] → TellsOf fields e → TellsOf (and_then form (and_then (fields ++ statistics) pruning)) e
-of_fields form fields statistics pruning e none k = tells_next form (and_then (fields ++ statistics) pruning) e none (tells_first (fields ++ statistics) pruning e (tells_left fields statistics e k))
-
-pub of_statistics : (form fields statistics pruning : List Cause) (e : Error) → form ≡ [] → TellsOf statistics e → TellsOf (and_then form (and_then (fields ++ statistics) pruning)) e
-of_statistics form fields statistics pruning e none k = tells_next form (and_then (fields ++ statistics) pruning) e none (tells_first (fields ++ statistics) pruning e (tells_right fields statistics e k))
-
-no_more : (fields statistics : List Cause) → fields ≡ [] → statistics ≡ [] → fields ++ statistics ≡ []
-no_more fields statistics f s = ap (λ causes. causes ++ statistics) f ∙ s
-
-pub of_pruning : (form fields statistics pruning : List Cause) (e : Error) → form ≡ [] → fields ≡ [] → statistics ≡ [] → TellsOf pruning e
-    → TellsOf (and_then form (and_then (fields ++ statistics) pruning)) e
-of_pruning form fields statistics pruning e none f s k = tells_next form (and_then (fields ++ statistics) pruning) e none (tells_next (fields ++ statistics) pruning e (no_more fields statistics f s) k)
-
-pub of_none : (form fields statistics pruning : List Cause) → form ≡ [] → fields ≡ [] → statistics ≡ [] → pruning ≡ [] → and_then form (and_then (fields ++ statistics) pruning) ≡ []
-of_none form fields statistics pruning none f s p = then_next form (and_then (fields ++ statistics) pruning) none ∙ then_next (fields ++ statistics) pruning (no_more fields statistics f s) ∙ p
+use Rattle.parquet_scan.proofs.CauseLemmas.{TellsOf, one_left, one_right, then_next}
 
 -- ---- pruning by pages
 
@@ -70,15 +45,11 @@ all_counting counts has (group ∷ groups) = by (counts group) (all_counting cou
   by true rest = ap (λ b. has group && b) rest
   by false rest = rest
 
-any_counting : (counts : RowGroupMetaData → Bool) (groups : List RowGroupMetaData) → list_any (λ b. b) (map counts groups) ≡ list_any counts groups
-any_counting counts [] = refl
-any_counting counts (group ∷ groups) = ap (λ b. counts group || b) (any_counting counts groups)
-
 pub same_pruning : (request : Request) (groups : List RowGroupMetaData) (counts : List Bool) → counts ≡ map (group_counts request) groups
-    → pruning_causes request.bounds request.fields groups counts ≡ index_causes request groups
+    → are_pruned request.bounds request.fields groups counts ≡ prunes_pages request groups
 same_pruning request groups counts e =
-    ap (pruning_causes request.bounds request.fields groups) e
-    ∙ (λ i. not_built_pruning (some_bound request.bounds i && all_counting (group_counts request) (has_needed_indexes request) groups i && any_counting (group_counts request) groups i))
+    ap (are_pruned request.bounds request.fields groups) e
+    ∙ (λ i. some_bound request.bounds i && all_counting (group_counts request) (has_needed_indexes request) groups i)
 
 -- ---- parts of a file that are read
 
@@ -98,6 +69,13 @@ fails_more (Some bytes) before mid now part whole error.Overflow h f k = f (caus
 fails_more told before mid now part whole error.Io h f k = omega (arith, h, k)
 fails_more told before mid now part whole error.OutOfMemory h f k = tt
 
+-- an error by causes that are those of the whole
+pub fails_same : (told : Option (List ℕ)) (before now : ℕ) (part whole : List ℕ → List Cause) (e : Error) → IfSome told (λ bytes. whole bytes ≡ part bytes) → FailsBy told before now part e → FailsBy told before now whole e
+fails_same told before now part whole e same fails = fails_more told before before now part whole e (omega arith) (within told same) fails where
+  within : (told : Option (List ℕ)) → IfSome told (λ bytes. whole bytes ≡ part bytes) → IfSome told (λ bytes. (o : Option Cause) → IsOneOf (part bytes) o → IsOneOf (whole bytes) o)
+  within None same = tt
+  within (Some bytes) same = λ o one. subst (λ causes. IsOneOf causes o) (sym same) one
+
 -- one that is among the causes of an item is among those of all
 one_of_all : {X : Type 0} (f : X → List Cause) (xs : List X) (i : ℕ) (d : X) (o : Option Cause) → i < length xs → IsOneOf (f (get_or xs i d)) o → IsOneOf (flat_map f xs) o
 one_of_all f [] i d o h k = absurd (omega arith)
@@ -110,6 +88,28 @@ pub in_item : {X : Type 0} (told : Option (List ℕ)) (f : List ℕ → X → Li
 in_item None f xs i x h e = tt
 in_item (Some bytes) f xs i x h e = λ o k. one_of_all (f bytes) xs i x o h (subst (λ y. IsOneOf (f bytes y) o) e k)
 
+-- nothing is wrong with one more item
+pub none_more : {X : Type 0} (told : Option (List ℕ)) (f : List ℕ → X → List Cause) (xs : List X) (i : ℕ) (x : X) → i < length xs → x ≡ get_or xs i x
+    → IfSome told (λ bytes. flat_map (f bytes) xs ≡ flat_map (f bytes) (drop i xs)) → IfSome told (λ bytes. f bytes x ≡ []) → IfSome told (λ bytes. flat_map (f bytes) xs ≡ flat_map (f bytes) (drop (i + 1) xs))
+none_more None f xs i x h at e own = tt
+none_more (Some bytes) f xs i x h at e own =
+    let left : drop i xs ≡ x ∷ drop (i + 1) xs = drop_more xs i x h ∙ ap (λ first. first ∷ drop (i + 1) xs) (sym at) in
+    e ∙ ap (flat_map (f bytes)) left ∙ ap (λ front. front ++ flat_map (f bytes) (drop (i + 1) xs)) own
+
+-- of an item that passes a test
+pub in_filtered : {X : Type 0} (told : Option (List ℕ)) (f : List ℕ → X → List Cause) (test : X → Bool) (xs : List X) (i : ℕ) (d : X) → i < length xs → test (get_or xs i d) ≡ true
+    → IfSome told (λ bytes. (o : Option Cause) → IsOneOf (f bytes (get_or xs i d)) o → IsOneOf (flat_map (f bytes) (filter test xs)) o)
+in_filtered None f test xs i d h passes = tt
+in_filtered {X} (Some bytes) f test xs i d h passes = λ o one. at xs i h passes o one where
+  behind : (b : Bool) (x : X) (rest : List X) (o : Option Cause) → IsOneOf (flat_map (f bytes) rest) o → IsOneOf (flat_map (f bytes) (if b then x ∷ rest else rest)) o
+  behind true x rest o one = one_right (f bytes x) (flat_map (f bytes) rest) o one
+  behind false x rest o one = one
+
+  at : (xs : List X) (i : ℕ) → i < length xs → test (get_or xs i d) ≡ true → (o : Option Cause) → IsOneOf (f bytes (get_or xs i d)) o → IsOneOf (flat_map (f bytes) (filter test xs)) o
+  at [] i h passes o one = absurd (omega (arith, h))
+  at (x ∷ xs) zero h passes o one = subst (λ b. IsOneOf (flat_map (f bytes) (if b then x ∷ filter test xs else filter test xs)) o) (sym passes) (one_left (f bytes x) (flat_map (f bytes) (filter test xs)) o one)
+  at (x ∷ xs) (suc i) h passes o one = behind (test x) x (filter test xs) o (at xs i (omega (arith, h)) passes o one)
+
 pair_in : {X Y : Type 0} (xs : List X) (ys : List Y) (i : ℕ) (x : X) (y : Y) (f : X × Y → List Cause) (o : Option Cause) → i < length xs → i < length ys
     → IsOneOf (f (get_or xs i x, get_or ys i y)) o → IsOneOf (flat_map f (zip xs ys)) o
 pair_in [] ys i x y f o h k one = absurd (omega arith)
@@ -118,10 +118,13 @@ pair_in (first ∷ xs) (second ∷ ys) zero x y f o h k one = one_left (f (first
 pair_in (first ∷ xs) (second ∷ ys) (suc i) x y f o h k one = one_right (f (first, second)) (flat_map f (zip xs ys)) o (pair_in xs ys i x y f o (omega arith) (omega arith) one)
 
 -- of an item of two lists side by side
-pub in_pair : {X : Type 0} (told : Option (List ℕ)) (f : List ℕ → X × Bool → List Cause) (xs : List X) (ys : List Bool) (i : ℕ) (x : X) → i < length xs → i < length ys → x ≡ get_or xs i x
-    → IfSome told (λ bytes. (o : Option Cause) → IsOneOf (f bytes (x, get_or ys i false)) o → IsOneOf (flat_map (f bytes) (zip xs ys)) o)
-in_pair None f xs ys i x h k e = tt
-in_pair (Some bytes) f xs ys i x h k e = λ o one. pair_in xs ys i x false (f bytes) o h k (subst (λ y. IsOneOf (f bytes (y, get_or ys i false)) o) e one)
+pub in_pair : {X Y : Type 0} (told : Option (List ℕ)) (f : List ℕ → X × Y → List Cause) (xs : List X) (ys : List Y) (i : ℕ) (x : X) (y d : Y) → i < length xs → i < length ys → x ≡ get_or xs i x → y ≡ get_or ys i d
+    → IfSome told (λ bytes. (o : Option Cause) → IsOneOf (f bytes (x, y)) o → IsOneOf (flat_map (f bytes) (zip xs ys)) o)
+in_pair None f xs ys i x y d h k e e' = tt
+in_pair {X} {Y} (Some bytes) f xs ys i x y d h k e e' = λ o one.
+    let P : X × Y → Type 0 = λ pair. IsOneOf (f bytes pair) o in
+    let same : (x, y) ≡ (get_or xs i x, get_or ys i d) = λ j. (e j, e' j) in
+    pair_in xs ys i x d (f bytes) o h k (subst P same one)
 
 pub same_if : (told : Option (List ℕ)) (f : List ℕ → List Cause) → IfSome told (λ bytes. f bytes ≡ f bytes)
 same_if None f = tt
@@ -134,10 +137,11 @@ no_runs (suc rows) = no_runs rows
 
 -- ---- a column: its chunk, and the pages of it
 
-pub of_column : (told : Option (List ℕ)) (before mid now : ℕ) (group : RowGroupMetaData) (field : Field) (column : ColumnChunkMetaData) (e : Error) → column_named group field.name ≡ Some column → before ≤ mid
-    → IfSome told (λ bytes. (o : Option Cause) → IsOneOf (causes_of_chunk bytes group column) o → IsOneOf (causes_of_column bytes group field) o)
-of_column None before mid now group field column e named h = tt
-of_column (Some bytes) before mid now group field column e named h = λ o one. subst (λ causes. IsOneOf causes o) (sym (ap (λ found. option_map_or (causes_of_chunk bytes group) found (ExternalFormat ∷ [])) named)) one
+-- what is wrong with a column of a name is what is wrong with its chunk
+pub of_column : (told : Option (List ℕ)) (by_pages : Bool) (group : RowGroupMetaData) (rows : List ℕ) (field : Field) (column : ColumnChunkMetaData) → column_named group field.name ≡ Some column
+    → IfSome told (λ bytes. causes_of_column by_pages bytes group rows field ≡ causes_of_chunk by_pages bytes group rows column)
+of_column None by_pages group rows field column named = tt
+of_column (Some bytes) by_pages group rows field column named = ap (λ found. option_map_or (causes_of_chunk by_pages bytes group rows) found (ExternalFormat ∷ [])) named
 
 opened : (bytes : List ℕ) (group : RowGroupMetaData) (column : ColumnChunkMetaData) (o : Option Place) (chunk : List ℕ) → option_map (bytes_at bytes) o ≡ Some chunk
     → option_map_or (λ place. opened_causes (chunk_opened column (bytes_at bytes place))) o (ExternalFormat ∷ []) ≡ opened_causes (chunk_opened column chunk)
@@ -147,32 +151,61 @@ opened bytes group column (Some place) chunk e = ap (λ found. opened_causes (ch
   some_same {x} {y} h = ap (λ o. option_map_or (λ found. found) o x) h
 
 -- what is wrong with a chunk that was read is what is wrong with its pages
-pub chunk_causes_are : (bytes : List ℕ) (group : RowGroupMetaData) (column : ColumnChunkMetaData) (chunk : List ℕ) → chunk_causes column ≡ [] → option_map (bytes_at bytes) (chunk_of bytes group column) ≡ Some chunk
-    → causes_of_chunk bytes group column ≡ opened_causes (chunk_opened column chunk)
-chunk_causes_are bytes group column chunk none e = then_next (chunk_causes column) _ none ∙ opened bytes group column (chunk_of bytes group column) chunk e
+pub chunk_causes_are : (told : Option (List ℕ)) (group : RowGroupMetaData) (column : ColumnChunkMetaData) (rows chunk : List ℕ) → chunk_causes column ≡ []
+    → IfSome told (λ bytes. option_map (bytes_at bytes) (chunk_of bytes group column) ≡ Some chunk)
+    → IfSome told (λ bytes. causes_of_chunk false bytes group rows column ≡ opened_causes (chunk_opened column chunk))
+chunk_causes_are None group column rows chunk none e = tt
+chunk_causes_are (Some bytes) group column rows chunk none e = then_next (chunk_causes column) _ none ∙ opened bytes group column (chunk_of bytes group column) chunk e
 
-not_memory : (part : List Cause) (e : Error) → (e ≡ error.OutOfMemory → ⊥) → TellsOf part e → IsOneOf part (cause_of e)
-not_memory part e other (inl h) = absurd (other h)
-not_memory part e other (inr k) = k
+-- want of memory may come at any time
+pub fails_by_memory : (told : Option (List ℕ)) (before now : ℕ) (whole : List ℕ → List Cause) (e : Error) → IsWantOfMemory e → FailsBy told before now whole e
+fails_by_memory told before now whole e memory = subst (FailsBy told before now whole) (sym memory) tt
+
+-- an error that tells of causes which the whole has
+pub fails_within : (told : Option (List ℕ)) (before now : ℕ) (part : List Cause) (whole : List ℕ → List Cause) (e : Error)
+    → IfSome told (λ bytes. (o : Option Cause) → IsOneOf part o → IsOneOf (whole bytes) o) → TellsOf part e → FailsBy told before now whole e
+fails_within told before now part whole e within (inl memory) = fails_by_memory told before now whole e memory
+fails_within told before now part whole (error.InvalidArgumentError p) within (inr one) = one
+fails_within None before now part whole (error.NotYetImplemented p) within (inr one) = tt
+fails_within (Some bytes) before now part whole (error.NotYetImplemented p) within (inr one) = within (cause_of (error.NotYetImplemented p)) one
+fails_within None before now part whole (error.ExternalFormat p) within (inr one) = tt
+fails_within (Some bytes) before now part whole (error.ExternalFormat p) within (inr one) = within (cause_of (error.ExternalFormat p)) one
+fails_within None before now part whole (error.OutOfSpec p) within (inr one) = tt
+fails_within (Some bytes) before now part whole (error.OutOfSpec p) within (inr one) = within (cause_of (error.OutOfSpec p)) one
+fails_within None before now part whole error.Overflow within (inr one) = tt
+fails_within (Some bytes) before now part whole error.Overflow within (inr one) = within (cause_of error.Overflow) one
+fails_within told before now part whole error.Io within (inr one) = absurd one
+fails_within told before now part whole error.OutOfMemory within (inr one) = absurd one
 
 -- an error of what was read, which fails by the same causes
 pub fails_telling : (told : Option (List ℕ)) (before now : ℕ) (part : List Cause) (whole : List ℕ → List Cause) (e : Error) → IfSome told (λ bytes. whole bytes ≡ part) → TellsOf part e → FailsBy told before now whole e
-fails_telling told before now part whole (error.InvalidArgumentError p) same k = not_memory part (error.InvalidArgumentError p) (λ h. absurd cc) k
-fails_telling None before now part whole (error.NotYetImplemented p) same k = tt
-fails_telling (Some bytes) before now part whole (error.NotYetImplemented p) same k = subst (λ causes. IsOneOf causes (cause_of (error.NotYetImplemented p))) (sym same) (not_memory part (error.NotYetImplemented p) (λ h. absurd cc) k)
-fails_telling None before now part whole (error.ExternalFormat p) same k = tt
-fails_telling (Some bytes) before now part whole (error.ExternalFormat p) same k = subst (λ causes. IsOneOf causes (cause_of (error.ExternalFormat p))) (sym same) (not_memory part (error.ExternalFormat p) (λ h. absurd cc) k)
-fails_telling None before now part whole (error.OutOfSpec p) same k = tt
-fails_telling (Some bytes) before now part whole (error.OutOfSpec p) same k = subst (λ causes. IsOneOf causes (cause_of (error.OutOfSpec p))) (sym same) (not_memory part (error.OutOfSpec p) (λ h. absurd cc) k)
-fails_telling None before now part whole error.Overflow same k = tt
-fails_telling (Some bytes) before now part whole error.Overflow same k = subst (λ causes. IsOneOf causes (cause_of error.Overflow)) (sym same) (not_memory part error.Overflow (λ h. absurd cc) k)
-fails_telling told before now part whole error.Io same k = absurd (not_memory part error.Io (λ h. absurd cc) k)
-fails_telling told before now part whole error.OutOfMemory same k = tt
+fails_telling told before now part whole e same k = fails_within told before now part whole e (within told same) k where
+  within : (told : Option (List ℕ)) → IfSome told (λ bytes. whole bytes ≡ part) → IfSome told (λ bytes. (o : Option Cause) → IsOneOf part o → IsOneOf (whole bytes) o)
+  within None same = tt
+  within (Some bytes) same = λ o one. subst (λ causes. IsOneOf causes o) (sym same) one
 
--- what is wrong with a column whose chunk was read
-pub column_causes_are : (told : Option (List ℕ)) (group : RowGroupMetaData) (field : Field) (column : ColumnChunkMetaData) (chunk : List ℕ)
-    → column_named group field.name ≡ Some column → chunk_causes column ≡ [] → IfSome told (λ bytes. option_map (bytes_at bytes) (chunk_of bytes group column) ≡ Some chunk)
-    → IfSome told (λ bytes. causes_of_column bytes group field ≡ opened_causes (chunk_opened column chunk))
-column_causes_are None group field column chunk named none found = tt
-column_causes_are (Some bytes) group field column chunk named none found =
-    ap (λ o. option_map_or (causes_of_chunk bytes group) o (ExternalFormat ∷ [])) named ∙ chunk_causes_are bytes group column chunk none found
+-- one more item of a list that is made item by item
+pub made_more : {X Z : Type 0} (told : Option (List ℕ)) (f : List ℕ → X → Z) (xs : List X) (i : ℕ) (x : X) (made : List Z) (z : Z) → i < length xs → x ≡ get_or xs i x
+    → IfSome told (λ bytes. map (f bytes) xs ≡ made ++ map (f bytes) (drop i xs)) → IfSome told (λ bytes. f bytes x ≡ z) → IfSome told (λ bytes. map (f bytes) xs ≡ (made ++ z ∷ []) ++ map (f bytes) (drop (i + 1) xs))
+made_more None f xs i x made z h at e own = tt
+made_more (Some bytes) f xs i x made z h at e own =
+    let left : drop i xs ≡ x ∷ drop (i + 1) xs = drop_more xs i x h ∙ ap (λ first. first ∷ drop (i + 1) xs) (sym at) in
+    e ∙ ap (λ rest. made ++ map (f bytes) rest) left ∙ ap (λ first. made ++ first ∷ map (f bytes) (drop (i + 1) xs)) own ∙ sym (append_assoc made (z ∷ []) (map (f bytes) (drop (i + 1) xs)))
+
+-- nothing is wrong with the whole where it is the part
+pub none_as : (told : Option (List ℕ)) (whole part : List ℕ → List Cause) → IfSome told (λ bytes. whole bytes ≡ part bytes) → IfSome told (λ bytes. part bytes ≡ []) → IfSome told (λ bytes. whole bytes ≡ [])
+none_as None whole part same none = tt
+none_as (Some bytes) whole part same none = same ∙ none
+
+-- nor where it is two parts
+pub none_of_both : (told : Option (List ℕ)) (first second : List ℕ → List Cause) → IfSome told (λ bytes. first bytes ≡ []) → IfSome told (λ bytes. second bytes ≡ []) → IfSome told (λ bytes. first bytes ++ second bytes ≡ [])
+none_of_both None first second none nothing = tt
+none_of_both (Some bytes) first second none nothing = λ i. none i ++ nothing i
+
+pub in_first : (told : Option (List ℕ)) (first second : List ℕ → List Cause) → IfSome told (λ bytes. (o : Option Cause) → IsOneOf (first bytes) o → IsOneOf (first bytes ++ second bytes) o)
+in_first None first second = tt
+in_first (Some bytes) first second = λ o one. one_left (first bytes) (second bytes) o one
+
+pub in_second : (told : Option (List ℕ)) (first second : List ℕ → List Cause) → IfSome told (λ bytes. (o : Option Cause) → IsOneOf (second bytes) o → IsOneOf (first bytes ++ second bytes) o)
+in_second None first second = tt
+in_second (Some bytes) first second = λ o one. one_right (first bytes) (second bytes) o one

@@ -1,16 +1,21 @@
--- Groups beside whether they count.
+-- Groups beside whether they count, and beside the runs of their rows that are kept.
+use Rattle.std.specs.Prelude.{ℕ, ℤ, Option, Some, map, Bool, not, ◌&&◌, ◌||◌, ◌==◌, nat_lt, if◌then◌else◌, List, [], ◌∷◌, length, zip, flat_map, sum_by}
+use Rattle.std.specs.List.{list_all, range_with_len}
+use Rattle.columns_core.specs.Causes.{Cause, and_then}
 use Rattle.columns_core.specs.declared.array.Array.{Array}
 use Rattle.columns_core.specs.declared.array.Array.TheVariants as array
-use Rattle.columns_core.specs.declared.data_type.DataType.{Int32}
-use Rattle.std.specs.Prelude.{ℕ, ℤ, Some, map, Bool, not, ◌&&◌, ◌||◌, ◌==◌, nat_lt, if◌then◌else◌, List, [], length, zip, flat_map}
-use Rattle.std.specs.List.{list_all, list_any, range_with_len}
-use Rattle.columns_core.specs.Causes.{Cause}
+use Rattle.columns_core.specs.declared.cell.Cell.{Cell}
+use Rattle.columns_core.specs.declared.data_type.DataType.{DataType}
 use Rattle.columns_core.specs.declared.data_type.Field.{Field}
+use Rattle.parquet_base.specs.declared.interval.Interval.{Interval}
+use Rattle.parquet_base.specs.Intervals.{is_well_shaped, maximal_runs, rows_of}
 use Rattle.parquet_meta.specs.declared.metadata.RowGroupMetaData.{RowGroupMetaData}
 use Rattle.parquet_scan.specs.declared.bound.Bound.{Bound}
-use Rattle.parquet_scan.specs.Causes.{causes_of_group}
-use Rattle.parquet_scan.specs.NotBuilt.{not_built_pruning}
-use Rattle.parquet_scan.specs.Rows.{has_column_index, has_offset_index, gives_rows}
+use Rattle.parquet_scan.specs.declared.scanning.GroupKept.{GroupKept}
+use Rattle.parquet_scan.specs.Causes.{causes_of_group, index_causes_of_group}
+use Rattle.parquet_scan.specs.Cells.{columns_of, given_chunk}
+use Rattle.parquet_scan.specs.NotBuilt.{is_built_field}
+use Rattle.parquet_scan.specs.Rows.{has_column_index, has_offset_index, pages_keep}
 
 abbrev pub has_indexes_for : List Bound → List Field → RowGroupMetaData → Bool
 has_indexes_for bounds fields group =
@@ -19,22 +24,84 @@ has_indexes_for bounds fields group =
 abbrev pub has_indexes_if_counting : List Bound → List Field → RowGroupMetaData × Bool → Bool
 has_indexes_if_counting bounds fields group = not group.1 || has_indexes_for bounds fields group.0
 
--- what is wrong where pruning by pages is asked for
-abbrev pub pruning_causes : List Bound → List Field → List RowGroupMetaData → List Bool → List Cause
-pruning_causes bounds fields groups counts =
-    not_built_pruning (not (length bounds == 0) && list_all (has_indexes_if_counting bounds fields) (zip groups counts) && list_any (λ counts. counts) counts)
+-- rows are pruned by pages, where these are the groups that count
+abbrev pub are_pruned : List Bound → List Field → List RowGroupMetaData → List Bool → Bool
+are_pruned bounds fields groups counts = not (length bounds == 0) && list_all (has_indexes_if_counting bounds fields) (zip groups counts)
 
--- a group that counts gives all its rows
-abbrev pub all_rows : RowGroupMetaData × Bool → RowGroupMetaData × List ℕ
-all_rows group = (group.0, if group.1 then range_with_len 0 (group.0).num_rows else [])
+-- what is wrong with the indexes of a group, if they are read
+abbrev pub index_causes_if : Bool → List Field → List Bound → List ℕ → RowGroupMetaData × Bool → List Cause
+index_causes_if by_pages fields bounds bytes group = if by_pages && group.1 then index_causes_of_group fields bounds bytes group.0 else []
+
+abbrev pub index_causes_of_groups : Bool → List Field → List Bound → List ℕ → List RowGroupMetaData → List Bool → List Cause
+index_causes_of_groups by_pages fields bounds bytes groups counts = flat_map (index_causes_if by_pages fields bounds bytes) (zip groups counts)
+
+-- the rows of a group, and the runs of those that are kept
+abbrev pub kept_if : Bool → List Bound → List ℕ → RowGroupMetaData × Bool → GroupKept
+kept_if by_pages bounds bytes group =
+    record { rows = (group.0).num_rows; intervals = maximal_runs (λ row. group.1 && pages_keep by_pages bounds bytes group.0 row) (group.0).num_rows }
+
+abbrev pub kept_of_groups : Bool → List Bound → List ℕ → List RowGroupMetaData → List Bool → List GroupKept
+kept_of_groups by_pages bounds bytes groups counts = map (kept_if by_pages bounds bytes) (zip groups counts)
+
+-- ---- groups that are read
+
+-- the runs lie in their group
+abbrev pub is_shaped : RowGroupMetaData × GroupKept → Bool
+is_shaped group = is_well_shaped (group.1).intervals (group.0).num_rows
+
+abbrev pub are_shaped : List RowGroupMetaData → List GroupKept → Bool
+are_shaped groups kept = list_all is_shaped (zip groups kept)
+
+-- all rows of a group
+abbrev pub every_row : RowGroupMetaData → List ℕ
+every_row group = range_with_len 0 group.num_rows
+
+-- a group with a kept row is read
+abbrev pub is_read : RowGroupMetaData × GroupKept → Bool
+is_read group = nat_lt 0 (length (group.1).intervals)
+
+-- the rows that are read: those that are kept, where rows are pruned by pages, and otherwise all
+abbrev pub rows_read : Bool → RowGroupMetaData → List Interval → List ℕ
+rows_read by_pages group runs = if by_pages then rows_of runs else every_row group
 
 -- what is wrong with a group, if it is read
-abbrev pub causes_if_read : List Field → List ℕ → RowGroupMetaData × Bool → List Cause
-causes_if_read fields bytes group = if group.1 && nat_lt 0 (group.0).num_rows then causes_of_group fields bytes group.0 else []
+abbrev pub causes_if_read : Bool → List Field → List ℕ → RowGroupMetaData × GroupKept → List Cause
+causes_if_read by_pages fields bytes group =
+    if is_read group then causes_of_group by_pages fields bytes (group.0, rows_read by_pages group.0 (group.1).intervals) else []
 
-abbrev pub causes_of_groups : List Field → List ℕ → List RowGroupMetaData → List Bool → List Cause
-causes_of_groups fields bytes groups counts = flat_map (causes_if_read fields bytes) (zip groups counts)
+abbrev pub causes_of_groups : Bool → List Field → List ℕ → List RowGroupMetaData → List GroupKept → List Cause
+causes_of_groups by_pages fields bytes groups kept = flat_map (causes_if_read by_pages fields bytes) (zip groups kept)
+
+-- the chunk of a group, if it is read
+abbrev pub chunks_if_read : Bool → List Field → List ℕ → RowGroupMetaData × GroupKept → List (Option (List (DataType × List Cell)))
+chunks_if_read by_pages fields bytes group =
+    if is_read group then given_chunk by_pages fields bytes group.0 (rows_read by_pages group.0 (group.1).intervals) ∷ [] else []
+
+abbrev pub chunks_of_groups : Bool → List Field → List ℕ → List RowGroupMetaData → List GroupKept → List (Option (List (DataType × List Cell)))
+chunks_of_groups by_pages fields bytes groups kept = flat_map (chunks_if_read by_pages fields bytes) (zip groups kept)
+
+-- how many rows are read of a group
+abbrev pub rows_if_read : Bool → RowGroupMetaData × GroupKept → ℕ
+rows_if_read by_pages group = if is_read group then length (rows_read by_pages group.0 (group.1).intervals) else 0
+
+abbrev pub rows_of_groups : Bool → List RowGroupMetaData → List GroupKept → ℕ
+rows_of_groups by_pages groups kept = sum_by (rows_if_read by_pages) (zip groups kept)
+
+-- what is wrong with the indexes, and where nothing is, with the groups that are read
+abbrev pub scan_causes : Bool → List Field → List Bound → List ℕ → List RowGroupMetaData → List Bool → List Cause
+scan_causes by_pages fields bounds bytes groups counts =
+    and_then (index_causes_of_groups by_pages fields bounds bytes groups counts) (causes_of_groups by_pages fields bytes groups (kept_of_groups by_pages bounds bytes groups counts))
+
+-- ---- what was read
+
+-- there is a field, and each is one of those that are built
+abbrev pub are_built : List Field → Bool
+are_built fields = nat_lt 0 (length fields) && list_all is_built_field fields
 
 -- an array of numbers, none of them null
-abbrev pub int32_array : List ℤ → Array
-int32_array numbers = array.Int32 (record { data_type = Int32; items = map Some numbers })
+abbrev pub number_array : DataType → List ℤ → Array
+number_array data_type numbers = array.Int32 (record { data_type = data_type; items = map Some numbers })
+
+-- chunks that were read, each as its columns
+abbrev pub shown : List (List Array) → List (Option (List (DataType × List Cell)))
+shown chunks = map (λ arrays. Some (columns_of arrays)) chunks

@@ -4,12 +4,14 @@ pub mod Cells
 pub mod Column
 pub mod Counting
 pub mod Exact
+pub mod Laws
+pub mod Located
 pub mod NotBuilt
 pub mod Numbers
+pub mod Pages
 pub mod Request
 pub mod Rows
 pub mod Scan
 pub mod Statistics
 pub mod Truth
-pub mod Types
 pub mod Value

@@ -1,26 +1,26 @@
 -- Forms that are not read yet, although the format has them. Each is a cause for answering that it is not yet
 -- implemented, and where a request or a column has one nothing else is asked. No scan comes of it. What is built leaves
 -- this file, and the last of them takes the file with it.
-use Rattle.std.specs.Prelude.{ℕ, ℤ, pos, Bool, true, false, not, ◌&&◌, ◌||◌, ◌==◌, nat_lt, List, [], ◌∷◌, ◌++◌, length, is_some}
+use Rattle.std.specs.Prelude.{pos, Bool, true, false, not, ◌&&◌, ◌||◌, ◌==◌, nat_lt, List, [], ◌∷◌, length, is_some}
 use Rattle.std.specs.List.{list_all, list_any}
 use Rattle.columns_core.specs.Causes.{Cause, NotYetImplemented, unless}
-use Rattle.columns_core.specs.declared.data_type.DataType.{DataType, out-DataType}
+use Rattle.columns_core.specs.declared.data_type.DataType.{out-DataType}
 use Rattle.columns_core.specs.declared.data_type.DataType.TheOpen.{DataType-F}
 use Rattle.columns_core.specs.declared.data_type.Field.{Field}
-use Rattle.parquet_scan.specs.Types.{Layer}
+use Rattle.columns_core.specs.Types.{Layer}
 use Rattle.parquet_meta.specs.declared.metadata.ColumnDescriptor.{ColumnDescriptor}
 use Rattle.parquet_meta.specs.declared.metadata.PhysicalType.{PhysicalType}
 use Rattle.parquet_meta.specs.declared.metadata.PhysicalType.TheVariants.{Int32}
 use Rattle.parquet_meta.specs.declared.metadata.Repetition.{Repetition}
 use Rattle.parquet_meta.specs.declared.metadata.Repetition.TheVariants.{Required}
 use Rattle.parquet_meta.specs.declared.page_header.DataPageHeader.{DataPageHeader}
-use Rattle.parquet_meta.specs.declared.page_header.DataPageHeader.TheVariants.{V1, V2}
+use Rattle.parquet_meta.specs.declared.page_header.DataPageHeader.TheVariants.{V1}
 use Rattle.parquet_page.specs.Content.{DataContent}
 use Rattle.parquet_scan.specs.Request.{Request, begins}
 
 -- ---- what is built
 
-abbrev is_int32_at : Layer → Bool
+abbrev pub is_int32_at : Layer → Bool
 is_int32_at DataType-F.Int32 = true
 is_int32_at _ = false
 
@@ -61,10 +61,6 @@ is_built_if_named fields column = not (list_any (λ (field : Field). begins fiel
 abbrev pub not_built : Request → List ColumnDescriptor → List Cause
 not_built request columns =
     unless (is_built_request request && list_all is_built_field request.fields && list_all (is_built_if_named request.fields) columns) NotYetImplemented
-
--- of pruning by pages, where it applies and some group counts
-abbrev pub not_built_pruning : Bool → List Cause
-not_built_pruning prunes = unless (not prunes) NotYetImplemented
 
 -- of a page of a dictionary
 abbrev pub not_built_dictionary : List Cause

@@ -1,9 +1,9 @@
 -- What may be asked of a file.
-use Rattle.std.specs.Prelude.{ℕ, int_le, Bool, true, false, not, ◌&&◌, nat_lt, List, [], ◌∷◌, length, map, find, Option, Some, None}
+use Rattle.std.specs.Prelude.{ℕ, int_le, Bool, true, false, not, ◌&&◌, nat_lt, List, [], ◌∷◌, length, find, Option, Some, None}
 use Rattle.std.specs.List.{list_all, list_any}
 use Rattle.std.specs.Option.{option_map_or}
 use Rattle.std.specs.Str.{bytes_eq}
-use Rattle.parquet_scan.specs.Types.{value_type, number_range, is_text, takes_bytes, is_ordered}
+use Rattle.columns_core.specs.Types.{value_type, number_range, is_text, takes_bytes, is_ordered}
 use Rattle.columns_core.specs.declared.data_type.DataType.{DataType}
 use Rattle.columns_core.specs.declared.data_type.Field.{Field}
 use Rattle.parquet_meta.specs.declared.metadata.ColumnDescriptor.{ColumnDescriptor}

@@ -1,5 +1,5 @@
 -- The rows of a file that statistics do not rule out, and those of them that a scan gives.
-use Rattle.std.specs.Prelude.{ℕ, ◌-◌, Bool, false, ◌&&◌, List, [], ◌∷◌, length, map, filter, take, zip, Option, Some, None, is_some, option_map, sum_by, nat_lt}
+use Rattle.std.specs.Prelude.{ℕ, ◌-◌, Bool, false, not, ◌&&◌, ◌||◌, List, [], ◌∷◌, length, map, filter, take, zip, Option, Some, None, is_some, option_map, sum_by, nat_lt}
 use Rattle.std.specs.List.{list_all, range_with_len}
 use Rattle.std.specs.Option.{option_map_or}
 use Rattle.parquet_base.specs.declared.interval.Interval.{Interval}
@@ -8,11 +8,12 @@ use Rattle.columns_core.specs.declared.data_type.Field.{Field}
 use Rattle.parquet_meta.specs.File.{footer}
 use Rattle.parquet_meta.specs.declared.metadata.ColumnChunkMetaData.{ColumnChunkMetaData}
 use Rattle.parquet_meta.specs.declared.metadata.FileMetaData.{FileMetaData}
+use Rattle.parquet_meta.specs.declared.metadata.PageLocation.{PageLocation}
 use Rattle.parquet_meta.specs.declared.metadata.RowGroupMetaData.{RowGroupMetaData}
 use Rattle.parquet_scan.specs.declared.bound.Bound.{Bound}
-use Rattle.parquet_scan.specs.Bound.{keeps}
+use Rattle.parquet_scan.specs.Bound.{ends_keep}
 use Rattle.parquet_scan.specs.Request.{Request, begins}
-use Rattle.parquet_scan.specs.declared.groups.KnownEnds.{KnownEnds}
+use Rattle.parquet_scan.specs.Pages.{locations, row_keeps}
 use Rattle.parquet_scan.specs.Statistics.{group_ends}
 
 -- bytes that have metadata
@@ -49,11 +50,11 @@ has_column_index group name = option_map_or (λ (column : ColumnChunkMetaData). 
 abbrev pub has_offset_index : RowGroupMetaData → List ℕ → Bool
 has_offset_index group name = option_map_or (λ (column : ColumnChunkMetaData). is_some column.offset_index) (column_named group name) false
 
--- ---- rows that are kept
+-- the locations of the pages of the column of this name
+abbrev pub field_locations : List ℕ → RowGroupMetaData → List ℕ → List PageLocation
+field_locations bytes group name = option_map_or (locations bytes) (column_named group name) []
 
--- the ends and the nulls of so many rows may belong to an item that meets the bound
-abbrev pub ends_keep : KnownEnds → ℕ → Bound → Bool
-ends_keep ends rows bound = keeps ends.low ends.high ends.nulls rows bound
+-- ---- rows that are kept
 
 -- a group may hold a row that meets the bound
 abbrev pub group_keeps : RowGroupMetaData → Bound → Bool
@@ -73,16 +74,24 @@ has_needed_indexes request group =
 abbrev pub prunes_pages : Request → List RowGroupMetaData → Bool
 prunes_pages request groups = nat_lt 0 (length request.bounds) && list_all (has_needed_indexes request) (filter (group_counts request) groups)
 
--- A row of a group is kept where the group counts. (Not yet: pruning by pages.)
-abbrev pub kept : Request → RowGroupMetaData → ℕ → Bool
-kept request group row = group_counts request group
+-- the page of the bounded column that holds the row may hold one that meets the bound
+abbrev pub bound_keeps : List ℕ → RowGroupMetaData → ℕ → Bound → Bool
+bound_keeps bytes group row bound = option_map_or (λ column. row_keeps bytes group bound column row) (column_named group bound.field) false
+
+-- Where rows are pruned by pages, each bound keeps the page that holds the row.
+abbrev pub pages_keep : Bool → List Bound → List ℕ → RowGroupMetaData → ℕ → Bool
+pages_keep by_pages bounds bytes group row = not by_pages || list_all (bound_keeps bytes group row) bounds
+
+-- A row of a group is kept where the group counts and its pages keep it.
+abbrev pub kept : Request → File → RowGroupMetaData → ℕ → Bool
+kept request file group row = group_counts request group && pages_keep (prunes_pages request (groups_of file)) request.bounds file.bytes group row
 
 -- the runs of kept rows of a group
-abbrev pub intervals : Request → RowGroupMetaData → List Interval
-intervals request group = maximal_runs (kept request group) group.num_rows
+abbrev pub intervals : Request → File → RowGroupMetaData → List Interval
+intervals request file group = maximal_runs (kept request file group) group.num_rows
 
-abbrev pub kept_rows : Request → RowGroupMetaData → List ℕ
-kept_rows request group = filter (kept request group) (range_with_len 0 group.num_rows)
+abbrev pub kept_rows : Request → File → RowGroupMetaData → List ℕ
+kept_rows request file group = filter (kept request file group) (range_with_len 0 group.num_rows)
 
 -- ---- rows that are given
 
@@ -94,7 +103,7 @@ first_rows (Some left) (rows ∷ groups) = take left rows ∷ first_rows (Some (
 
 -- the rows that a scan gives, by group: the first kept rows of the file
 abbrev pub given_rows : Request → File → List (List ℕ)
-given_rows request file = first_rows request.limit (map (kept_rows request) (groups_of file))
+given_rows request file = first_rows request.limit (map (kept_rows request file) (groups_of file))
 
 -- the groups, each with the rows that it gives
 abbrev pub given_groups : Request → File → List (RowGroupMetaData × List ℕ)

@@ -1,6 +1,5 @@
 -- What a scan answers.
-use Rattle.parquet_base.specs.Intervals.{maximal_runs}
-use Rattle.std.specs.Prelude.{ℕ, Bool, List, map, Option, IfSome}
+use Rattle.std.specs.Prelude.{ℕ, List, map, Option, IfSome}
 use Rattle.parquet_base.specs.declared.interval.Interval.{Interval}
 use Rattle.parquet_base.specs.Failures.{MayFail}
 use Rattle.columns_core.specs.Causes.{Cause, IsOneOf, cause_of}
@@ -25,11 +24,7 @@ abbrev pub kept_of : GroupKept → ℕ × List Interval
 kept_of group = (group.rows, group.intervals)
 
 abbrev pub kept_groups : Request → File → List (ℕ × List Interval)
-kept_groups request file = map (λ (group : RowGroupMetaData). (group.num_rows, intervals request group)) (groups_of file)
-
--- the rows of a group and all of them, if it counts
-abbrev pub kept_if : RowGroupMetaData × Bool → ℕ × List Interval
-kept_if group = ((group.0).num_rows, maximal_runs (λ row. group.1) (group.0).num_rows)
+kept_groups request file = map (λ (group : RowGroupMetaData). (group.num_rows, intervals request file group)) (groups_of file)
 
 -- An error of a call that reads a part of the file comes of a read that may fail or, where the source tells its bytes, of one
 -- of these causes. Want of memory may come at any time.

@@ -1,9 +1,10 @@
 //! Which row groups count.
 ghost use Rattle.std.specs.Prelude.{◌≡◌, ◌&&◌, [], OnOk, IfOk, length, map, zip, flat_map, option_copied};
-ghost use Rattle.std.specs.List.{list_all, list_any};
+ghost use Rattle.std.specs.List.{list_all};
 ghost use Rattle.columns_core.specs.Causes.{ComesOf};
+ghost use Rattle.parquet_scan.specs.Bound.{ends_keep as ends_keep_by};
 ghost use Rattle.parquet_scan.specs.Causes.{bounded_causes, bounded_causes_of_group, field_causes};
-ghost use Rattle.parquet_scan.specs.Counting.{has_indexes_for, has_indexes_if_counting as has_indexes_if_counting_by, pruning_causes};
+ghost use Rattle.parquet_scan.specs.Counting.{are_pruned as are_pruned_by, has_indexes_for, has_indexes_if_counting as has_indexes_if_counting_by};
 ghost use Rattle.parquet_scan.specs.Rows as spec;
 ghost use Rattle.parquet_scan.specs.Statistics as statistics;
 
@@ -16,9 +17,9 @@ use std::alloc::Global;
 /// The ends and the number of nulls of some rows, as far as they are known.
 #[derive(Drop)]
 pub(crate) struct KnownEnds {
-    low: Option<Scalar>,
-    high: Option<Scalar>,
-    nulls: Option<u64>,
+    pub(crate) low: Option<Scalar>,
+    pub(crate) high: Option<Scalar>,
+    pub(crate) nulls: Option<u64>,
 }
 
 /// Refuses a field whose name begins several columns, or one that is not flat.
@@ -110,8 +111,8 @@ fn group_keeps(alloc: Global, group: &RowGroupMetaData, bound: &Bound) -> Result
     }
 }
 
-fn ends_keep(ends: &KnownEnds, rows: u64, bound: &Bound) -> bool
-    ensures { result ≡ spec.ends_keep ends.now rows bound.now }
+pub(crate) fn ends_keep(ends: &KnownEnds, rows: u64, bound: &Bound) -> bool
+    ensures { result ≡ ends_keep_by ends.now rows bound.now }
 {
     keeps(
         ends.low.as_ref(),
@@ -142,7 +143,7 @@ fn group_ends(alloc: Global, column: &ColumnChunkMetaData) -> Result<KnownEnds, 
     }
 }
 
-fn scalar_of(number: Option<i32>) -> Option<Scalar>
+pub(crate) fn scalar_of(number: Option<i32>) -> Option<Scalar>
     ensures { result ≡ statistics.scalar_of number }
 {
     match number {
@@ -162,27 +163,17 @@ pub(crate) fn check_fields(columns: &[ColumnDescriptor], fields: &[Field]) -> Re
     Ok(())
 }
 
-/// Refuses pruning by pages, where it applies and some group counts.
-pub(crate) fn check_pruning(
+/// Whether rows are pruned by pages: there is a bound, and each group that counts has the indexes.
+pub(crate) fn are_pruned(
     groups: &[RowGroupMetaData],
     counts: &[bool],
     fields: &[Field],
     bounds: &[Bound],
-) -> Result<(), Error>
+) -> bool
     requires { length counts.now ≡ length groups.now }
-    ensures ok { OnOk result (pruning_causes bounds.now fields.now groups.now counts.now ≡ []) }
-    ensures cause { ComesOf result (pruning_causes bounds.now fields.now groups.now counts.now) }
+    ensures { result ≡ are_pruned_by bounds.now fields.now groups.now counts.now }
 {
-    if !bounds.is_empty() && have_indexes(groups, counts, fields, bounds) && some_counts(counts) {
-        return Err(Error::NotYetImplemented(Part::Index));
-    }
-    Ok(())
-}
-
-fn some_counts(counts: &[bool]) -> bool
-    ensures { result ≡ list_any (λ counts. counts) counts.now }
-{
-    counts.iter().any(|counts| *counts)
+    !bounds.is_empty() && have_indexes(groups, counts, fields, bounds)
 }
 
 /// Whether each group that counts has the indexes that pruning by pages needs.

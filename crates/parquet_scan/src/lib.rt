@@ -5,7 +5,13 @@ mod bound;
 mod built;
 mod column;
 mod groups;
+mod kept;
 pub mod laws;
+mod located;
+mod locations;
+mod page_ends;
+mod pruning;
+mod reading;
 mod request;
 mod scanning;
 

@@ -1,11 +1,12 @@
 //! What may be asked of a file.
-ghost use Rattle.std.specs.Prelude.{◌≡◌, option_copied, Some};
+ghost use Rattle.std.specs.Prelude.{◌≡◌, ◌<◌, true, get_or, length, option_copied, Some};
+ghost use Rattle.columns_core.specs.declared.data_type.Field.{Field as FieldValue};
 ghost use Rattle.std.specs.List.{list_all, list_any};
 ghost use Rattle.std.specs.Str.{bytes_eq};
 ghost use Rattle.parquet_scan.specs.declared.bound.Scalar.TheVariants as scalar;
 ghost use Rattle.parquet_scan.specs.Request as spec;
 ghost use Rattle.parquet_scan.specs.Scan.{request_of};
-ghost use Rattle.parquet_scan.specs.Types as types;
+ghost use Rattle.columns_core.specs.Types as types;
 
 use crate::{Bound, Scalar};
 use columns_core::{DataType, Field, Name, Schema};
@@ -128,6 +129,19 @@ fn field_of<'a>(bound: &Bound, fields: &'a [Field]) -> Option<&'a Field>
     ensures { option_copied result ≡ spec.field_of fields.now bound.now }
 {
     fields.iter().find(|field| bound.field == field.name)
+}
+
+/// Which field a legal bound names.
+pub(crate) fn place_of(bound: &Bound, fields: &[Field]) -> usize
+    requires legal { spec.is_legal_bound_of fields.now bound.now ≡ true }
+    ensures within { result < length fields.now }
+    ensures named { (field : FieldValue) → (get_or fields.now result field).name ≡ bound.now.field }
+{
+    let mut place = 0;
+    while bound.field != fields[place].name {
+        place += 1;
+    }
+    place
 }
 
 /// Of a dictionary type the type of its entries, and of any other the type itself.

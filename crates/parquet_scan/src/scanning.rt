@@ -1,24 +1,25 @@
 //! Scans.
-ghost use Rattle.std.specs.Prelude.{◌≡◌, ◌+◌, ◌-◌, ◌^◌, ◌≤◌, [], min, map, zip, length, Contains, IfOk, IfErr, IfSome, IsTrue, IsFalse, OnOk};
-ghost use Rattle.columns_core.specs.Causes.{ComesOf, IsWantOfMemory, cause_of, is_invalid_argument};
+ghost use Rattle.std.specs.Prelude.{◌≡◌, ◌+◌, ◌-◌, ◌^◌, ◌≤◌, [], Some, min, map, length, Contains, IfOk, IfErr, IfSome, IsTrue, IsFalse, OnOk, true};
+ghost use Rattle.std.specs.List.{list_all};
+ghost use Rattle.columns_core.specs.Causes.{ComesOf, cause_of, is_invalid_argument};
 ghost use Rattle.parquet_base.specs.Failures.{MayFail};
 ghost use Rattle.parquet_meta.specs.File.{footer};
-ghost use Rattle.parquet_base.specs.Intervals.{maximal_runs};
-ghost use Rattle.parquet_scan.specs.Causes.{causes, causes_of_column, causes_of_group, metadata_causes, IsValid};
-ghost use Rattle.parquet_scan.specs.Counting.{causes_if_read, causes_of_groups, int32_array};
-ghost use Rattle.parquet_scan.specs.Request.{is_legal as is_legal_by};
-ghost use Rattle.parquet_scan.specs.Rows.{group_counts};
-ghost use Rattle.parquet_scan.specs.Scan.{request_of, FailsBy, OnFile, kept_of, kept_groups as kept_by, kept_if};
+ghost use Rattle.parquet_scan.specs.Causes.{causes, metadata_causes, IsValid};
+ghost use Rattle.parquet_scan.specs.Cells.{columns_of, given_chunks};
+ghost use Rattle.parquet_scan.specs.Counting.{are_built, are_pruned as are_pruned_by, chunks_of_groups, kept_of_groups, rows_of_groups, scan_causes, shown};
+ghost use Rattle.parquet_scan.specs.Request.{is_legal as is_legal_by, is_legal_bound_of};
+ghost use Rattle.parquet_scan.specs.Rows.{given_count, group_counts};
+ghost use Rattle.parquet_scan.specs.Scan.{request_of, FailsBy, OnFile, kept_of, kept_groups as kept_by};
 
 use crate::Bound;
 use crate::built::check_built;
-use crate::column::{decode_pages, read_chunk};
-use crate::groups::{check_fields, check_pruning, column_named, counting_groups};
+use crate::groups::{are_pruned, check_fields, counting_groups};
+use crate::kept::kept_groups;
+use crate::reading::{RowsRead, read_groups};
 use crate::request::is_legal;
-use columns_core::{Array, Chunk, DataType, Error, Field, Part, PrimitiveArray, Schema, Seq};
-use parquet_base::{Interval, Steps, runs_of_all};
+use columns_core::{Chunk, Error, Field, Part, Schema, Seq};
+use parquet_base::{Interval, Steps};
 use parquet_meta::{FileMetaData, RowGroupMetaData, Source, read_metadata};
-use parquet_page::PageReader;
 use std::alloc::Global;
 use std::sync::ledger::Ledger;
 
@@ -63,6 +64,10 @@ pub fn scan_where<S: Source, L: Ledger>(
     // What it has: for each group the runs of the rows that are kept, whatever the limit.
     ensures kept { IfOk result (λ scan. OnFile (S.told source.old) (λ file.
         map kept_of scan.kept ≡ kept_by (request_of schema.now bounds.now chunk_size limit) file)) }
+    ensures chunks { IfOk result (λ scan. OnFile (S.told source.old) (λ file.
+        given_chunks (request_of schema.now bounds.now chunk_size limit) file ≡ Some (map columns_of scan.chunks))) }
+    ensures rows { IfOk result (λ scan. OnFile (S.told source.old) (λ file.
+        scan.rows ≡ given_count (request_of schema.now bounds.now chunk_size limit) file)) }
 
     // What it costs.
     ensures ticks { steps.old ≤ steps.new }
@@ -71,6 +76,9 @@ pub fn scan_where<S: Source, L: Ledger>(
     // An error comes only where its cause is among those of the file. Want of memory may come at any time.
     ensures argument { IfErr result (λ e. IsTrue (is_invalid_argument e) → IfSome (S.told source.old) (λ bytes.
         IsFalse (is_legal_by (request_of schema.now bounds.now chunk_size limit) (footer bytes)))) }
+    // What is wrong behind the footer is told of a legal request alone.
+    ensures legal_first { IfErr result (λ e. IfSome (cause_of e) (λ _. OnFile (S.told source.old) (λ file.
+        IsTrue (is_legal_by (request_of schema.now bounds.now chunk_size limit) (Some file.metadata))))) }
     ensures cause { IfErr result (λ e. IfSome (cause_of e) (λ cause. IfSome (S.told source.old) (λ bytes.
         Contains (causes (request_of schema.now bounds.now chunk_size limit) bytes) cause))) }
     ensures io { IfErr result (λ e. e ≡ Error.Io → MayFail (S.faults source.old) (S.faults source.new)) }
@@ -90,6 +98,7 @@ pub fn scan_where<S: Source, L: Ledger>(
         metadata.row_groups.as_slice(),
         &counts,
         schema.fields.as_slice(),
+        bounds,
         steps,
     )
 }
@@ -111,216 +120,47 @@ fn check_metadata(
     let fields = schema.fields.as_slice();
     check_built(columns, schema, bounds, chunk_size, limit)?;
     check_fields(columns, fields)?;
-    let counts = counting_groups(alloc, groups, bounds)?;
-    check_pruning(groups, &counts, fields, bounds)?;
-    Ok(counts)
+    counting_groups(alloc, groups, bounds)
 }
 
-/// What is kept of all groups and read of those that count.
+/// What is kept of all groups and read of them.
 fn scan_groups<S: Source, L: Ledger>(
     alloc: Global,
     source: &mut S,
     groups: &[RowGroupMetaData],
     counts: &[bool],
     fields: &[Field],
+    bounds: &[Bound],
     steps: &mut Steps<L>,
 ) -> Result<Scan, Error>
-    requires { length counts.now ≡ length groups.now }
+    requires lengths { length counts.now ≡ length groups.now }
+    requires legal { list_all (is_legal_bound_of fields.now) bounds.now ≡ true }
+    requires built { IsTrue (are_built fields.now) }
     ensures same { S.told source.new ≡ S.told source.old }
     ensures same_source { S.kept source.new ≡ S.kept source.old }
     ensures later { S.faults source.old ≤ S.faults source.new }
-    ensures ok { OnOk result (IfSome (S.told source.old) (λ bytes. causes_of_groups fields.now bytes groups.now counts.now ≡ [])) }
-    ensures fails { IfErr result (FailsBy (S.told source.old) (S.faults source.old) (S.faults source.new) (λ bytes. causes_of_groups fields.now bytes groups.now counts.now)) }
-    ensures kept { IfOk result (λ scan. map kept_of scan.kept ≡ map kept_if (zip groups.now counts.now)) }
+    ensures ok { OnOk result (IfSome (S.told source.old) (λ bytes. scan_causes (are_pruned_by bounds.now fields.now groups.now counts.now) fields.now bounds.now bytes groups.now counts.now ≡ [])) }
+    ensures fails { IfErr result (FailsBy (S.told source.old) (S.faults source.old) (S.faults source.new) (λ bytes. scan_causes (are_pruned_by bounds.now fields.now groups.now counts.now) fields.now bounds.now bytes groups.now counts.now)) }
+    ensures kept { IfOk result (λ scan. IfSome (S.told source.old) (λ bytes. scan.kept ≡ kept_of_groups (are_pruned_by bounds.now fields.now groups.now counts.now) bounds.now bytes groups.now counts.now)) }
+    ensures chunks { IfOk result (λ scan. IfSome (S.told source.old) (λ bytes. shown scan.chunks ≡ chunks_of_groups (are_pruned_by bounds.now fields.now groups.now counts.now) fields.now bytes groups.now (kept_of_groups (are_pruned_by bounds.now fields.now groups.now counts.now) bounds.now bytes groups.now counts.now))) }
+    ensures rows { IfOk result (λ scan. IfSome (S.told source.old) (λ bytes. scan.rows ≡ min (rows_of_groups (are_pruned_by bounds.now fields.now groups.now counts.now) groups.now (kept_of_groups (are_pruned_by bounds.now fields.now groups.now counts.now) bounds.now bytes groups.now counts.now)) (2 ^ 64 - 1))) }
     ensures ticks { steps.old ≤ steps.new }
     ensures pages { IfOk result (λ scan. scan.pages ≡ min (steps.new - steps.old) (2 ^ 64 - 1)) }
 {
-    let kept = kept_groups(alloc, groups, counts)?;
+    let by_pages = are_pruned(groups, counts, fields, bounds);
+    let kept = kept_groups(alloc, source, groups, counts, by_pages, fields, bounds)?;
     let mut read = RowsRead {
         chunks: Vec::new(alloc),
         rows: 0,
         pages: 0,
     };
-    read_groups(alloc, source, groups, counts, fields, &mut read, steps)?;
+    read_groups(
+        alloc, source, groups, &kept, by_pages, fields, &mut read, steps,
+    )?;
     Ok(Scan {
         rows: read.rows,
         kept: Seq::new(kept),
         chunks: Seq::new(read.chunks),
         pages: read.pages,
     })
-}
-
-/// Of each group its rows and, if it counts, the run of all of them.
-fn kept_groups(
-    alloc: Global,
-    groups: &[RowGroupMetaData],
-    counts: &[bool],
-) -> Result<Vec<GroupKept>, Error>
-    requires { length counts.now ≡ length groups.now }
-    ensures kept { IfOk result (λ kept. map kept_of kept.items ≡ map kept_if (zip groups.now counts.now)) }
-    ensures memory { IfErr result IsWantOfMemory }
-{
-    let mut kept = Vec::new(alloc);
-    for i in 0..groups.len() {
-        kept.push(kept_group(alloc, groups[i].num_rows, counts[i])?)?;
-    }
-    Ok(kept)
-}
-
-fn kept_group(alloc: Global, rows: usize, counts: bool) -> Result<GroupKept, Error>
-    ensures kept { IfOk result (λ kept. kept_of kept ≡ (rows, maximal_runs (λ row. counts) rows)) }
-    ensures memory { IfErr result IsWantOfMemory }
-{
-    if !counts {
-        return Ok(GroupKept {
-            rows,
-            intervals: Seq::new(Vec::new(alloc)),
-        });
-    }
-    let intervals = Seq::new(runs_of_all(alloc, &[], rows)?);
-    Ok(GroupKept { rows, intervals })
-}
-
-/// What was read so far.
-#[derive(Drop)]
-struct RowsRead {
-    chunks: Vec<Chunk>,
-    rows: usize,
-    pages: usize,
-}
-
-/// Reads the groups that count and have rows.
-fn read_groups<S: Source, L: Ledger>(
-    alloc: Global,
-    source: &mut S,
-    groups: &[RowGroupMetaData],
-    counts: &[bool],
-    fields: &[Field],
-    read: &mut RowsRead,
-    steps: &mut Steps<L>,
-) -> Result<(), Error>
-    requires { length counts.now ≡ length groups.now }
-    ensures same { S.told source.new ≡ S.told source.old }
-    ensures same_source { S.kept source.new ≡ S.kept source.old }
-    ensures later { S.faults source.old ≤ S.faults source.new }
-    ensures ok { OnOk result (IfSome (S.told source.old) (λ bytes. causes_of_groups fields.now bytes groups.now counts.now ≡ [])) }
-    ensures fails { IfErr result (FailsBy (S.told source.old) (S.faults source.old) (S.faults source.new) (λ bytes. causes_of_groups fields.now bytes groups.now counts.now)) }
-    ensures ticks { steps.old ≤ steps.new }
-    ensures pages { OnOk result (read.new.pages ≡ min (read.old.pages + (steps.new - steps.old)) (2 ^ 64 - 1)) }
-{
-    for i in 0..groups.len() {
-        read_if_counting(alloc, source, &groups[i], counts[i], fields, read, steps)?;
-    }
-    Ok(())
-}
-
-/// Reads a group, if it counts and has rows.
-fn read_if_counting<S: Source, L: Ledger>(
-    alloc: Global,
-    source: &mut S,
-    group: &RowGroupMetaData,
-    counts: bool,
-    fields: &[Field],
-    read: &mut RowsRead,
-    steps: &mut Steps<L>,
-) -> Result<(), Error>
-    ensures same { S.told source.new ≡ S.told source.old }
-    ensures same_source { S.kept source.new ≡ S.kept source.old }
-    ensures later { S.faults source.old ≤ S.faults source.new }
-    ensures ok { OnOk result (IfSome (S.told source.old) (λ bytes. causes_if_read fields.now bytes (group.now, counts) ≡ [])) }
-    ensures fails { IfErr result (FailsBy (S.told source.old) (S.faults source.old) (S.faults source.new) (λ bytes. causes_if_read fields.now bytes (group.now, counts))) }
-    ensures ticks { steps.old ≤ steps.new }
-    ensures pages { OnOk result (read.new.pages ≡ min (read.old.pages + (steps.new - steps.old)) (2 ^ 64 - 1)) }
-{
-    if counts && group.num_rows > 0 {
-        return read_group(alloc, source, group, fields, read, steps);
-    }
-    let _pages = read.pages;
-    Ok(())
-}
-
-/// Reads the columns of a group into a chunk.
-fn read_group<S: Source, L: Ledger>(
-    alloc: Global,
-    source: &mut S,
-    group: &RowGroupMetaData,
-    fields: &[Field],
-    read: &mut RowsRead,
-    steps: &mut Steps<L>,
-) -> Result<(), Error>
-    ensures same { S.told source.new ≡ S.told source.old }
-    ensures same_source { S.kept source.new ≡ S.kept source.old }
-    ensures later { S.faults source.old ≤ S.faults source.new }
-    ensures ok { OnOk result (IfSome (S.told source.old) (λ bytes. causes_of_group fields.now bytes group.now ≡ [])) }
-    ensures fails { IfErr result (FailsBy (S.told source.old) (S.faults source.old) (S.faults source.new) (λ bytes. causes_of_group fields.now bytes group.now)) }
-    ensures ticks { steps.old ≤ steps.new }
-    ensures pages { OnOk result (read.new.pages ≡ min (read.old.pages + (steps.new - steps.old)) (2 ^ 64 - 1)) }
-{
-    let mut arrays = Vec::new(alloc);
-    let mut pages: usize = 0;
-    for field in fields {
-        let (numbers, lent) = read_column(alloc, source, group, field, steps)?;
-        pages = pages.saturating_add(lent);
-        arrays.push(array_of(numbers)?)?;
-    }
-    add_chunk(read, arrays, group.num_rows, pages)
-}
-
-/// The array of numbers that are read as Int32.
-fn array_of(numbers: Vec<i32>) -> Result<Array, Error>
-    ensures array { IfOk result (λ array. array ≡ int32_array numbers.items) }
-    ensures memory { IfErr result IsWantOfMemory }
-{
-    match PrimitiveArray::try_new(DataType::Int32, numbers, None) {
-        Ok(array) => Ok(Array::Int32(array)),
-        Err(_) => Err(Error::OutOfMemory),
-    }
-}
-
-/// The numbers of a column in a group, and how many pages were lent.
-fn read_column<S: Source, L: Ledger>(
-    alloc: Global,
-    source: &mut S,
-    group: &RowGroupMetaData,
-    field: &Field,
-    steps: &mut Steps<L>,
-) -> Result<(Vec<i32>, usize), Error>
-    ensures same { S.told source.new ≡ S.told source.old }
-    ensures same_source { S.kept source.new ≡ S.kept source.old }
-    ensures later { S.faults source.old ≤ S.faults source.new }
-    ensures ok { OnOk result (IfSome (S.told source.old) (λ bytes. causes_of_column bytes group.now field.now ≡ [])) }
-    ensures fails { IfErr result (FailsBy (S.told source.old) (S.faults source.old) (S.faults source.new) (λ bytes. causes_of_column bytes group.now field.now)) }
-    ensures ticks { steps.old ≤ steps.new }
-    ensures pages { IfOk result (λ found. found.1 ≡ min (steps.new - steps.old) (2 ^ 64 - 1)) }
-{
-    let Some(column) = column_named(group, &field.name) else {
-        return Err(Error::ExternalFormat(Part::Group));
-    };
-    let bytes = read_chunk(alloc, source, group, column)?;
-    let mut reader = PageReader::new(alloc, bytes, column)?;
-    let mut numbers = Vec::new(alloc);
-    let pages = decode_pages(&mut reader, &mut numbers, steps)?;
-    Ok((numbers, pages))
-}
-
-/// Adds the chunk of a group, and how many pages were lent for it.
-fn add_chunk(
-    read: &mut RowsRead,
-    arrays: Vec<Array>,
-    rows: usize,
-    pages: usize,
-) -> Result<(), Error>
-    ensures pages { OnOk result (read.new.pages ≡ min (read.old.pages + pages) (2 ^ 64 - 1)) }
-    ensures memory { IfErr result IsWantOfMemory }
-{
-    let Some(all) = read.rows.checked_add(rows) else {
-        return Err(Error::OutOfMemory);
-    };
-    let Ok(chunk) = Chunk::try_new(arrays) else {
-        return Err(Error::OutOfMemory);
-    };
-    read.chunks.push(chunk)?;
-    read.rows = all;
-    read.pages = read.pages.saturating_add(pages);
-    Ok(())
 }

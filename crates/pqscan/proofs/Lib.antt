@@ -4,4 +4,5 @@ pub mod ItemLemmas
 pub mod Joined
 pub mod NumberLemmas
 pub mod ReportLemmas
+pub mod ScanLemmas
 pub mod SplitLemmas

@@ -68,6 +68,15 @@ pub(crate) fn push_signed(text: &mut Vec<u8>, number: i128) -> Result<(), AllocE
     Ok(())
 }
 
+/// Writes a number of 32 bits at the end.
+pub(crate) fn push_i32(text: &mut Vec<u8>, number: i32) -> Result<(), AllocError>
+    ensures { OnOk result (text.new.items ≡ text.old.items ++ signed_decimal number) }
+{
+    let mut buffer = Buffer::new();
+    text.extend_from_slice(buffer.format(number).as_bytes())?;
+    Ok(())
+}
+
 /// Writes a count at the end.
 pub(crate) fn push_unsigned(text: &mut Vec<u8>, number: usize) -> Result<(), AllocError>
     ensures { OnOk result (text.new.items ≡ text.old.items ++ decimal number) }

@@ -1,6 +1,7 @@
 //! Where the program's text goes.
 ghost use Rattle.std.specs.Prelude.{◌≡◌, ◌+◌, ◌-◌, ◌<◌, ◌≤◌, ℕ, List, Option, Some, None, [], length, take, true, IsTrue, IsFalse, IfOk, IfErr, OnOk, OnErr, MatchResult};
 ghost use Rattle.parquet_base.specs.Failures.{CountsFailures};
+ghost use Rattle.parquet_meta.specs.Source.{counted as counted_by};
 ghost use Rattle.pqscan.specs.Memory.{after_call, fails_next, is_full_for, with_fault, with_piece};
 ghost use Rattle.pqscan.specs.Written.{IsAppended, IsFrontAppended};
 
@@ -206,7 +207,14 @@ impl<R: Print + Drop> Sink for StdSink<R> {
 
     ghost faults = { λ sink. sink.faults };
 
-    fn write(&mut self, piece: &[u8]) -> Result<usize, Failed> {
+    fn write(&mut self, piece: &[u8]) -> Result<usize, Failed>
+        ensures at_most { IfOk result (λ n. n ≤ length piece.now) }
+        ensures some { IfOk result (λ n. 0 < length piece.now → 0 < n) }
+        ensures counted { CountsFailures self.old.faults self.new.faults result }
+
+        // A failure is counted once.
+        ensures exact { self.new.faults ≡ counted_by self.old.faults result }
+    {
         match self.rt.write_some(piece) {
             Ok(count) if count > 0 || piece.is_empty() => Ok(count),
             _ => {

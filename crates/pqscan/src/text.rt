@@ -12,7 +12,7 @@ ghost use Rattle.parquet_scan.specs.Scan.{kept_of};
 ghost use Rattle.pqscan.specs.CellText.{cell_text, hexadecimal, quoted_byte};
 ghost use Rattle.pqscan.specs.Report.{cell_at, chunk_lines, group_line, interval_text, intervals_text, report as report_by, row_line, summary_lines};
 
-use crate::number::{push_signed, push_unsigned};
+use crate::number::{push_i32, push_signed, push_unsigned};
 use columns_core::{Array, Cell, Chunk, Error, PrimitiveArray};
 use parquet_base::Interval;
 use parquet_scan::{GroupKept, Scan};
@@ -37,7 +37,7 @@ fn push_number(
             text.extend_from_slice(b"null")?;
             Ok(())
         }
-        Some(value) => push_signed(text, value as i128),
+        Some(value) => push_i32(text, value),
     }
 }
 

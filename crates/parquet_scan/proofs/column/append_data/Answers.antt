@@ -1,4 +1,4 @@
-use Rattle.std.proofs.Common.{◌≡◌, ◌∙◌, ap, sym, subst, [], true}
+use Rattle.std.proofs.Common.{◌≡◌, ◌∙◌, ap, sym, subst, true}
 use Rattle.columns_core.specs.Causes.{ComesOf}
 use Rattle.parquet_page.specs.Content.{data_content}
 use Rattle.parquet_scan.specs.Causes.{causes_of_data}

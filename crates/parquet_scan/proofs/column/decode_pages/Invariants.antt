@@ -1,10 +1,9 @@
-use Rattle.std.proofs.Common.{◌≡◌, ◌++◌, ◌-◌, ◌^◌, ◌≤◌, [], length, List}
-use Rattle.std.specs.Prelude.{min}
+use Rattle.std.proofs.Common.{◌≡◌, ◌+◌, ◌++◌, ◌-◌, ◌^◌, ◌≤◌, length}
+use Rattle.std.specs.Prelude.{min, sum_by}
 use Rattle.std.specs.List.{flat_map}
-use Rattle.columns_core.specs.declared.error.Error.{Error}
-use Rattle.parquet_scan.specs.Causes.{causes_of_page, opened_causes}
+use Rattle.parquet_page.specs.Content.{content_rows}
+use Rattle.parquet_scan.specs.Causes.{causes_of_page}
 use Rattle.parquet_scan.specs.Numbers.{all_numbers}
-use Rattle.parquet_scan.proofs.CauseLemmas.{TellsOf}
 use Rattle.parquet_scan.proofs.column.decode_pages.Given as goal
 
 -- What is wrong with the pages that are left is what is wrong with all.
@@ -15,6 +14,7 @@ invariant-loop-page g l =
     record {
       none : flat_map causes_of_page (to_come l.pages) ++ causes l.pages ≡ flat_map causes_of_page (to_come l.fn.pages) ++ causes l.fn.pages;
       numbers : l.numbers.items ++ all_numbers (to_come l.pages) ≡ l.fn.numbers.items ++ all_numbers (to_come l.fn.pages);
+      rows : length l.numbers.items + sum_by content_rows (to_come l.pages) ≡ length l.fn.numbers.items + sum_by content_rows (to_come l.fn.pages);
       later : l.fn.steps ≤ l.steps;
       count : l.count ≡ min (l.steps - l.fn.steps) (2 ^ 64 - 1);
     }

@@ -1,4 +1,4 @@
-use Rattle.std.proofs.Common.{◌≡◌, true, sym, ◌∙◌, subst, ℕ, Vec, Global}
+use Rattle.std.proofs.Common.{sym, ◌∙◌, subst, ℕ, Vec, Global}
 use Rattle.parquet_meta.specs.Places.{part_at}
 use Rattle.parquet_meta.specs.Source.{Finds}
 use Rattle.parquet_scan.proofs.ReadLemmas.{gives_chunk, fails_by}

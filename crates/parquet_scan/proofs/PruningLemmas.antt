@@ -1,0 +1,144 @@
+-- The runs of rows that bounds keep by their pages.
+use Rattle.std.proofs.Common.{◌≡◌, ℕ, zero, suc, ◌+◌, ◌<◌, ◌≤◌, Bool, true, false, cond, List, [], ◌∷◌, ◌++◌, length, map, drop, get_or, Option, Some, None, refl, sym, subst, ◌∙◌, ap, arith, inl, inr}
+use Rattle.std.specs.Prelude.{◌&&◌, ◌||◌, filter, find, zip, is_some, unwrap_or, IfSome}
+use Rattle.std.specs.List.{list_all}
+use Rattle.std.specs.Option.{option_map_or}
+use Rattle.std.proofs.lemmas.Bool.{and_parts, cases_lt, true≢false}
+use Rattle.std.proofs.lemmas.List.{drop_all, drop_more}
+use Rattle.columns_core.specs.Causes.{Cause, ExternalFormat}
+use Rattle.columns_core.specs.declared.data_type.Field.{Field}
+use Rattle.parquet_base.specs.Intervals.{covers, is_well_shaped, maximal_runs}
+use Rattle.parquet_base.specs.declared.interval.Interval.{Interval}
+use Rattle.parquet_base.proofs.SegmentLemmas.{covers-maximal_runs, same_runs}
+use Rattle.parquet_meta.specs.declared.metadata.ColumnChunkMetaData.{ColumnChunkMetaData}
+use Rattle.parquet_meta.specs.declared.metadata.PageLocation.{PageLocation}
+use Rattle.parquet_meta.specs.declared.metadata.RowGroupMetaData.{RowGroupMetaData}
+use Rattle.parquet_page.specs.Locations.{has_shape}
+use Rattle.parquet_scan.specs.declared.bound.Bound.{Bound}
+use Rattle.parquet_scan.specs.declared.groups.KnownEnds.{KnownEnds}
+use Rattle.parquet_scan.specs.Causes.{index_causes_of_bound, offset_causes_of_field}
+use Rattle.parquet_scan.specs.Pages.{column_index_causes, keeps_row, location_rows, locations, locations_causes, page_ends, row_keeps, rows_at}
+use Rattle.parquet_scan.specs.Request.{are_values_of, begins, bound_type, field_of, is_legal_bound_of}
+use Rattle.parquet_scan.specs.Rows.{bound_keeps, column_named, field_locations, is_named, only_one, pages_keep}
+use Rattle.parquet_scan.proofs.KeptLemmas.{runs_shaped}
+
+-- ---- the column of a name
+
+same_first : {X : Type 0} (a b : X) (as' bs : List X) → a ∷ as' ≡ b ∷ bs → a ≡ b
+same_first a b as' bs e = cc
+
+passes_or : {X : Type 0} (p : X → Bool) (first x : X) (rest ys : List X) (b : Bool) → p first ≡ b → (rest ≡ x ∷ ys → p x ≡ true) → cond b (first ∷ rest) rest ≡ x ∷ ys → p x ≡ true
+passes_or p first x rest ys true passes behind e = ap p (sym (same_first first x rest ys e)) ∙ passes
+passes_or p first x rest ys false passes behind e = behind e
+
+first_passes : {X : Type 0} (p : X → Bool) (xs ys : List X) (x : X) → filter p xs ≡ x ∷ ys → p x ≡ true
+first_passes p [] ys x e = absurd cc
+first_passes p (first ∷ xs) ys x e = passes_or p first x (filter p xs) ys (p first) refl (first_passes p xs ys x) e
+
+one_alone : {X : Type 0} (xs : List X) (x : X) → only_one xs ≡ Some x → xs ≡ x ∷ []
+one_alone [] x e = absurd cc
+one_alone (y ∷ []) x e = ap (λ o. unwrap_or o y ∷ []) e
+one_alone (y ∷ z ∷ xs) x e = absurd cc
+
+pub named_begins : (group : RowGroupMetaData) (name : List ℕ) (column : ColumnChunkMetaData) → column_named group name ≡ Some column → begins name column.descriptor ≡ true
+named_begins group name column e = first_passes (is_named name) group.columns [] column (one_alone (filter (is_named name) group.columns) column e)
+
+pub of_offset : (told : Option (List ℕ)) (group : RowGroupMetaData) (field : Field) (column : ColumnChunkMetaData) → column_named group field.name ≡ Some column
+    → IfSome told (λ bytes. offset_causes_of_field bytes group field ≡ locations_causes bytes group column)
+of_offset None group field column named = tt
+of_offset (Some bytes) group field column named = ap (λ o. option_map_or (locations_causes bytes group) o (ExternalFormat ∷ [])) named
+
+pub of_field : (told : Option (List ℕ)) (group : RowGroupMetaData) (name : List ℕ) (column : ColumnChunkMetaData) (list : List PageLocation) → column_named group name ≡ Some column
+    → IfSome told (λ bytes. locations bytes column ≡ list) → IfSome told (λ bytes. field_locations bytes group name ≡ list)
+of_field None group name column list named e = tt
+of_field (Some bytes) group name column list named e = ap (λ o. option_map_or (locations bytes) o []) named ∙ e
+
+at_column : (bytes : List ℕ) (group : RowGroupMetaData) (name : List ℕ) (column : ColumnChunkMetaData) (list : List PageLocation) → column_named group name ≡ Some column → field_locations bytes group name ≡ list → locations bytes column ≡ list
+at_column bytes group name column list named e = sym (ap (λ o. option_map_or (locations bytes) o []) named) ∙ e
+
+pub of_bound : (told : Option (List ℕ)) (group : RowGroupMetaData) (bound : Bound) (column : ColumnChunkMetaData) (list : List PageLocation) → column_named group bound.field ≡ Some column
+    → IfSome told (λ bytes. field_locations bytes group bound.field ≡ list) → IfSome told (λ bytes. index_causes_of_bound bytes group bound ≡ column_index_causes (length list) bytes column)
+of_bound None group bound column list named e = tt
+of_bound (Some bytes) group bound column list named e =
+    ap (λ o. option_map_or (λ column. column_index_causes (length (locations bytes column)) bytes column) o (ExternalFormat ∷ [])) named
+    ∙ ap (λ found. column_index_causes (length found) bytes column) (at_column bytes group bound.field column list named e)
+
+-- ---- the runs of a bound
+
+pub bound_runs : (told : Option (List ℕ)) (group : RowGroupMetaData) (bound : Bound) (column : ColumnChunkMetaData) (list : List PageLocation) (ends : List KnownEnds) (runs : List Interval) → column_named group bound.field ≡ Some column
+    → IfSome told (λ bytes. field_locations bytes group bound.field ≡ list) → IfSome told (λ bytes. page_ends bytes column ≡ ends)
+    → runs ≡ maximal_runs (keeps_row (rows_at list group.num_rows) ends bound) group.num_rows
+    → IfSome told (λ bytes. maximal_runs (λ row. bound_keeps bytes group row bound) group.num_rows ≡ runs)
+bound_runs None group bound column list ends runs named at are e = tt
+bound_runs (Some bytes) group bound column list ends runs named at are e =
+    ap (λ o. maximal_runs (λ row. option_map_or (λ column. row_keeps bytes group bound column row) o false) group.num_rows) named
+    ∙ (λ i. maximal_runs (keeps_row (rows_at (at_column bytes group bound.field column list named at i) group.num_rows) (are i) bound) group.num_rows) ∙ sym e
+
+-- ---- the runs of all bounds
+
+all_mapped : {X Y : Type 0} (p : Y → Bool) (f : X → Y) (xs : List X) → list_all (λ x. p (f x)) xs ≡ list_all p (map f xs)
+all_mapped p f [] = refl
+all_mapped p f (x ∷ xs) = ap (λ b. p (f x) && b) (all_mapped p f xs)
+
+all_agree : {X : Type 0} (p q : X → Bool) (xs : List X) → ((x : X) → p x ≡ q x) → list_all p xs ≡ list_all q xs
+all_agree p q [] same = refl
+all_agree p q (x ∷ xs) same = λ i. same x i && all_agree p q xs same i
+
+pub all_runs : {X : Type 0} (told : Option (List ℕ)) (group : RowGroupMetaData) (bounds : List Bound) (items : X → List Interval) (lists : List X) (runs : List Interval)
+    → IfSome told (λ bytes. map (λ bound. maximal_runs (λ row. bound_keeps bytes group row bound) group.num_rows) bounds ≡ map items lists)
+    → runs ≡ maximal_runs (λ row. list_all (λ list. covers (items list) row) lists) group.num_rows
+    → IfSome told (λ bytes. runs ≡ maximal_runs (pages_keep true bounds bytes group) group.num_rows)
+all_runs None group bounds items lists runs are e = tt
+all_runs (Some bytes) group bounds items lists runs are e =
+    e ∙ same_runs _ (pages_keep true bounds bytes group) group.num_rows (λ row low.
+    all_mapped (λ runs. covers runs row) items lists ∙ ap (list_all (λ runs. covers runs row)) (sym are)
+    ∙ sym (all_mapped (λ runs. covers runs row) (λ bound. maximal_runs (λ row. bound_keeps bytes group row bound) group.num_rows) bounds)
+    ∙ all_agree (λ bound. covers (maximal_runs (λ row. bound_keeps bytes group row bound) group.num_rows) row) (bound_keeps bytes group row) bounds
+    (λ bound. covers-maximal_runs (λ row. bound_keeps bytes group row bound) group.num_rows row low))
+
+pub shaped_from : (runs : List Interval) (test : ℕ → Bool) (rows : ℕ) → runs ≡ maximal_runs test rows → is_well_shaped runs rows ≡ true
+shaped_from runs test rows e = ap (λ found. is_well_shaped found rows) e ∙ runs_shaped test rows
+
+-- ---- items at a place
+
+pub all_at : {X : Type 0} (p : X → Bool) (xs : List X) (i : ℕ) (d : X) → list_all p xs ≡ true → i < length xs → p (get_or xs i d) ≡ true
+all_at p [] i d all h = absurd (omega (arith, h))
+all_at p (x ∷ xs) zero d all h = (and_parts (p x) (list_all p xs) all).0
+all_at p (x ∷ xs) (suc i) d all h = all_at p xs i d (and_parts (p x) (list_all p xs) all).1 (omega (arith, h))
+
+same_at : {X Y Z : Type 0} (f : X → Z) (g : Y → Z) (xs : List X) (ys : List Y) (i : ℕ) (d : X) (e : Y) → map f xs ≡ map g ys → i < length xs → i < length ys → f (get_or xs i d) ≡ g (get_or ys i e)
+same_at f g [] ys i d e same h k = absurd (omega (arith, h))
+same_at f g (x ∷ xs) [] i d e same h k = absurd (omega (arith, k))
+same_at {Z} f g (x ∷ xs) (y ∷ ys) zero d e same h k = first (f x) (g y) (map f xs) (map g ys) same where
+  first : (a b : Z) (as' bs : List Z) → a ∷ as' ≡ b ∷ bs → a ≡ b
+  first a b as' bs e = cc
+same_at {Z} f g (x ∷ xs) (y ∷ ys) (suc i) d e same h k = same_at f g xs ys i d e (rest (f x) (g y) (map f xs) (map g ys) same) (omega (arith, h)) (omega (arith, k)) where
+  rest : (a b : Z) (as' bs : List Z) → a ∷ as' ≡ b ∷ bs → as' ≡ bs
+  rest a b as' bs e = cc
+
+-- the locations of a bound's column stand at the place of its field
+pub locations_at : {X : Type 0} (told : Option (List ℕ)) (group : RowGroupMetaData) (fields : List Field) (items : X → List PageLocation) (lists : List X) (bound : Bound) (i : ℕ) (d : X)
+    → IfSome told (λ bytes. map (λ field. field_locations bytes group field.name) fields ≡ map items lists) → i < length fields → i < length lists → ((field : Field) → (get_or fields i field).name ≡ bound.field)
+    → IfSome told (λ bytes. field_locations bytes group bound.field ≡ items (get_or lists i d))
+locations_at None group fields items lists bound i d same h k named = tt
+locations_at (Some bytes) group [] items lists bound i d same h k named = absurd (omega (arith, h))
+locations_at (Some bytes) group (field ∷ fields) items lists bound i d same h k named =
+    ap (field_locations bytes group) (sym (named field)) ∙ same_at (λ (field : Field). field_locations bytes group field.name) items (field ∷ fields) lists i field d same h k
+
+-- ---- the field of a legal bound
+
+pub field_there : (fields : List Field) (bound : Bound) → is_legal_bound_of fields bound ≡ true → is_some (field_of fields bound) ≡ true
+field_there fields bound legal = by (field_of fields bound) legal where
+  by : (o : Option Field) → option_map_or (λ (field : Field). are_values_of (bound_type field) bound) o false ≡ true → is_some o ≡ true
+  by None legal = legal
+  by (Some field) legal = refl
+
+pub one_left_of : {X : Type 0} (test : X → Bool) (xs : List X) (i : ℕ) → is_some (find test (drop i xs)) ≡ true → i < length xs
+one_left_of test xs i there = elim (cases_lt i (length xs)) [
+  | inl within ↦ within
+  | inr past ↦ absurd (true≢false (sym there ∙ ap (λ left. is_some (find test left)) (drop_all i xs past)))
+]
+
+pub next_left : {X : Type 0} (test : X → Bool) (xs : List X) (i : ℕ) (d : X) → i < length xs → test (get_or xs i d) ≡ false → is_some (find test (drop i xs)) ≡ true → is_some (find test (drop (i + 1) xs)) ≡ true
+next_left test xs i d h fails there =
+    sym (ap (λ left. is_some (find test left)) (drop_more xs i d h) ∙ ap (λ b. is_some (cond b (Some (get_or xs i d)) (find test (drop (i + 1) xs)))) fails) ∙ there

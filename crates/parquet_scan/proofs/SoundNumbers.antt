@@ -1,0 +1,148 @@
+-- What is compared of a field of the type Int32 is a number: its items, the ends that are known of them, and those of its bounds.
+use Rattle.std.proofs.Common.{◌≡◌, ℕ, ℤ, ◌-◌, true, false, List, [], ◌∷◌, length, refl, ◌∙◌, sym, ap}
+use Rattle.std.specs.Prelude.{Option, Some, None, IfSome, ◌&&◌, find, option_and_then, option_map, slice_get, unwrap_or}
+use Rattle.std.specs.List.{AllByRecursion}
+use Rattle.std.specs.Option.{option_map_or}
+use Rattle.std.proofs.lemmas.Bool.{false≢true, and_parts, eqb-true}
+use Rattle.columns_core.specs.Causes.{ExternalFormat, NotYetImplemented, unless}
+use Rattle.columns_core.specs.declared.cell.Cell.{Cell}
+use Rattle.columns_core.specs.declared.data_type.DataType.{DataType, out-DataType}
+use Rattle.columns_core.specs.declared.data_type.DataType.TheOpen.{DataType-F}
+use Rattle.columns_core.specs.declared.data_type.Field.{Field}
+use Rattle.parquet_base.specs.Intervals.{holds}
+use Rattle.parquet_base.specs.Reading.{◌>>=◌}
+use Rattle.parquet_meta.specs.Indexes.{raw_index}
+use Rattle.parquet_meta.specs.Lists.{all_of}
+use Rattle.parquet_meta.specs.TypedStatistics.{is_carried, known_count}
+use Rattle.parquet_meta.specs.declared.metadata.ColumnChunkMetaData.{ColumnChunkMetaData}
+use Rattle.parquet_meta.specs.declared.metadata.Index.{Index}
+use Rattle.parquet_meta.specs.declared.metadata.Index.TheVariants as indexes
+use Rattle.parquet_meta.specs.declared.metadata.PageIndex.{PageIndex}
+use Rattle.parquet_meta.specs.declared.metadata.PrimitiveType.{PrimitiveType}
+use Rattle.parquet_meta.specs.declared.metadata.RawStatistics.{RawStatistics}
+use Rattle.parquet_meta.specs.declared.metadata.RawStatistics.TheVariants as raw
+use Rattle.parquet_meta.specs.declared.metadata.RowGroupMetaData.{RowGroupMetaData}
+use Rattle.parquet_page.specs.Chunk.{ChunkPage, PlacedPage}
+use Rattle.parquet_page.specs.Stored.{Stored, Number, Truth, Words, Octets}
+use Rattle.parquet_scan.specs.declared.bound.Bound.{Bound}
+use Rattle.parquet_scan.specs.declared.bound.Scalar.{Scalar}
+use Rattle.parquet_scan.specs.declared.groups.KnownEnds.{KnownEnds}
+use Rattle.parquet_scan.specs.Cells.{cell, item_at, item_in, item_of, page_values, rows_of, walked_item, walked_pages}
+use Rattle.parquet_scan.specs.NotBuilt.{is_built_field, is_int32_at}
+use Rattle.parquet_scan.specs.Pages.{column_ends, column_index_causes, ends_of_page, ends_of_pages, ends_with, has_count, locations, page_ends}
+use Rattle.parquet_scan.specs.Request.{are_values_of, bound_type, is_value_of}
+use Rattle.parquet_scan.specs.Rows.{column_named}
+use Rattle.parquet_scan.specs.Statistics.{group_ends, known, physical_type, scalar_of, typed}
+use Rattle.parquet_scan.specs.Truth.{items_of}
+use Rattle.columns_core.specs.Types.{Layer, is_ordered, value_type_at}
+use Rattle.parquet_scan.proofs.Exact.{IsItemIn, kind-of_value, kind_at}
+use Rattle.parquet_scan.proofs.FileLemmas.{passes}
+use Rattle.parquet_scan.proofs.Order.{kind}
+use Rattle.parquet_scan.proofs.SoundLists.{all_found, and_then_all, nothing_next}
+
+abbrev pub IsNumber : Scalar → Type 0
+IsNumber value = kind value ≡ 0
+
+pub both_numbers : (a b : Scalar) → IsNumber a → IsNumber b → kind a ≡ kind b
+both_numbers a b x y = x ∙ sym y
+
+-- ---- items
+
+-- null, or a number
+abbrev pub IsItem : Cell → Type 0
+IsItem item = IsItemIn IsNumber item
+
+item_number : (value : Option Stored) → IfSome (item_of value) IsItem
+item_number None = refl
+item_number (Some (Number n)) = refl
+item_number (Some (Truth b)) = tt
+item_number (Some (Words low high day)) = tt
+item_number (Some (Octets bytes)) = tt
+
+at_number : (type : PrimitiveType) (place : ℕ) (page : ChunkPage) → IfSome (item_at type place page) IsItem
+at_number type place page =
+    and_then_all (page_values type page) (λ values. option_and_then item_of (slice_get values place)) IsItem (λ values. and_then_all (slice_get values place) item_of IsItem item_number)
+
+cell_number : (bytes : List ℕ) (group : RowGroupMetaData) (field : Field) (row : ℕ) → IfSome (cell bytes group field row) IsItem
+cell_number bytes group field row =
+    and_then_all (column_named group field.name) (λ column. walked_item bytes group column row) IsItem (λ column.
+    let type = column.descriptor.primitive_type in
+    and_then_all (find (λ (placed : PlacedPage). holds (rows_of placed) row) (walked_pages bytes group column)) (item_in type row) IsItem (λ placed. at_number type (row - placed.first_row) placed.page))
+
+pub items_are_numbers : (bytes : List ℕ) (group : RowGroupMetaData) (field : Field) (rows : List ℕ) → AllByRecursion IsItem (items_of bytes group field rows)
+items_are_numbers bytes group field rows = all_found IsItem (cell bytes group field) (cell_number bytes group field) rows
+
+-- ---- the ends of groups and pages
+
+abbrev pub AreNumbers : KnownEnds → Type 0
+AreNumbers ends = IfSome ends.low IsNumber × IfSome ends.high IsNumber
+
+end_number : (end : Option ℤ) → IfSome (scalar_of end) IsNumber
+end_number None = tt
+end_number (Some n) = refl
+
+known_numbers : (statistics : Option (Option RawStatistics)) → AreNumbers (known statistics)
+known_numbers (Some (Some (raw.Int32 ends))) = (end_number ends.min_value, end_number ends.max_value)
+known_numbers _ = (tt, tt)
+
+pub group_ends_are_numbers : (column : ColumnChunkMetaData) → AreNumbers (group_ends column)
+group_ends_are_numbers column = known_numbers (typed column)
+
+page_numbers : (page : PageIndex ℤ) (nulls : Option (Option ℕ)) → IfSome (option_map (ends_with page) nulls) AreNumbers
+page_numbers page None = tt
+page_numbers page (Some nulls) = (end_number page.min, end_number page.max)
+
+each_of : {A B : Type 0} (value : A → Option B) (P : B → Type 0) → ((x : A) → IfSome (value x) P) → (xs : List A) → IfSome (all_of value xs) (AllByRecursion P)
+unfolding all_of
+each_of value P each [] = tt
+each_of {B} value P each (x ∷ xs) = both (value x) (all_of value xs) (each x) (each_of value P each xs) where
+  both : (o : Option B) (others : Option (List B)) → IfSome o P → IfSome others (AllByRecursion P) → IfSome (o >>= λ first. others >>= λ rest. Some (first ∷ rest)) (AllByRecursion P)
+  both None others here there = tt
+  both (Some first) None here there = tt
+  both (Some first) (Some rest) here there = (here, there)
+
+index_numbers : (index : Index) → IfSome (ends_of_pages index) (AllByRecursion AreNumbers)
+index_numbers (indexes.Int32 pages) = each_of ends_of_page AreNumbers (λ page. page_numbers page (known_count page.null_count)) pages
+index_numbers _ = tt
+
+or_none : (ends : Option (List KnownEnds)) → IfSome ends (AllByRecursion AreNumbers) → AllByRecursion AreNumbers (unwrap_or ends [])
+or_none None numbers = tt
+or_none (Some ends) numbers = numbers
+
+pub page_ends_are_numbers : (bytes : List ℕ) (column : ColumnChunkMetaData) → AllByRecursion AreNumbers (page_ends bytes column)
+page_ends_are_numbers bytes column = or_none (column_ends bytes column) (and_then_all (raw_index bytes column) ends_of_pages (AllByRecursion AreNumbers) index_numbers)
+
+-- an index without a cause tells of each location
+counted : (count : ℕ) (ends : Option (List KnownEnds)) → option_map_or (has_count count) ends false ≡ true → length (unwrap_or ends []) ≡ count
+counted count None fits = absurd (false≢true fits)
+counted count (Some ends) fits = eqb-true (length ends) count fits
+
+pub tells_of_locations : (bytes : List ℕ) (column : ColumnChunkMetaData) → column_index_causes (length (locations bytes column)) bytes column ≡ [] → length (page_ends bytes column) ≡ length (locations bytes column)
+tells_of_locations bytes column none =
+    counted (length (locations bytes column)) (column_ends bytes column)
+    (passes _ ExternalFormat (nothing_next (unless (is_carried (physical_type column)) NotYetImplemented) _ none))
+
+-- ---- bounds
+
+own_type : (data_type : DataType) (layer : Layer) → is_int32_at layer ≡ true → value_type_at data_type layer ≡ data_type
+own_type data_type DataType-F.Int32 built = refl
+own_type data_type _ built = absurd (false≢true built)
+
+number_type : (layer : Layer) → is_int32_at layer ≡ true → kind_at layer ≡ 0
+number_type DataType-F.Int32 built = refl
+number_type _ built = absurd (false≢true built)
+
+value_number : (field : Field) → is_built_field field ≡ true → (value : Scalar) → is_value_of (bound_type field) value ≡ true → IsNumber value
+value_number field built value of_type =
+    let own = own_type field.data_type (out-DataType field.data_type) built in
+    kind-of_value field.data_type value (sym (ap (λ data_type. is_value_of data_type value) own) ∙ of_type) ∙ number_type (out-DataType field.data_type) built
+
+bound_number : (field : Field) → is_built_field field ≡ true → (end : Option Scalar) → option_map_or (is_value_of (bound_type field)) end true ≡ true → IfSome end IsNumber
+bound_number field built None of_type = tt
+bound_number field built (Some value) of_type = value_number field built value of_type
+
+pub bound_is_numbers : (field : Field) (bound : Bound) → is_built_field field ≡ true → are_values_of (bound_type field) bound ≡ true → IfSome bound.low IsNumber × IfSome bound.high IsNumber
+bound_is_numbers field bound built legal =
+    let high = and_parts (is_ordered (bound_type field) && option_map_or (is_value_of (bound_type field)) bound.low true) (option_map_or (is_value_of (bound_type field)) bound.high true) legal in
+    let low = and_parts (is_ordered (bound_type field)) (option_map_or (is_value_of (bound_type field)) bound.low true) high.0 in
+    (bound_number field built bound.low low.1, bound_number field built bound.high high.1)

@@ -1,0 +1,61 @@
+use Rattle.std.specs.Prelude.{IfSome}
+use Rattle.std.proofs.Common.{rules, ◌≡◌, ◌∙◌, ◌++◌, ◌+◌, ap, sym, drop, arith, subst, List, [], ℕ, Option, Bool, false, get_or, refl}
+use Rattle.parquet_meta.specs.declared.metadata.RowGroupMetaData.{RowGroupMetaData}
+use Rattle.std.proofs.lemmas.Result.{err_from_is_err_and}
+use Rattle.parquet_scan.specs.Counting.{are_shaped, index_causes_if, index_causes_of_groups, is_shaped, kept_if, kept_of_groups}
+use Rattle.parquet_scan.specs.declared.scanning.GroupKept.{GroupKept}
+use Rattle.parquet_scan.proofs.PairLemmas.{all_more, map_pair, none_beside, none_pair}
+use Rattle.parquet_scan.specs.Scan.{FailsBy}
+use Rattle.parquet_scan.proofs.ScanLemmas.{fails_more, in_pair}
+use Rattle.parquet_scan.proofs.kept.kept_groups.Goals as goal
+
+pub returns-in_err-kept_group-clause-fails : goal.returns-in_err-kept_group-clause-fails
+returns-in_err-kept_group-clause-fails g c =
+    let p = err_from_is_err_and c.from_residual.result c.from_residual.ensures.1 in
+    let before = g.S.Source.faults c.args.source.now in
+    let mid = g.S.Source.faults c.loop-i.source in
+    let now = g.S.Source.faults c.kept_group.new.source in
+    let counts = get_or c.args.counts.now c.loop-i.i false in
+    let group : RowGroupMetaData × Bool = (c.index-groups-i.result, counts) in
+    rw (p.1, p.2) (fails_more (g.S.Source.told c.args.source.now) before mid now
+    (λ bytes. index_causes_if c.args.by_pages c.args.fields.now c.args.bounds.now bytes group) (λ bytes. index_causes_of_groups c.args.by_pages c.args.fields.now c.args.bounds.now bytes c.args.groups.now c.args.counts.now)
+    c.in_err-kept_group.field-0.0 c.loop-i.invariant.later
+    (in_pair (g.S.Source.told c.args.source.now) (index_causes_if c.args.by_pages c.args.fields.now c.args.bounds.now) c.args.groups.now c.args.counts.now c.loop-i.i c.index-groups-i.result counts false (omega arith) (omega arith) c.index-groups-i.is refl)
+    (subst (λ (told : Option (List ℕ)). FailsBy told mid now (λ bytes. index_causes_if c.args.by_pages c.args.fields.now c.args.bounds.now bytes group) c.in_err-kept_group.field-0.0) c.loop-i.invariant.same c.in_err-kept_group.ensures.fails))
+
+pub loop-i-init : goal.loop-i-init
+loop-i-init g c = record {
+  same = search rules;
+  same_source = search rules;
+  later = search rules;
+  none = search rules;
+  kept = search rules;
+  count = search rules;
+  shaped = ap (are_shaped c.args.groups.now) c.new-kept.ensures.items ∙ none_beside is_shaped c.args.groups.now;
+}
+
+pub loop-i-preserved : goal.loop-i-preserved
+loop-i-preserved g c =
+    let told = g.S.Source.told c.args.source.now in
+    let by_pages = c.args.by_pages in
+    let bounds = c.args.bounds.now in
+    let groups = c.args.groups.now in
+    let counts = c.args.counts.now in
+    let i = c.loop-i.i in
+    let group = c.index-groups-i.result in
+    let count = get_or counts i false in
+    let kept = c.in_ok-kept_group.field-0 in
+    let own = subst (λ (told : Option (List ℕ)). IfSome told (λ bytes. index_causes_if by_pages c.args.fields.now bounds bytes (group, count) ≡ [])) c.loop-i.invariant.same c.in_ok-kept_group.ensures.ok in
+    let is = subst (λ (told : Option (List ℕ)). IfSome told (λ bytes. kept ≡ kept_if by_pages bounds bytes (group, count))) c.loop-i.invariant.same c.in_ok-kept_group.ensures.kept in
+    record {
+      same = search rules;
+      same_source = search rules;
+      later = search rules;
+      none = none_pair told (index_causes_if by_pages c.args.fields.now bounds) groups counts i group count false c.loop-i-test.true (omega arith) c.index-groups-i.is refl c.loop-i.invariant.none own;
+      kept = subst (λ (items : List GroupKept). IfSome told (λ bytes. kept_of_groups by_pages bounds bytes groups counts ≡ items ++ kept_of_groups by_pages bounds bytes (drop (i + 1) groups) (drop (i + 1) counts)))
+          (sym c.in_ok-push.ensures.items)
+          (map_pair told (kept_if by_pages bounds) groups counts i group count false c.loop-i.kept.items kept c.loop-i-test.true (omega arith) c.index-groups-i.is refl c.loop-i.invariant.kept is);
+      count = search rules;
+      shaped = ap (are_shaped groups) c.in_ok-push.ensures.items
+          ∙ all_more is_shaped groups c.loop-i.kept.items i group kept c.loop-i.invariant.shaped c.loop-i.invariant.count c.loop-i-test.true c.index-groups-i.is c.in_ok-kept_group.ensures.shaped;
+    }

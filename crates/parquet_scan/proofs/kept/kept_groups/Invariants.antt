@@ -1,0 +1,20 @@
+use Rattle.std.proofs.Common.{◌≡◌, ◌≤◌, ◌++◌, drop, length, true}
+use Rattle.std.specs.Prelude.{IfSome}
+use Rattle.parquet_scan.specs.Counting.{are_shaped, index_causes_of_groups, kept_of_groups}
+use Rattle.parquet_scan.proofs.kept.kept_groups.Given as goal
+
+-- the groups so far stand in front of those that are left, and none of them has a cause
+abbrev pub invariant-loop-i : goal.invariant-loop-i
+invariant-loop-i g l =
+    let source = g.S.Source in
+    record {
+      same : source.told l.source ≡ source.told l.fn.source;
+      same_source : source.kept l.source ≡ source.kept l.fn.source;
+      later : source.faults l.fn.source ≤ source.faults l.source;
+      none : IfSome (source.told l.fn.source) (λ bytes.
+          index_causes_of_groups l.by_pages l.fields l.bounds bytes l.groups l.counts ≡ index_causes_of_groups l.by_pages l.fields l.bounds bytes (drop l.i l.groups) (drop l.i l.counts));
+      kept : IfSome (source.told l.fn.source) (λ bytes.
+          kept_of_groups l.by_pages l.bounds bytes l.groups l.counts ≡ l.kept.items ++ kept_of_groups l.by_pages l.bounds bytes (drop l.i l.groups) (drop l.i l.counts));
+      count : length l.kept.items ≡ l.i;
+      shaped : are_shaped l.groups l.kept.items ≡ true;
+    }

@@ -1,0 +1,251 @@
+use Rattle.std.proofs.Common.{◌≡◌, ◌∙◌, ◌<◌, ◌≤◌, Bool, List, ◌∷◌, ℕ, ℤ, suc, not, Some, true, false, [], length, map, ap, sym, subst, arith, refl, Vec, Global}
+use Rattle.std.specs.Prelude.{◌==◌, vec_len, Option, IfSome, filter, flat_map, OnOk}
+use Rattle.std.proofs.lemmas.Bool.{eq-eqb, eqb-true, true≢false}
+use Rattle.std.proofs.lemmas.List.{length-map}
+use Rattle.std.proofs.lemmas.Result.{err_from_is_err_and}
+use Rattle.columns_core.specs.Causes.{Cause}
+use Rattle.columns_core.specs.declared.cell.Cell.{Int}
+use Rattle.parquet_base.specs.Intervals.{is_well_shaped, rows_of}
+use Rattle.columns_core.specs.Refusals.{Refuses}
+use Rattle.parquet_page.specs.Lent.{is_wanted, located_parts}
+use Rattle.parquet_page.specs.Locations.{selected_pages}
+use Rattle.parquet_page.specs.declared.page.FilteredPage.{FilteredPage}
+use Rattle.parquet_scan.specs.Causes.{causes_of_chunk, opened_causes}
+use Rattle.parquet_scan.specs.Cells.{located_item}
+use Rattle.parquet_scan.specs.Column.{chunk_read_causes}
+use Rattle.parquet_scan.specs.Located.{entry_causes, entry_part, part_in, place_before}
+use Rattle.parquet_scan.specs.Pages.{locations, locations_causes}
+use Rattle.parquet_scan.specs.Scan.{FailsBy}
+use Rattle.parquet_scan.proofs.LocationLemmas.{selection_fails}
+use Rattle.parquet_scan.proofs.OpenedLemmas.{IsSelected, before_causes, before_in, bodies_in, decode_none, decode_within, entries_shaped, locations_in, opened_by, read_in, selected_total, told_causes, told_located, told_parts, within_opened}
+use Rattle.parquet_scan.proofs.PageLemmas.{both_ok, if_err, if_ok, on_ok}
+use Rattle.parquet_scan.proofs.ScanLemmas.{fails_by_memory, fails_more, fails_within}
+use Rattle.parquet_scan.proofs.located.read_located.Goals as goal
+
+-- a page is wanted where a part of one was read
+wanted_some : {X : Type 0} (wanted : Bool) (bodies : List X) (pages : List FilteredPage) → wanted ≡ not (length bodies == 0) → length bodies ≡ length (filter is_wanted pages) → wanted ≡ true → 0 < length (filter is_wanted pages)
+wanted_some wanted [] pages is count yes_wanted = absurd (true≢false (sym yes_wanted ∙ is))
+wanted_some wanted (body ∷ bodies) pages is count yes_wanted = omega (arith, count)
+
+some_wanted : {X : Type 0} (wanted : Bool) (bodies : List X) (pages : List FilteredPage) → wanted ≡ not (length bodies == 0) → length bodies ≡ length (filter is_wanted pages) → 0 < length (filter is_wanted pages) → wanted ≡ true
+some_wanted wanted [] pages is count some = absurd (omega (arith, count, some))
+some_wanted wanted (body ∷ bodies) pages is count some = is ∙ ap not (by (length (body ∷ bodies) == 0) refl) where
+  not_none : (n : ℕ) → (suc n == 0) ≡ true → ⊥
+  not_none n e = let same : suc n ≡ 0 = eqb-true (suc n) 0 e in omega (arith, same)
+
+  by : (b : Bool) → (length (body ∷ bodies) == 0) ≡ b → (length (body ∷ bodies) == 0) ≡ false
+  by true e = absurd (not_none (length bodies) e)
+  by false e = e
+
+pub returns-in_err-chunk-clause-fails : goal.returns-in_err-chunk-clause-fails
+returns-in_err-chunk-clause-fails g c =
+    let p = err_from_is_err_and c.from_residual.result c.from_residual.ensures.1 in
+    let told = g.S.Source.told c.args.source.now in
+    let start = g.S.Source.faults c.args.source.now in
+    let group = c.args.group.now in
+    let column = c.args.column.now in
+    let intervals = c.args.intervals.now in
+    let whole : List ℕ → List Cause = λ bytes. causes_of_chunk true bytes group (rows_of intervals) column in
+    rw (p.1, p.2) (fails_more told start start (g.S.Source.faults c.place_of_chunk.new.source) (λ bytes. chunk_read_causes bytes group column) whole c.in_err-chunk.field-0.0 (omega arith)
+    (read_in told group column (rows_of intervals)) c.in_err-chunk.ensures.fails)
+
+pub returns-in_err-locations-clause-fails : goal.returns-in_err-locations-clause-fails
+returns-in_err-locations-clause-fails g c =
+    let p = err_from_is_err_and c.from_residual-in_err-locations.result c.from_residual-in_err-locations.ensures.1 in
+    let told = g.S.Source.told c.args.source.now in
+    let start = g.S.Source.faults c.args.source.now in
+    let group = c.args.group.now in
+    let column = c.args.column.now in
+    let intervals = c.args.intervals.now in
+    let whole : List ℕ → List Cause = λ bytes. causes_of_chunk true bytes group (rows_of intervals) column in
+    let mid = g.S.Source.faults c.place_of_chunk.new.source in
+    let now = g.S.Source.faults c.read_locations.new.source in
+    let fails = subst (λ (told : Option (List ℕ)). FailsBy told mid now (λ bytes. locations_causes bytes group column) c.in_err-locations.field-0.0) c.in_ok-chunk.ensures.same c.in_err-locations.ensures.fails in
+    rw (p.1, p.2) (fails_more told start mid now (λ bytes. locations_causes bytes group column) whole c.in_err-locations.field-0.0 c.in_ok-chunk.ensures.later
+    (locations_in told group column (rows_of intervals) c.in_ok-chunk.chunk c.in_ok-chunk.ensures.readable c.in_ok-chunk.ensures.place) fails)
+
+pub returns-in_err-pages-clause-fails : goal.returns-in_err-pages-clause-fails
+returns-in_err-pages-clause-fails g c =
+    let p = err_from_is_err_and c.from_residual-in_err-pages.result c.from_residual-in_err-pages.ensures.1 in
+    let told = g.S.Source.told c.args.source.now in
+    let start = g.S.Source.faults c.args.source.now in
+    let group = c.args.group.now in
+    let column = c.args.column.now in
+    let intervals = c.args.intervals.now in
+    let whole : List ℕ → List Cause = λ bytes. causes_of_chunk true bytes group (rows_of intervals) column in
+    let refuses = subst (λ found. Refuses (is_well_shaped intervals group.num_rows) (selected_pages intervals found group.num_rows) c.in_err-pages.field-0.0) c.deref.ensures.value c.in_err-pages.ensures.refusal in
+    rw (p.1, p.2) (fails_by_memory told start (g.S.Source.faults c.read_locations.new.source) whole c.in_err-pages.field-0.0
+    (selection_fails intervals c.in_ok-locations.locations.items group.num_rows c.in_err-pages.field-0.0 c.in_ok-locations.ensures.shaped c.requires.shaped refuses))
+
+pub returns-in_err-bodies-clause-fails : goal.returns-in_err-bodies-clause-fails
+returns-in_err-bodies-clause-fails g c =
+    let p = err_from_is_err_and c.from_residual-in_err-bodies.result c.from_residual-in_err-bodies.ensures.1 in
+    let told = g.S.Source.told c.args.source.now in
+    let start = g.S.Source.faults c.args.source.now in
+    let group = c.args.group.now in
+    let column = c.args.column.now in
+    let intervals = c.args.intervals.now in
+    let whole : List ℕ → List Cause = λ bytes. causes_of_chunk true bytes group (rows_of intervals) column in
+    let chunk = c.in_ok-chunk.chunk in
+    let at = subst (λ (told : Option (List ℕ)). IfSome told (λ bytes. locations bytes column ≡ c.in_ok-locations.locations.items)) c.in_ok-chunk.ensures.same c.in_ok-locations.ensures.locations in
+    let list = c.in_ok-locations.locations.items in
+    let entries = c.in_ok-pages.pages.items in
+    let selected : IsSelected group intervals list entries = record { shape = c.in_ok-locations.ensures.shaped; are = ap (λ found. selected_pages intervals found group.num_rows) (sym c.deref.ensures.value) ∙ c.in_ok-pages.ensures.pages } in
+    let opened = told_causes group column intervals chunk list entries selected told c.in_ok-chunk.ensures.readable c.in_ok-chunk.ensures.place at in
+    let mid = g.S.Source.faults c.read_locations.new.source in
+    let now = g.S.Source.faults c.read_bodies.new.source in
+    let part : List FilteredPage → List ℕ → List Cause = λ entries bytes. flat_map (entry_causes bytes chunk) (filter is_wanted entries) in
+    let fails = subst (λ (told : Option (List ℕ)). FailsBy told mid now (part entries) c.in_err-bodies.field-0.0) (c.in_ok-locations.ensures.same ∙ c.in_ok-chunk.ensures.same)
+    (subst (λ entries. FailsBy (g.S.Source.told c.read_locations.new.source) mid now (part entries) c.in_err-bodies.field-0.0) c.deref-2.ensures.value c.in_err-bodies.ensures.fails) in
+    rw (p.1, p.2) (fails_more told start mid now (part entries) whole c.in_err-bodies.field-0.0 (omega (arith, c.in_ok-chunk.ensures.later, c.in_ok-locations.ensures.later))
+    (within_opened told whole (λ bytes. opened_by bytes column.descriptor.primitive_type chunk entries) (part entries) opened (λ bytes. bodies_in bytes column.descriptor.primitive_type chunk entries)) fails)
+
+pub returns-in_err-before-clause-fails : goal.returns-in_err-before-clause-fails
+returns-in_err-before-clause-fails g c =
+    let p = err_from_is_err_and c.from_residual-in_err-before.result c.from_residual-in_err-before.ensures.1 in
+    let told = g.S.Source.told c.args.source.now in
+    let start = g.S.Source.faults c.args.source.now in
+    let group = c.args.group.now in
+    let column = c.args.column.now in
+    let type = column.descriptor.primitive_type in
+    let intervals = c.args.intervals.now in
+    let whole : List ℕ → List Cause = λ bytes. causes_of_chunk true bytes group (rows_of intervals) column in
+    let chunk = c.in_ok-chunk.chunk in
+    let at = subst (λ (told : Option (List ℕ)). IfSome told (λ bytes. locations bytes column ≡ c.in_ok-locations.locations.items)) c.in_ok-chunk.ensures.same c.in_ok-locations.ensures.locations in
+    let list = c.in_ok-locations.locations.items in
+    let entries = c.in_ok-pages.pages.items in
+    let selected : IsSelected group intervals list entries = record { shape = c.in_ok-locations.ensures.shaped; are = ap (λ found. selected_pages intervals found group.num_rows) (sym c.deref.ensures.value) ∙ c.in_ok-pages.ensures.pages } in
+    let opened = told_causes group column intervals chunk list entries selected told c.in_ok-chunk.ensures.readable c.in_ok-chunk.ensures.place at in
+    let count = c.in_ok-bodies.ensures.length ∙ ap (λ pages. length (filter is_wanted pages)) c.deref-2.ensures.value in
+    let wanted = not c.is_empty.result in
+    let long : vec_len c.in_ok-bodies.bodies ≡ length c.in_ok-bodies.bodies.items = omega arith in
+    let wanted_is : not c.is_empty.result ≡ not (length c.in_ok-bodies.bodies.items == 0) = ap not (c.is_empty.ensures ∙ ap (λ n. n == 0) long) in
+    let mid = g.S.Source.faults c.read_bodies.new.source in
+    let now = g.S.Source.faults c.read_before.new.source in
+    let part : List FilteredPage → List ℕ → List Cause = λ entries bytes. before_causes bytes chunk entries wanted in
+    let fails = subst (λ (told : Option (List ℕ)). FailsBy told mid now (part entries) c.in_err-before.field-0.0) (c.in_ok-bodies.ensures.same ∙ c.in_ok-locations.ensures.same ∙ c.in_ok-chunk.ensures.same)
+    (subst (λ entries. FailsBy (g.S.Source.told c.read_bodies.new.source) mid now (part entries) c.in_err-before.field-0.0) c.deref-3.ensures.value c.in_err-before.ensures.fails) in
+    rw (p.1, p.2) (fails_more told start mid now (part entries) whole c.in_err-before.field-0.0 (omega (arith, c.in_ok-chunk.ensures.later, c.in_ok-locations.ensures.later, c.in_ok-bodies.ensures.later))
+    (within_opened told whole (λ bytes. opened_by bytes type chunk entries) (part entries) opened
+    (λ bytes o. before_in bytes type chunk entries wanted o (wanted_some wanted c.in_ok-bodies.bodies.items entries wanted_is count))) fails)
+
+pub decode_located-requires : goal.decode_located-requires
+decode_located-requires g c =
+    let group = c.args.group.now in
+    let column = c.args.column.now in
+    let intervals = c.args.intervals.now in
+    let list = c.in_ok-locations.locations.items in
+    let entries = c.in_ok-pages.pages.items in
+    let selected : IsSelected group intervals list entries = record { shape = c.in_ok-locations.ensures.shaped; are = ap (λ found. selected_pages intervals found group.num_rows) (sym c.deref.ensures.value) ∙ c.in_ok-pages.ensures.pages } in
+    let items : Vec ℕ Global → List ℕ = λ body. body.items in
+    let count = c.in_ok-bodies.ensures.length ∙ ap (λ pages. length (filter is_wanted pages)) c.deref-2.ensures.value in
+    record {
+      shaped = entries_shaped group intervals list entries selected c.requires.shaped (omega arith);
+      parts = eq-eqb _ _ (length-map c.in_ok-bodies.bodies.items items ∙ count);
+    }
+
+pub returns-clause-ok : goal.returns-clause-ok
+returns-clause-ok g c =
+    let told = g.S.Source.told c.args.source.now in
+    let group = c.args.group.now in
+    let column = c.args.column.now in
+    let type = column.descriptor.primitive_type in
+    let intervals = c.args.intervals.now in
+    let whole : List ℕ → List Cause = λ bytes. causes_of_chunk true bytes group (rows_of intervals) column in
+    let chunk = c.in_ok-chunk.chunk in
+    let at = subst (λ (told : Option (List ℕ)). IfSome told (λ bytes. locations bytes column ≡ c.in_ok-locations.locations.items)) c.in_ok-chunk.ensures.same c.in_ok-locations.ensures.locations in
+    let list = c.in_ok-locations.locations.items in
+    let entries = c.in_ok-pages.pages.items in
+    let selected : IsSelected group intervals list entries = record { shape = c.in_ok-locations.ensures.shaped; are = ap (λ found. selected_pages intervals found group.num_rows) (sym c.deref.ensures.value) ∙ c.in_ok-pages.ensures.pages } in
+    let opened = told_causes group column intervals chunk list entries selected told c.in_ok-chunk.ensures.readable c.in_ok-chunk.ensures.place at in
+    let count = c.in_ok-bodies.ensures.length ∙ ap (λ pages. length (filter is_wanted pages)) c.deref-2.ensures.value in
+    let wanted = not c.is_empty.result in
+    let long : vec_len c.in_ok-bodies.bodies ≡ length c.in_ok-bodies.bodies.items = omega arith in
+    let wanted_is : not c.is_empty.result ≡ not (length c.in_ok-bodies.bodies.items == 0) = ap not (c.is_empty.ensures ∙ ap (λ n. n == 0) long) in
+    let before = c.in_ok-before.before.items in
+    let bodies = c.in_ok-bodies.bodies.items in
+    let items : Vec ℕ Global → List ℕ = λ body. body.items in
+    let same_here = c.in_ok-locations.ensures.same ∙ c.in_ok-chunk.ensures.same in
+    let each = subst (λ (told : Option (List ℕ)). IfSome told (λ bytes. map (entry_part bytes chunk) (filter is_wanted entries) ≡ map (λ body. Some (items body)) bodies)) same_here
+    (subst (λ pages. IfSome (g.S.Source.told c.read_locations.new.source) (λ bytes. map (entry_part bytes chunk) (filter is_wanted pages) ≡ map (λ body. Some (items body)) bodies)) c.deref-2.ensures.value c.in_ok-bodies.ensures.bodies) in
+    let first : 0 < length (filter is_wanted entries) → IfSome told (λ bytes. part_in bytes chunk (place_before chunk entries) ≡ Some before) = λ some.
+    subst (λ (told : Option (List ℕ)). IfSome told (λ bytes. part_in bytes chunk (place_before chunk entries) ≡ Some before)) (c.in_ok-bodies.ensures.same ∙ same_here)
+    (subst (λ pages. IfSome (g.S.Source.told c.read_bodies.new.source) (λ bytes. part_in bytes chunk (place_before chunk pages) ≡ Some before)) c.deref-3.ensures.value
+    (c.in_ok-before.ensures.part (some_wanted wanted bodies entries wanted_is count some))) in
+    let parts = told_parts told chunk entries before items bodies each first in
+    on_ok c.decode_located.result (λ none. decode_none told type chunk entries before (map items bodies) whole opened parts none) c.decode_located.ensures.ok
+
+pub returns-clause-fails : goal.returns-clause-fails
+returns-clause-fails g c =
+    let told = g.S.Source.told c.args.source.now in
+    let start = g.S.Source.faults c.args.source.now in
+    let group = c.args.group.now in
+    let column = c.args.column.now in
+    let type = column.descriptor.primitive_type in
+    let intervals = c.args.intervals.now in
+    let whole : List ℕ → List Cause = λ bytes. causes_of_chunk true bytes group (rows_of intervals) column in
+    let chunk = c.in_ok-chunk.chunk in
+    let at = subst (λ (told : Option (List ℕ)). IfSome told (λ bytes. locations bytes column ≡ c.in_ok-locations.locations.items)) c.in_ok-chunk.ensures.same c.in_ok-locations.ensures.locations in
+    let list = c.in_ok-locations.locations.items in
+    let entries = c.in_ok-pages.pages.items in
+    let selected : IsSelected group intervals list entries = record { shape = c.in_ok-locations.ensures.shaped; are = ap (λ found. selected_pages intervals found group.num_rows) (sym c.deref.ensures.value) ∙ c.in_ok-pages.ensures.pages } in
+    let opened = told_causes group column intervals chunk list entries selected told c.in_ok-chunk.ensures.readable c.in_ok-chunk.ensures.place at in
+    let count = c.in_ok-bodies.ensures.length ∙ ap (λ pages. length (filter is_wanted pages)) c.deref-2.ensures.value in
+    let wanted = not c.is_empty.result in
+    let long : vec_len c.in_ok-bodies.bodies ≡ length c.in_ok-bodies.bodies.items = omega arith in
+    let wanted_is : not c.is_empty.result ≡ not (length c.in_ok-bodies.bodies.items == 0) = ap not (c.is_empty.ensures ∙ ap (λ n. n == 0) long) in
+    let before = c.in_ok-before.before.items in
+    let bodies = c.in_ok-bodies.bodies.items in
+    let items : Vec ℕ Global → List ℕ = λ body. body.items in
+    let same_here = c.in_ok-locations.ensures.same ∙ c.in_ok-chunk.ensures.same in
+    let each = subst (λ (told : Option (List ℕ)). IfSome told (λ bytes. map (entry_part bytes chunk) (filter is_wanted entries) ≡ map (λ body. Some (items body)) bodies)) same_here
+    (subst (λ pages. IfSome (g.S.Source.told c.read_locations.new.source) (λ bytes. map (entry_part bytes chunk) (filter is_wanted pages) ≡ map (λ body. Some (items body)) bodies)) c.deref-2.ensures.value c.in_ok-bodies.ensures.bodies) in
+    let first : 0 < length (filter is_wanted entries) → IfSome told (λ bytes. part_in bytes chunk (place_before chunk entries) ≡ Some before) = λ some.
+    subst (λ (told : Option (List ℕ)). IfSome told (λ bytes. part_in bytes chunk (place_before chunk entries) ≡ Some before)) (c.in_ok-bodies.ensures.same ∙ same_here)
+    (subst (λ pages. IfSome (g.S.Source.told c.read_bodies.new.source) (λ bytes. part_in bytes chunk (place_before chunk pages) ≡ Some before)) c.deref-3.ensures.value
+    (c.in_ok-before.ensures.part (some_wanted wanted bodies entries wanted_is count some))) in
+    let parts = told_parts told chunk entries before items bodies each first in
+    if_err c.decode_located.result
+    (λ e tells. fails_within told start (g.S.Source.faults c.read_before.new.source) (opened_causes (located_parts type (Some before) entries (map items bodies))) whole e
+    (decode_within told type chunk entries before (map items bodies) whole opened parts) tells)
+    c.decode_located.ensures.cause
+
+pub returns-clause-count : goal.returns-clause-count
+returns-clause-count g c =
+    let group = c.args.group.now in
+    let intervals = c.args.intervals.now in
+    let list = c.in_ok-locations.locations.items in
+    let entries = c.in_ok-pages.pages.items in
+    let selected : IsSelected group intervals list entries = record { shape = c.in_ok-locations.ensures.shaped; are = ap (λ found. selected_pages intervals found group.num_rows) (sym c.deref.ensures.value) ∙ c.in_ok-pages.ensures.pages } in
+    if_ok c.decode_located.result (λ found e. e ∙ selected_total group intervals list entries selected c.requires.shaped) c.decode_located.ensures.count
+
+pub returns-clause-numbers : goal.returns-clause-numbers
+returns-clause-numbers g c =
+    let told = g.S.Source.told c.args.source.now in
+    let group = c.args.group.now in
+    let column = c.args.column.now in
+    let type = column.descriptor.primitive_type in
+    let intervals = c.args.intervals.now in
+    let chunk = c.in_ok-chunk.chunk in
+    let at = subst (λ (told : Option (List ℕ)). IfSome told (λ bytes. locations bytes column ≡ c.in_ok-locations.locations.items)) c.in_ok-chunk.ensures.same c.in_ok-locations.ensures.locations in
+    let list = c.in_ok-locations.locations.items in
+    let entries = c.in_ok-pages.pages.items in
+    let selected : IsSelected group intervals list entries = record { shape = c.in_ok-locations.ensures.shaped; are = ap (λ found. selected_pages intervals found group.num_rows) (sym c.deref.ensures.value) ∙ c.in_ok-pages.ensures.pages } in
+    let count = c.in_ok-bodies.ensures.length ∙ ap (λ pages. length (filter is_wanted pages)) c.deref-2.ensures.value in
+    let wanted = not c.is_empty.result in
+    let long : vec_len c.in_ok-bodies.bodies ≡ length c.in_ok-bodies.bodies.items = omega arith in
+    let wanted_is : not c.is_empty.result ≡ not (length c.in_ok-bodies.bodies.items == 0) = ap not (c.is_empty.ensures ∙ ap (λ n. n == 0) long) in
+    let before = c.in_ok-before.before.items in
+    let bodies = c.in_ok-bodies.bodies.items in
+    let items : Vec ℕ Global → List ℕ = λ body. body.items in
+    let same_here = c.in_ok-locations.ensures.same ∙ c.in_ok-chunk.ensures.same in
+    let each = subst (λ (told : Option (List ℕ)). IfSome told (λ bytes. map (entry_part bytes chunk) (filter is_wanted entries) ≡ map (λ body. Some (items body)) bodies)) same_here
+    (subst (λ pages. IfSome (g.S.Source.told c.read_locations.new.source) (λ bytes. map (entry_part bytes chunk) (filter is_wanted pages) ≡ map (λ body. Some (items body)) bodies)) c.deref-2.ensures.value c.in_ok-bodies.ensures.bodies) in
+    let first : 0 < length (filter is_wanted entries) → IfSome told (λ bytes. part_in bytes chunk (place_before chunk entries) ≡ Some before) = λ some.
+    subst (λ (told : Option (List ℕ)). IfSome told (λ bytes. part_in bytes chunk (place_before chunk entries) ≡ Some before)) (c.in_ok-bodies.ensures.same ∙ same_here)
+    (subst (λ pages. IfSome (g.S.Source.told c.read_bodies.new.source) (λ bytes. part_in bytes chunk (place_before chunk pages) ≡ Some before)) c.deref-3.ensures.value
+    (c.in_ok-before.ensures.part (some_wanted wanted bodies entries wanted_is count some))) in
+    let parts = told_parts told chunk entries before items bodies each first in
+    both_ok c.decode_located.result
+    (λ none found are. told_located told group intervals list entries selected column chunk before (map items bodies) found.0.items c.requires.shaped c.in_ok-chunk.ensures.place at parts none are)
+    c.decode_located.ensures.ok c.decode_located.ensures.numbers

@@ -1,0 +1,67 @@
+use Rattle.std.proofs.Common.{◌≡◌, ◌∙◌, ◌++◌, ◌+◌, rules, true, [], ◌∷◌, All, List, ℕ, length, map, drop, ap, sym, subst, arith, refl, Vec, Global}
+use Rattle.std.specs.Prelude.{Option, IfSome, flat_map}
+use Rattle.std.proofs.lemmas.List.{map-append}
+use Rattle.std.proofs.lemmas.List.Elements.{All-push}
+use Rattle.std.proofs.lemmas.Result.{err_from_is_err_and}
+use Rattle.parquet_base.specs.Intervals.{AreApart, maximal_runs}
+use Rattle.parquet_base.specs.declared.interval.Interval.{Interval}
+use Rattle.parquet_scan.specs.Causes.{index_causes_of_bound}
+use Rattle.parquet_meta.specs.declared.metadata.PageLocation.{PageLocation}
+use Rattle.parquet_scan.specs.Request.{is_legal_bound_of}
+use Rattle.parquet_scan.specs.Rows.{bound_keeps, field_locations}
+use Rattle.parquet_scan.proofs.PruningLemmas.{all_at, locations_at}
+use Rattle.parquet_scan.specs.Scan.{FailsBy}
+use Rattle.parquet_scan.proofs.ScanLemmas.{fails_more, in_item, made_more, none_more}
+use Rattle.parquet_scan.proofs.pruning.read_all_runs.Goals as goal
+
+pub returns-in_err-read_runs-clause-fails : goal.returns-in_err-read_runs-clause-fails
+returns-in_err-read_runs-clause-fails g c =
+    let p = err_from_is_err_and c.from_residual.result c.from_residual.ensures.1 in
+    let told = g.S.Source.told c.args.source.now in
+    let before = g.S.Source.faults c.args.source.now in
+    let mid = g.S.Source.faults c.loop-bound.source in
+    let now = g.S.Source.faults c.read_runs.new.source in
+    let group = c.args.group.now in
+    rw (p.1, p.2) (fails_more told before mid now (λ bytes. index_causes_of_bound bytes group c.bound-item.result) (λ bytes. flat_map (index_causes_of_bound bytes group) c.args.bounds.now)
+    c.in_err-read_runs.field-0.0 c.loop-bound.invariant.later
+    (in_item told (λ bytes. index_causes_of_bound bytes group) c.args.bounds.now c.loop-bound.bound-index c.bound-item.result c.loop-bound-test.true c.bound-item.is)
+    (subst (λ (told : Option (List ℕ)). FailsBy told mid now (λ bytes. index_causes_of_bound bytes group c.bound-item.result) c.in_err-read_runs.field-0.0) c.loop-bound.invariant.same c.in_err-read_runs.ensures.fails))
+
+pub loop-bound-preserved : goal.loop-bound-preserved
+loop-bound-preserved g c =
+    let told = g.S.Source.told c.args.source.now in
+    let group = c.args.group.now in
+    let bounds = c.args.bounds.now in
+    let i = c.loop-bound.bound-index in
+    let bound = c.bound-item.result in
+    let list = c.in_ok-read_runs.field-0 in
+    let items : Vec Interval Global → List Interval = λ list. list.items in
+    let own = subst (λ (told : Option (List ℕ)). IfSome told (λ bytes. index_causes_of_bound bytes group bound ≡ [])) c.loop-bound.invariant.same c.in_ok-read_runs.ensures.ok in
+    let are = subst (λ (told : Option (List ℕ)). IfSome told (λ bytes. maximal_runs (λ row. bound_keeps bytes group row bound) group.num_rows ≡ list.items)) c.loop-bound.invariant.same c.in_ok-read_runs.ensures.runs in
+    record {
+      same = search rules;
+      same_source = search rules;
+      later = search rules;
+      none = none_more told (λ bytes. index_causes_of_bound bytes group) bounds i bound c.loop-bound-test.true c.bound-item.is c.loop-bound.invariant.none own;
+      runs = subst (λ (lists : List (List Interval)). IfSome told (λ bytes. map (λ bound. maximal_runs (λ row. bound_keeps bytes group row bound) group.num_rows) bounds
+          ≡ lists ++ map (λ bound. maximal_runs (λ row. bound_keeps bytes group row bound) group.num_rows) (drop (i + 1) bounds)))
+          (sym (ap (map items) c.in_ok-push.ensures.items ∙ map-append items c.loop-bound.lists.items (list ∷ [])))
+          (made_more told (λ bytes bound. maximal_runs (λ row. bound_keeps bytes group row bound) group.num_rows) bounds i bound (map items c.loop-bound.lists.items) list.items c.loop-bound-test.true c.bound-item.is c.loop-bound.invariant.runs are);
+      apart = subst (λ (lists : List (Vec Interval Global)). All (λ list. AreApart 0 list.items group.num_rows) lists) (sym c.in_ok-push.ensures.items)
+          (All-push (λ list. AreApart 0 list.items group.num_rows) c.loop-bound.lists.items list c.loop-bound.invariant.apart c.in_ok-read_runs.ensures.apart);
+    }
+
+pub place_of-requires : goal.place_of-requires
+place_of-requires g c =
+    record { legal = ap (is_legal_bound_of c.args.fields.now) c.bound-item.is ∙ all_at (is_legal_bound_of c.args.fields.now) c.args.bounds.now c.loop-bound.bound-index c.bound-item.result c.requires.legal c.loop-bound-test.true }
+
+pub read_runs-requires-clause-told : goal.read_runs-requires-clause-told
+read_runs-requires-clause-told g c =
+    let told = g.S.Source.told c.args.source.now in
+    let group = c.args.group.now in
+    let bound = c.bound-item.result in
+    let items : Vec PageLocation Global → List PageLocation = λ list. list.items in
+    let list = c.index-locations-place_of.result in
+    subst (λ (told : Option (List ℕ)). IfSome told (λ bytes. field_locations bytes group bound.field ≡ c.deref.result.now)) (sym c.loop-bound.invariant.same)
+    (subst (λ (list : List PageLocation). IfSome told (λ bytes. field_locations bytes group bound.field ≡ list)) (sym (c.deref.ensures.value ∙ ap items c.index-locations-place_of.is))
+    (locations_at told group c.args.fields.now items c.args.locations.now bound c.place_of.result list c.requires.told c.place_of.ensures.within (omega (arith, c.place_of.ensures.within, c.requires.length)) c.place_of.ensures.named))

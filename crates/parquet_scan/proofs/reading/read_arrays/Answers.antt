@@ -1,0 +1,73 @@
+use Rattle.std.proofs.Common.{◌≡◌, ◌<◌, ◌+◌, ◌++◌, [], All, List, ℕ, Option, Some, length, map, drop, rules, arith, subst, sym}
+use Rattle.std.specs.Prelude.{IfSome, nat_lt}
+use Rattle.std.specs.List.{list_all}
+use Rattle.std.specs.Cmp.{first_so}
+use Rattle.std.proofs.lemmas.Bool.{ltb-true}
+use Rattle.std.proofs.lemmas.Result.{err_from_is_err_and}
+use Rattle.std.proofs.lemmas.List.Elements.{All-push}
+use Rattle.columns_core.specs.declared.array.Array.{Array}
+use Rattle.columns_core.specs.Array.{cells, column_of}
+use Rattle.parquet_scan.specs.Causes.{causes_of_column, causes_of_group}
+use Rattle.parquet_scan.specs.Cells.{given_column}
+use Rattle.parquet_scan.specs.Counting.{rows_read}
+use Rattle.parquet_scan.specs.NotBuilt.{is_built_field}
+use Rattle.parquet_scan.specs.Scan.{FailsBy}
+use Rattle.parquet_scan.proofs.GivenLemmas.{column_more, equal_lengths, first_length}
+use Rattle.parquet_scan.proofs.ScanLemmas.{fails_more, in_item, none_more}
+use Rattle.parquet_scan.proofs.reading.read_arrays.Goals as goal
+
+pub returns-in_err-array-clause-fails : goal.returns-in_err-array-clause-fails
+returns-in_err-array-clause-fails g c =
+    let p = err_from_is_err_and c.from_residual.result c.from_residual.ensures.1 in
+    let before = g.S.Source.faults c.args.source.now in
+    let mid = g.S.Source.faults c.loop-field.source in
+    let now = g.S.Source.faults c.read_array.new.source in
+    let group = c.args.group.now in
+    let rows = rows_read c.args.by_pages group c.args.kept.now.intervals in
+    rw (p.1, p.2) (fails_more (g.S.Source.told c.args.source.now) before mid now
+    (λ bytes. causes_of_column c.args.by_pages bytes group rows c.field-item.result) (λ bytes. causes_of_group c.args.by_pages c.args.fields.now bytes (group, rows))
+    c.in_err-array.field-0.0 c.loop-field.invariant.later
+    (in_item (g.S.Source.told c.args.source.now) (λ bytes. causes_of_column c.args.by_pages bytes group rows) c.args.fields.now c.loop-field.field-index c.field-item.result c.loop-field-test.true c.field-item.is)
+    (subst (λ (told : Option (List ℕ)). FailsBy told mid now (λ bytes. causes_of_column c.args.by_pages bytes group rows c.field-item.result) c.in_err-array.field-0.0) c.loop-field.invariant.same c.in_err-array.ensures.fails))
+
+pub loop-field-preserved : goal.loop-field-preserved
+loop-field-preserved g c =
+    let told = g.S.Source.told c.args.source.now in
+    let by_pages = c.args.by_pages in
+    let group = c.args.group.now in
+    let rows = rows_read by_pages group c.args.kept.now.intervals in
+    let fields = c.args.fields.now in
+    let i = c.loop-field.field-index in
+    let field = c.field-item.result in
+    let array = c.in_ok-array.array in
+    let own = subst (λ (told : Option (List ℕ)). IfSome told (λ bytes. causes_of_column by_pages bytes group rows field ≡ [])) c.loop-field.invariant.same c.in_ok-array.ensures.ok in
+    let column = subst (λ (told : Option (List ℕ)). IfSome told (λ bytes. given_column by_pages bytes group rows field ≡ Some (column_of array))) c.loop-field.invariant.same c.in_ok-array.ensures.column in
+    record {
+      same = search rules;
+      same_source = search rules;
+      later = search rules;
+      none = none_more told (λ bytes. causes_of_column by_pages bytes group rows) fields i field c.loop-field-test.true c.field-item.is c.loop-field.invariant.none own;
+      columns = subst (λ (arrays : List Array). IfSome told (λ bytes.
+          map (given_column by_pages bytes group rows) fields ≡ map (λ array. Some (column_of array)) arrays ++ map (given_column by_pages bytes group rows) (drop (i + 1) fields)))
+          (sym c.in_ok-push.ensures.items)
+          (column_more told (λ bytes. given_column by_pages bytes group rows) fields i field c.loop-field.arrays.items array c.loop-field-test.true c.field-item.is c.loop-field.invariant.columns column);
+      count = search rules;
+      lengths = subst (λ (arrays : List Array). All (λ array. length (cells array) ≡ length rows) arrays) (sym c.in_ok-push.ensures.items)
+          (All-push (λ array. length (cells array) ≡ length rows) c.loop-field.arrays.items array c.loop-field.invariant.lengths c.in_ok-array.ensures.length);
+      ticks = search rules;
+      pages = search rules;
+    }
+
+pub returns-clause-lengths : goal.returns-clause-lengths
+returns-clause-lengths g c =
+    let fields = c.args.fields.now in
+    let some : 0 < length fields = ltb-true 0 (length fields) (first_so (nat_lt 0 (length fields)) (list_all is_built_field fields) c.requires.built) in
+    let rows = rows_read c.args.by_pages c.args.group.now c.args.kept.now.intervals in
+    equal_lengths c.loop-field.arrays.items (length rows) (omega (arith, some, c.loop-field.invariant.count, c.loop-field.auto.field-index-end, c.loop-field-test.false)) c.loop-field.invariant.lengths
+
+pub returns-clause-rows : goal.returns-clause-rows
+returns-clause-rows g c =
+    let fields = c.args.fields.now in
+    let some : 0 < length fields = ltb-true 0 (length fields) (first_so (nat_lt 0 (length fields)) (list_all is_built_field fields) c.requires.built) in
+    let rows = rows_read c.args.by_pages c.args.group.now c.args.kept.now.intervals in
+    first_length c.loop-field.arrays.items (length rows) (omega (arith, some, c.loop-field.invariant.count, c.loop-field.auto.field-index-end, c.loop-field-test.false)) c.loop-field.invariant.lengths

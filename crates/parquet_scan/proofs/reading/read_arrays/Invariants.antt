@@ -1,0 +1,25 @@
+use Rattle.std.proofs.Common.{◌≡◌, ◌≤◌, ◌-◌, ◌^◌, ◌++◌, Some, drop, length, map, All}
+use Rattle.std.specs.Prelude.{IfSome, min}
+use Rattle.columns_core.specs.Array.{cells, column_of}
+use Rattle.parquet_scan.specs.Cells.{given_column}
+use Rattle.parquet_scan.specs.Causes.{causes_of_group}
+use Rattle.parquet_scan.specs.Counting.{rows_read}
+use Rattle.parquet_scan.proofs.reading.read_arrays.Given as goal
+
+-- what is wrong with all columns, and what they have, is what is so of those that are left
+abbrev pub invariant-loop-field : goal.invariant-loop-field
+invariant-loop-field g l =
+    let source = g.S.Source in
+    let rows = rows_read l.by_pages l.group l.kept.intervals in
+    record {
+      same : source.told l.source ≡ source.told l.fn.source;
+      same_source : source.kept l.source ≡ source.kept l.fn.source;
+      later : source.faults l.fn.source ≤ source.faults l.source;
+      none : IfSome (source.told l.fn.source) (λ bytes. causes_of_group l.by_pages l.fields bytes (l.group, rows) ≡ causes_of_group l.by_pages (drop l.field-index l.fields) bytes (l.group, rows));
+      columns : IfSome (source.told l.fn.source) (λ bytes.
+          map (given_column l.by_pages bytes l.group rows) l.fields ≡ map (λ array. Some (column_of array)) l.arrays.items ++ map (given_column l.by_pages bytes l.group rows) (drop l.field-index l.fields));
+      count : length l.arrays.items ≡ l.field-index;
+      lengths : All (λ array. length (cells array) ≡ length rows) l.arrays.items;
+      ticks : l.fn.steps ≤ l.steps;
+      pages : l.pages ≡ min (l.steps - l.fn.steps) (2 ^ 64 - 1);
+    }

@@ -1,0 +1,22 @@
+use Rattle.std.proofs.Common.{◌≡◌, ◌≤◌, ◌<◌, ◌-◌, ◌+◌, ◌^◌, ◌++◌, drop}
+use Rattle.std.specs.Prelude.{IfSome, min}
+use Rattle.parquet_scan.specs.Counting.{causes_of_groups, chunks_of_groups, rows_of_groups, shown}
+use Rattle.parquet_scan.proofs.reading.read_groups.Given as goal
+
+-- what is wrong with all groups is what is wrong with those that are left
+abbrev pub invariant-loop-i : goal.invariant-loop-i
+invariant-loop-i g l =
+    let source = g.S.Source in
+    record {
+      same : source.told l.source ≡ source.told l.fn.source;
+      same_source : source.kept l.source ≡ source.kept l.fn.source;
+      later : source.faults l.fn.source ≤ source.faults l.source;
+      none : IfSome (source.told l.fn.source) (λ bytes.
+          causes_of_groups l.by_pages l.fields bytes l.groups l.kept ≡ causes_of_groups l.by_pages l.fields bytes (drop l.i l.groups) (drop l.i l.kept));
+      chunks : IfSome (source.told l.fn.source) (λ bytes.
+          shown l.fn.read.chunks.items ++ chunks_of_groups l.by_pages l.fields bytes l.groups l.kept ≡ shown l.read.chunks.items ++ chunks_of_groups l.by_pages l.fields bytes (drop l.i l.groups) (drop l.i l.kept));
+      rows : min (l.fn.read.rows + rows_of_groups l.by_pages l.groups l.kept) (2 ^ 64 - 1) ≡ min (l.read.rows + rows_of_groups l.by_pages (drop l.i l.groups) (drop l.i l.kept)) (2 ^ 64 - 1);
+      fits : l.read.rows < 2 ^ 64;
+      ticks : l.fn.steps ≤ l.steps;
+      pages : l.read.pages ≡ min (l.fn.read.pages + (l.steps - l.fn.steps)) (2 ^ 64 - 1);
+    }

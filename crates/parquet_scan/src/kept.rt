@@ -1,0 +1,98 @@
+//! Which rows of each group are kept.
+ghost use Rattle.std.specs.Prelude.{◌≡◌, ◌≤◌, ◌&&◌, [], length, true, IfOk, IfErr, IfSome, OnOk};
+ghost use Rattle.std.specs.List.{list_all};
+ghost use Rattle.parquet_base.specs.Intervals.{is_well_shaped, maximal_runs};
+ghost use Rattle.parquet_scan.specs.Counting.{are_shaped, index_causes_if, index_causes_of_groups, is_shaped, kept_if, kept_of_groups};
+ghost use Rattle.parquet_scan.specs.Request.{is_legal_bound_of};
+ghost use Rattle.parquet_scan.specs.Rows.{pages_keep};
+ghost use Rattle.parquet_scan.specs.Scan.{FailsBy};
+
+use crate::pruning::kept_by_pages;
+use crate::{Bound, GroupKept};
+use columns_core::{Error, Field, Seq};
+use parquet_base::{Interval, runs_of_all};
+use parquet_meta::{RowGroupMetaData, Source};
+use std::alloc::Global;
+
+/// Of each group its rows and, if it counts, the runs of those that are kept.
+pub(crate) fn kept_groups<S: Source>(
+    alloc: Global,
+    source: &mut S,
+    groups: &[RowGroupMetaData],
+    counts: &[bool],
+    by_pages: bool,
+    fields: &[Field],
+    bounds: &[Bound],
+) -> Result<Vec<GroupKept>, Error>
+    requires lengths { length counts.now ≡ length groups.now }
+    requires legal { list_all (is_legal_bound_of fields.now) bounds.now ≡ true }
+    ensures same { S.told source.new ≡ S.told source.old }
+    ensures same_source { S.kept source.new ≡ S.kept source.old }
+    ensures later { S.faults source.old ≤ S.faults source.new }
+    ensures ok { OnOk result (IfSome (S.told source.old) (λ bytes. index_causes_of_groups by_pages fields.now bounds.now bytes groups.now counts.now ≡ [])) }
+    ensures fails { IfErr result (FailsBy (S.told source.old) (S.faults source.old) (S.faults source.new) (λ bytes. index_causes_of_groups by_pages fields.now bounds.now bytes groups.now counts.now)) }
+    ensures kept { IfOk result (λ kept. IfSome (S.told source.old) (λ bytes. kept.items ≡ kept_of_groups by_pages bounds.now bytes groups.now counts.now)) }
+    ensures length { IfOk result (λ kept. length kept.items ≡ length groups.now) }
+    ensures shaped { IfOk result (λ kept. are_shaped groups.now kept.items ≡ true) }
+{
+    let mut kept = Vec::new(alloc);
+    for i in 0..groups.len() {
+        kept.push(kept_group(
+            alloc, source, &groups[i], counts[i], by_pages, fields, bounds,
+        )?)?;
+    }
+    Ok(kept)
+}
+
+fn kept_group<S: Source>(
+    alloc: Global,
+    source: &mut S,
+    group: &RowGroupMetaData,
+    counts: bool,
+    by_pages: bool,
+    fields: &[Field],
+    bounds: &[Bound],
+) -> Result<GroupKept, Error>
+    requires legal { list_all (is_legal_bound_of fields.now) bounds.now ≡ true }
+    ensures same { S.told source.new ≡ S.told source.old }
+    ensures same_source { S.kept source.new ≡ S.kept source.old }
+    ensures later { S.faults source.old ≤ S.faults source.new }
+    ensures ok { OnOk result (IfSome (S.told source.old) (λ bytes. index_causes_if by_pages fields.now bounds.now bytes (group.now, counts) ≡ [])) }
+    ensures fails { IfErr result (FailsBy (S.told source.old) (S.faults source.old) (S.faults source.new) (λ bytes. index_causes_if by_pages fields.now bounds.now bytes (group.now, counts))) }
+    ensures kept { IfOk result (λ kept. IfSome (S.told source.old) (λ bytes. kept ≡ kept_if by_pages bounds.now bytes (group.now, counts))) }
+    ensures shaped { IfOk result (λ kept. is_shaped (group.now, kept) ≡ true) }
+{
+    let intervals = kept_runs(alloc, source, group, counts, by_pages, fields, bounds)?;
+    Ok(GroupKept {
+        rows: group.num_rows,
+        intervals: Seq::new(intervals),
+    })
+}
+
+/// The runs of the kept rows of a group. Without pruning by pages they are all rows, if it counts.
+fn kept_runs<S: Source>(
+    alloc: Global,
+    source: &mut S,
+    group: &RowGroupMetaData,
+    counts: bool,
+    by_pages: bool,
+    fields: &[Field],
+    bounds: &[Bound],
+) -> Result<Vec<Interval>, Error>
+    requires legal { list_all (is_legal_bound_of fields.now) bounds.now ≡ true }
+    ensures same { S.told source.new ≡ S.told source.old }
+    ensures same_source { S.kept source.new ≡ S.kept source.old }
+    ensures later { S.faults source.old ≤ S.faults source.new }
+    ensures ok { OnOk result (IfSome (S.told source.old) (λ bytes. index_causes_if by_pages fields.now bounds.now bytes (group.now, counts) ≡ [])) }
+    ensures fails { IfErr result (FailsBy (S.told source.old) (S.faults source.old) (S.faults source.new) (λ bytes. index_causes_if by_pages fields.now bounds.now bytes (group.now, counts))) }
+    ensures kept { IfOk result (λ runs. IfSome (S.told source.old) (λ bytes. runs.items ≡ maximal_runs (λ row. counts && pages_keep by_pages bounds.now bytes group.now row) group.now.num_rows)) }
+    ensures shaped { IfOk result (λ runs. is_well_shaped runs.items group.now.num_rows ≡ true) }
+{
+    if !counts {
+        return Ok(Vec::new(alloc));
+    }
+    if by_pages {
+        return kept_by_pages(alloc, source, group, fields, bounds);
+    }
+    Ok(runs_of_all(alloc, &[], group.num_rows)?)
+}

@@ -1,0 +1,179 @@
+//! Columns that are read by the locations of their pages.
+ghost use Rattle.std.specs.Prelude.{◌≡◌, ◌-◌, ◌^◌, ◌≤◌, [], Some, true, filter, min, map, flat_map, length, if◌then◌else◌, IfOk, IfErr, IfSome, IsTrue, OnOk};
+ghost use Rattle.columns_core.specs.Causes.{ComesOf};
+ghost use Rattle.columns_core.specs.declared.cell.Cell.{Int};
+ghost use Rattle.parquet_base.specs.Intervals.{is_well_shaped, rows_of};
+ghost use Rattle.parquet_meta.specs.Places.{lies_in as lies_in_by};
+ghost use Rattle.parquet_page.specs.Lent.{are_well_shaped, first_start as first_start_by, has_parts, is_wanted as is_wanted_by, located_parts, selected_count};
+ghost use Rattle.parquet_scan.specs.Causes.{causes_of_chunk, opened_causes};
+ghost use Rattle.parquet_scan.specs.Cells.{located_item};
+ghost use Rattle.parquet_scan.specs.Located.{entry_causes, entry_part, entry_place, part_causes, part_in, place_before as place_before_by};
+ghost use Rattle.parquet_scan.specs.Numbers.{all_numbers};
+ghost use Rattle.parquet_scan.specs.Scan.{FailsBy};
+
+use crate::column::{decode_pages, place_of_chunk};
+use crate::locations::read_locations;
+use columns_core::{Error, Part};
+use parquet_base::{Interval, Steps};
+use parquet_meta::{ColumnChunkMetaData, Place, RowGroupMetaData, Source, read_exact_at};
+use parquet_page::{FilteredPage, IndexedPageReader, Pages, select_pages};
+use std::alloc::Global;
+use std::sync::ledger::Ledger;
+
+/// The numbers of a column in these rows of a group, and how many pages were lent.
+pub(crate) fn read_located<S: Source, L: Ledger>(
+    alloc: Global,
+    source: &mut S,
+    group: &RowGroupMetaData,
+    intervals: &[Interval],
+    column: &ColumnChunkMetaData,
+    steps: &mut Steps<L>,
+) -> Result<(Vec<i32>, usize), Error>
+    requires shaped { is_well_shaped intervals.now group.now.num_rows ≡ true }
+    ensures same { S.told source.new ≡ S.told source.old }
+    ensures same_source { S.kept source.new ≡ S.kept source.old }
+    ensures later { S.faults source.old ≤ S.faults source.new }
+    ensures ok { OnOk result (IfSome (S.told source.old) (λ bytes. causes_of_chunk true bytes group.now (rows_of intervals.now) column.now ≡ [])) }
+    ensures fails { IfErr result (FailsBy (S.told source.old) (S.faults source.old) (S.faults source.new) (λ bytes. causes_of_chunk true bytes group.now (rows_of intervals.now) column.now)) }
+    ensures count { IfOk result (λ found. length found.0.items ≡ length (rows_of intervals.now)) }
+    ensures numbers { IfOk result (λ found. IfSome (S.told source.old) (λ bytes. map (located_item bytes group.now column.now) (rows_of intervals.now) ≡ map (λ n. Some (Int n)) found.0.items)) }
+    ensures ticks { steps.old ≤ steps.new }
+    ensures pages { IfOk result (λ found. found.1 ≡ min (steps.new - steps.old) (2 ^ 64 - 1)) }
+{
+    let chunk = place_of_chunk(source, group, column)?;
+    let locations = read_locations(alloc, source, group, column)?;
+    let pages = select_pages(alloc, intervals, &locations, group.num_rows)?;
+    let bodies = read_bodies(alloc, source, chunk, &pages)?;
+    let before = read_before(alloc, source, chunk, &pages, !bodies.is_empty())?;
+    decode_located(alloc, column, before, bodies, pages, steps)
+}
+
+/// The parts of the pages that have selected rows, one by one.
+fn read_bodies<S: Source>(
+    alloc: Global,
+    source: &mut S,
+    chunk: Place,
+    pages: &[FilteredPage],
+) -> Result<Vec<Vec<u8>>, Error>
+    ensures same { S.told source.new ≡ S.told source.old }
+    ensures same_source { S.kept source.new ≡ S.kept source.old }
+    ensures later { S.faults source.old ≤ S.faults source.new }
+    ensures ok { OnOk result (IfSome (S.told source.old) (λ bytes. flat_map (entry_causes bytes chunk) (filter is_wanted_by pages.now) ≡ [])) }
+    ensures fails { IfErr result (FailsBy (S.told source.old) (S.faults source.old) (S.faults source.new) (λ bytes. flat_map (entry_causes bytes chunk) (filter is_wanted_by pages.now))) }
+    ensures bodies { IfOk result (λ bodies. IfSome (S.told source.old) (λ bytes. map (entry_part bytes chunk) (filter is_wanted_by pages.now) ≡ map (λ body. Some body.items) bodies.items)) }
+    ensures length { IfOk result (λ bodies. length bodies.items ≡ length (filter is_wanted_by pages.now)) }
+{
+    let mut bodies = Vec::new(alloc);
+    for page in pages {
+        if is_wanted(page) {
+            bodies.push(read_part(alloc, source, chunk, part_of_page(page))?)?;
+        }
+    }
+    Ok(bodies)
+}
+
+fn is_wanted(page: &FilteredPage) -> bool
+    ensures { result ≡ is_wanted_by page.now }
+{
+    !page.selected_rows.as_slice().is_empty()
+}
+
+fn part_of_page(page: &FilteredPage) -> Place
+    ensures { result ≡ entry_place page.now }
+{
+    Place {
+        offset: page.start,
+        length: page.length as u64,
+    }
+}
+
+/// Where some page is wanted, the part of the chunk before the first page, wanted or not.
+fn read_before<S: Source>(
+    alloc: Global,
+    source: &mut S,
+    chunk: Place,
+    pages: &[FilteredPage],
+    wanted: bool,
+) -> Result<Vec<u8>, Error>
+    ensures same { S.told source.new ≡ S.told source.old }
+    ensures same_source { S.kept source.new ≡ S.kept source.old }
+    ensures later { S.faults source.old ≤ S.faults source.new }
+    ensures ok { OnOk result (IfSome (S.told source.old) (λ bytes. (if wanted then part_causes bytes chunk (place_before_by chunk pages.now) else []) ≡ [])) }
+    ensures fails { IfErr result (FailsBy (S.told source.old) (S.faults source.old) (S.faults source.new) (λ bytes. (if wanted then part_causes bytes chunk (place_before_by chunk pages.now) else []))) }
+    ensures part { IfOk result (λ part. IsTrue wanted → IfSome (S.told source.old) (λ bytes. part_in bytes chunk (place_before_by chunk pages.now) ≡ Some part.items)) }
+{
+    if wanted {
+        return read_part(alloc, source, chunk, place_before(chunk, pages));
+    }
+    Ok(Vec::new(alloc))
+}
+
+fn place_before(chunk: Place, pages: &[FilteredPage]) -> Place
+    ensures { result ≡ place_before_by chunk pages.now }
+{
+    Place {
+        offset: chunk.offset,
+        length: first_start(pages).saturating_sub(chunk.offset),
+    }
+}
+
+fn first_start(pages: &[FilteredPage]) -> u64
+    ensures { result ≡ first_start_by pages.now }
+{
+    match pages.first() {
+        Some(page) => page.start,
+        None => 0,
+    }
+}
+
+/// The bytes of a part that lies in a chunk.
+fn read_part<S: Source>(
+    alloc: Global,
+    source: &mut S,
+    chunk: Place,
+    part: Place,
+) -> Result<Vec<u8>, Error>
+    ensures same { S.told source.new ≡ S.told source.old }
+    ensures same_source { S.kept source.new ≡ S.kept source.old }
+    ensures later { S.faults source.old ≤ S.faults source.new }
+    ensures ok { OnOk result (IfSome (S.told source.old) (λ bytes. part_causes bytes chunk part ≡ [])) }
+    ensures fails { IfErr result (FailsBy (S.told source.old) (S.faults source.old) (S.faults source.new) (λ bytes. part_causes bytes chunk part)) }
+    ensures part { IfOk result (λ found. IfSome (S.told source.old) (λ bytes. part_in bytes chunk part ≡ Some found.items)) }
+{
+    if !lies_in(chunk, part) {
+        return Err(Error::ExternalFormat(Part::Location));
+    }
+    read_exact_at(alloc, source, part)
+}
+
+fn lies_in(outer: Place, part: Place) -> bool
+    ensures { result ≡ lies_in_by outer part }
+{
+    outer.offset <= part.offset
+        && part.offset as u128 + part.length as u128 <= outer.offset as u128 + outer.length as u128
+}
+
+/// The numbers of the selected rows of pages in their parts, and how many pages were lent.
+fn decode_located<L: Ledger>(
+    alloc: Global,
+    column: &ColumnChunkMetaData,
+    before: Vec<u8>,
+    bodies: Vec<Vec<u8>>,
+    pages: Vec<FilteredPage>,
+    steps: &mut Steps<L>,
+) -> Result<(Vec<i32>, usize), Error>
+    requires shaped { are_well_shaped pages.items ≡ true }
+    requires parts { has_parts pages.items (map (λ body. body.items) bodies.items) ≡ true }
+    ensures ok { OnOk result (opened_causes (located_parts column.now.descriptor.primitive_type (Some before.items) pages.items (map (λ body. body.items) bodies.items)) ≡ []) }
+    ensures cause { ComesOf result (opened_causes (located_parts column.now.descriptor.primitive_type (Some before.items) pages.items (map (λ body. body.items) bodies.items))) }
+    ensures numbers { IfOk result (λ found. found.0.items ≡ all_numbers (located_parts column.now.descriptor.primitive_type (Some before.items) pages.items (map (λ body. body.items) bodies.items)).pages) }
+    ensures count { IfOk result (λ found. length found.0.items ≡ selected_count pages.items) }
+    ensures ticks { steps.old ≤ steps.new }
+    ensures pages { IfOk result (λ found. found.1 ≡ min (steps.new - steps.old) (2 ^ 64 - 1)) }
+{
+    let mut reader = IndexedPageReader::from_ranges(alloc, Some(before), bodies, column, pages)?;
+    let _rows = reader.rows();
+    let mut numbers = Vec::new(alloc);
+    let count = decode_pages(&mut reader, &mut numbers, steps)?;
+    Ok((numbers, count))
+}

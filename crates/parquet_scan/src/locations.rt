@@ -1,0 +1,125 @@
+//! Where the pages of a column stand.
+ghost use Rattle.std.specs.Prelude.{◌≡◌, ◌≤◌, ◌&&◌, [], true, is_some, length, map, flat_map, IfOk, IfErr, IfSome, OnOk, Some};
+ghost use Rattle.std.specs.List.{list_all};
+ghost use Rattle.columns_core.specs.Causes.{ComesOf, ExternalFormat, unless};
+ghost use Rattle.parquet_page.specs.Locations.{begin_with_row_0, has_shape, part_of};
+ghost use Rattle.parquet_scan.specs.Causes.{offset_causes_of_field};
+ghost use Rattle.parquet_scan.specs.Pages.{locations as locations_by, locations_causes};
+ghost use Rattle.parquet_scan.specs.Rows.{field_locations};
+ghost use Rattle.parquet_scan.specs.Scan.{FailsBy};
+
+use crate::groups::column_named;
+use columns_core::{Error, Field, Part};
+use parquet_base::Interval;
+use parquet_meta::{
+    ColumnChunkMetaData, PageLocation, RowGroupMetaData, Source, read_pages_locations,
+};
+use parquet_page::page_row_intervals;
+use std::alloc::Global;
+use std::slice;
+
+/// The locations of the pages of each field's column.
+pub(crate) fn read_all_locations<S: Source>(
+    alloc: Global,
+    source: &mut S,
+    group: &RowGroupMetaData,
+    fields: &[Field],
+) -> Result<Vec<Vec<PageLocation>>, Error>
+    ensures same { S.told source.new ≡ S.told source.old }
+    ensures same_source { S.kept source.new ≡ S.kept source.old }
+    ensures later { S.faults source.old ≤ S.faults source.new }
+    ensures ok { OnOk result (IfSome (S.told source.old) (λ bytes. flat_map (offset_causes_of_field bytes group.now) fields.now ≡ [])) }
+    ensures fails { IfErr result (FailsBy (S.told source.old) (S.faults source.old) (S.faults source.new) (λ bytes. flat_map (offset_causes_of_field bytes group.now) fields.now)) }
+    ensures locations { IfOk result (λ lists. IfSome (S.told source.old) (λ bytes. map (λ field. field_locations bytes group.now field.name) fields.now ≡ map (λ list. list.items) lists.items)) }
+    ensures length { IfOk result (λ lists. length lists.items ≡ length fields.now) }
+    ensures shaped { IfOk result (λ lists. list_all (λ list. has_shape list.items group.now.num_rows) lists.items ≡ true) }
+{
+    let mut lists = Vec::new(alloc);
+    for field in fields {
+        lists.push(read_field_locations(alloc, source, group, field)?)?;
+    }
+    Ok(lists)
+}
+
+fn read_field_locations<S: Source>(
+    alloc: Global,
+    source: &mut S,
+    group: &RowGroupMetaData,
+    field: &Field,
+) -> Result<Vec<PageLocation>, Error>
+    ensures same { S.told source.new ≡ S.told source.old }
+    ensures same_source { S.kept source.new ≡ S.kept source.old }
+    ensures later { S.faults source.old ≤ S.faults source.new }
+    ensures ok { OnOk result (IfSome (S.told source.old) (λ bytes. offset_causes_of_field bytes group.now field.now ≡ [])) }
+    ensures fails { IfErr result (FailsBy (S.told source.old) (S.faults source.old) (S.faults source.new) (λ bytes. offset_causes_of_field bytes group.now field.now)) }
+    ensures locations { IfOk result (λ list. IfSome (S.told source.old) (λ bytes. field_locations bytes group.now field.now.name ≡ list.items)) }
+    ensures shaped { IfOk result (λ list. has_shape list.items group.now.num_rows ≡ true) }
+{
+    let Some(column) = column_named(group, &field.name) else {
+        return Err(Error::ExternalFormat(Part::Group));
+    };
+    read_locations(alloc, source, group, column)
+}
+
+/// The locations of a column's pages. There is one, the first has row 0, and first rows never fall nor pass the number of rows.
+pub(crate) fn read_locations<S: Source>(
+    alloc: Global,
+    source: &mut S,
+    group: &RowGroupMetaData,
+    column: &ColumnChunkMetaData,
+) -> Result<Vec<PageLocation>, Error>
+    ensures same { S.told source.new ≡ S.told source.old }
+    ensures same_source { S.kept source.new ≡ S.kept source.old }
+    ensures later { S.faults source.old ≤ S.faults source.new }
+    ensures ok { OnOk result (IfSome (S.told source.old) (λ bytes. locations_causes bytes group.now column.now ≡ [])) }
+    ensures fails { IfErr result (FailsBy (S.told source.old) (S.faults source.old) (S.faults source.new) (λ bytes. locations_causes bytes group.now column.now)) }
+    ensures locations { IfOk result (λ list. IfSome (S.told source.old) (λ bytes. locations_by bytes column.now ≡ list.items)) }
+    ensures shaped { IfOk result (λ list. has_shape list.items group.now.num_rows ≡ true) }
+{
+    let mut lists = read_pages_locations(alloc, source, slice::from_ref(column))?;
+    let Some(locations) = lists.pop() else {
+        return Err(Error::ExternalFormat(Part::Location));
+    };
+    check_shape(alloc, &locations, group.num_rows)?;
+    Ok(locations)
+}
+
+/// Refuses locations that have not their shape.
+fn check_shape(alloc: Global, locations: &[PageLocation], num_rows: usize) -> Result<(), Error>
+    ensures ok { OnOk result (has_shape locations.now num_rows ≡ true) }
+    ensures cause { ComesOf result (unless (has_shape locations.now num_rows) ExternalFormat) }
+{
+    let rows = page_row_intervals(alloc, locations, num_rows)?;
+    if !are_shaped(&rows, locations) {
+        return Err(Error::ExternalFormat(Part::Location));
+    }
+    Ok(())
+}
+
+fn are_shaped(rows: &[Interval], locations: &[PageLocation]) -> bool
+    ensures { result ≡ (begin_with_row_0 (Some rows.now) && list_all (λ location. is_some (part_of location)) locations.now) }
+{
+    begin_at_row_0(rows) && have_parts(locations)
+}
+
+fn have_parts(locations: &[PageLocation]) -> bool
+    ensures { result ≡ list_all (λ location. is_some (part_of location)) locations.now }
+{
+    locations.iter().all(|location| has_part(location))
+}
+
+fn begin_at_row_0(rows: &[Interval]) -> bool
+    ensures { result ≡ begin_with_row_0 (Some rows.now) }
+{
+    match rows.first() {
+        Some(page) => page.start == 0,
+        None => false,
+    }
+}
+
+/// Whether neither the place nor the size of a page is negative.
+fn has_part(location: &PageLocation) -> bool
+    ensures { result ≡ is_some (part_of location.now) }
+{
+    location.offset >= 0 && location.compressed_page_size >= 0
+}

@@ -1,0 +1,275 @@
+//! The chunks of groups.
+ghost use Rattle.std.specs.Prelude.{◌≡◌, ◌+◌, ◌-◌, ◌^◌, ◌≤◌, ◌++◌, [], ◌∷◌, Some, min, map, length, true, false, nat_lt, IfOk, IfErr, IfSome, IsTrue, OnOk};
+ghost use Rattle.columns_core.specs.Array.{cells, column_of};
+ghost use Rattle.columns_core.specs.Causes.{IsWantOfMemory};
+ghost use Rattle.columns_core.specs.Chunk.{AreEqualLengths, rows_of as chunk_rows};
+ghost use Rattle.columns_core.specs.declared.cell.Cell.{Int};
+ghost use Rattle.columns_core.specs.ElementType.{stores_i32};
+ghost use Rattle.parquet_base.specs.Intervals.{is_well_shaped};
+ghost use Rattle.parquet_scan.specs.Causes.{causes_of_chunk, causes_of_column, causes_of_group};
+ghost use Rattle.parquet_scan.specs.Cells.{given_cell, given_chunk, given_column, walked_item};
+ghost use Rattle.parquet_scan.specs.Counting.{are_built, are_shaped, causes_if_read, causes_of_groups, chunks_if_read, chunks_of_groups, every_row, is_shaped, number_array, rows_if_read, rows_of_groups, rows_read, shown};
+ghost use Rattle.parquet_scan.specs.NotBuilt.{is_built_field};
+ghost use Rattle.parquet_scan.specs.Scan.{FailsBy};
+
+use crate::GroupKept;
+use crate::column::{decode_pages, read_chunk};
+use crate::groups::column_named;
+use crate::located::read_located;
+use columns_core::{Array, Chunk, DataType, Error, Field, Part, PrimitiveArray};
+use parquet_base::Steps;
+use parquet_meta::{ColumnChunkMetaData, RowGroupMetaData, Source};
+use parquet_page::PageReader;
+use std::alloc::Global;
+use std::sync::ledger::Ledger;
+
+/// What was read so far.
+#[derive(Drop)]
+pub(crate) struct RowsRead {
+    pub(crate) chunks: Vec<Chunk>,
+    pub(crate) rows: usize,
+    pub(crate) pages: usize,
+}
+
+/// Reads the groups that have kept rows.
+pub(crate) fn read_groups<S: Source, L: Ledger>(
+    alloc: Global,
+    source: &mut S,
+    groups: &[RowGroupMetaData],
+    kept: &[GroupKept],
+    by_pages: bool,
+    fields: &[Field],
+    read: &mut RowsRead,
+    steps: &mut Steps<L>,
+) -> Result<(), Error>
+    requires lengths { length kept.now ≡ length groups.now }
+    requires shaped { are_shaped groups.now kept.now ≡ true }
+    requires built { IsTrue (are_built fields.now) }
+    ensures same { S.told source.new ≡ S.told source.old }
+    ensures same_source { S.kept source.new ≡ S.kept source.old }
+    ensures later { S.faults source.old ≤ S.faults source.new }
+    ensures ok { OnOk result (IfSome (S.told source.old) (λ bytes. causes_of_groups by_pages fields.now bytes groups.now kept.now ≡ [])) }
+    ensures fails { IfErr result (FailsBy (S.told source.old) (S.faults source.old) (S.faults source.new) (λ bytes. causes_of_groups by_pages fields.now bytes groups.now kept.now)) }
+    ensures chunks { OnOk result (IfSome (S.told source.old) (λ bytes. shown read.new.chunks.items ≡ shown read.old.chunks.items ++ chunks_of_groups by_pages fields.now bytes groups.now kept.now)) }
+    ensures rows { OnOk result (read.new.rows ≡ min (read.old.rows + rows_of_groups by_pages groups.now kept.now) (2 ^ 64 - 1)) }
+    ensures ticks { steps.old ≤ steps.new }
+    ensures pages { OnOk result (read.new.pages ≡ min (read.old.pages + (steps.new - steps.old)) (2 ^ 64 - 1)) }
+{
+    let _rows = read.rows;
+    for i in 0..groups.len() {
+        read_if_kept(
+            alloc, source, &groups[i], &kept[i], by_pages, fields, read, steps,
+        )?;
+    }
+    Ok(())
+}
+
+/// Reads a group, if some of its rows are kept.
+fn read_if_kept<S: Source, L: Ledger>(
+    alloc: Global,
+    source: &mut S,
+    group: &RowGroupMetaData,
+    kept: &GroupKept,
+    by_pages: bool,
+    fields: &[Field],
+    read: &mut RowsRead,
+    steps: &mut Steps<L>,
+) -> Result<(), Error>
+    requires shaped { is_shaped (group.now, kept.now) ≡ true }
+    requires built { IsTrue (are_built fields.now) }
+    ensures same { S.told source.new ≡ S.told source.old }
+    ensures same_source { S.kept source.new ≡ S.kept source.old }
+    ensures later { S.faults source.old ≤ S.faults source.new }
+    ensures ok { OnOk result (IfSome (S.told source.old) (λ bytes. causes_if_read by_pages fields.now bytes (group.now, kept.now) ≡ [])) }
+    ensures fails { IfErr result (FailsBy (S.told source.old) (S.faults source.old) (S.faults source.new) (λ bytes. causes_if_read by_pages fields.now bytes (group.now, kept.now))) }
+    ensures chunks { OnOk result (IfSome (S.told source.old) (λ bytes. shown read.new.chunks.items ≡ shown read.old.chunks.items ++ chunks_if_read by_pages fields.now bytes (group.now, kept.now))) }
+    ensures rows { OnOk result (read.new.rows ≡ min (read.old.rows + rows_if_read by_pages (group.now, kept.now)) (2 ^ 64 - 1)) }
+    ensures ticks { steps.old ≤ steps.new }
+    ensures pages { OnOk result (read.new.pages ≡ min (read.old.pages + (steps.new - steps.old)) (2 ^ 64 - 1)) }
+{
+    if has_kept_rows(kept) {
+        return read_group(alloc, source, group, kept, by_pages, fields, read, steps);
+    }
+    let (_rows, _pages) = (read.rows, read.pages);
+    Ok(())
+}
+
+fn has_kept_rows(kept: &GroupKept) -> bool
+    ensures { result ≡ nat_lt 0 (length kept.now.intervals) }
+{
+    kept.intervals.as_slice().len() > 0
+}
+
+/// Reads the columns of a group into a chunk.
+fn read_group<S: Source, L: Ledger>(
+    alloc: Global,
+    source: &mut S,
+    group: &RowGroupMetaData,
+    kept: &GroupKept,
+    by_pages: bool,
+    fields: &[Field],
+    read: &mut RowsRead,
+    steps: &mut Steps<L>,
+) -> Result<(), Error>
+    requires shaped { is_well_shaped kept.now.intervals group.now.num_rows ≡ true }
+    requires built { IsTrue (are_built fields.now) }
+    ensures same { S.told source.new ≡ S.told source.old }
+    ensures same_source { S.kept source.new ≡ S.kept source.old }
+    ensures later { S.faults source.old ≤ S.faults source.new }
+    ensures ok { OnOk result (IfSome (S.told source.old) (λ bytes. causes_of_group by_pages fields.now bytes (group.now, rows_read by_pages group.now kept.now.intervals) ≡ [])) }
+    ensures fails { IfErr result (FailsBy (S.told source.old) (S.faults source.old) (S.faults source.new) (λ bytes. causes_of_group by_pages fields.now bytes (group.now, rows_read by_pages group.now kept.now.intervals))) }
+    ensures chunk { OnOk result (IfSome (S.told source.old) (λ bytes. shown read.new.chunks.items ≡ shown read.old.chunks.items ++ given_chunk by_pages fields.now bytes group.now (rows_read by_pages group.now kept.now.intervals) ∷ [])) }
+    ensures rows { OnOk result (read.new.rows ≡ min (read.old.rows + length (rows_read by_pages group.now kept.now.intervals)) (2 ^ 64 - 1)) }
+    ensures ticks { steps.old ≤ steps.new }
+    ensures pages { OnOk result (read.new.pages ≡ min (read.old.pages + (steps.new - steps.old)) (2 ^ 64 - 1)) }
+{
+    let (arrays, pages) = read_arrays(alloc, source, group, kept, by_pages, fields, steps)?;
+    add_chunk(read, arrays, pages)
+}
+
+/// The arrays of all columns of a group, and how many pages were lent.
+fn read_arrays<S: Source, L: Ledger>(
+    alloc: Global,
+    source: &mut S,
+    group: &RowGroupMetaData,
+    kept: &GroupKept,
+    by_pages: bool,
+    fields: &[Field],
+    steps: &mut Steps<L>,
+) -> Result<(Vec<Array>, usize), Error>
+    requires shaped { is_well_shaped kept.now.intervals group.now.num_rows ≡ true }
+    requires built { IsTrue (are_built fields.now) }
+    ensures same { S.told source.new ≡ S.told source.old }
+    ensures same_source { S.kept source.new ≡ S.kept source.old }
+    ensures later { S.faults source.old ≤ S.faults source.new }
+    ensures ok { OnOk result (IfSome (S.told source.old) (λ bytes. causes_of_group by_pages fields.now bytes (group.now, rows_read by_pages group.now kept.now.intervals) ≡ [])) }
+    ensures fails { IfErr result (FailsBy (S.told source.old) (S.faults source.old) (S.faults source.new) (λ bytes. causes_of_group by_pages fields.now bytes (group.now, rows_read by_pages group.now kept.now.intervals))) }
+    ensures lengths { IfOk result (λ found. AreEqualLengths found.0.items) }
+    ensures rows { IfOk result (λ found. chunk_rows found.0.items ≡ length (rows_read by_pages group.now kept.now.intervals)) }
+    ensures columns { IfOk result (λ found. IfSome (S.told source.old) (λ bytes. map (given_column by_pages bytes group.now (rows_read by_pages group.now kept.now.intervals)) fields.now ≡ map (λ array. Some (column_of array)) found.0.items)) }
+    ensures ticks { steps.old ≤ steps.new }
+    ensures pages { IfOk result (λ found. found.1 ≡ min (steps.new - steps.old) (2 ^ 64 - 1)) }
+{
+    let mut arrays = Vec::new(alloc);
+    let mut pages: usize = 0;
+    for field in fields {
+        let (array, lent) = read_array(alloc, source, group, kept, by_pages, field, steps)?;
+        pages = pages.saturating_add(lent);
+        arrays.push(array)?;
+    }
+    Ok((arrays, pages))
+}
+
+/// The array of a field in a group, and how many pages were lent.
+fn read_array<S: Source, L: Ledger>(
+    alloc: Global,
+    source: &mut S,
+    group: &RowGroupMetaData,
+    kept: &GroupKept,
+    by_pages: bool,
+    field: &Field,
+    steps: &mut Steps<L>,
+) -> Result<(Array, usize), Error>
+    requires shaped { is_well_shaped kept.now.intervals group.now.num_rows ≡ true }
+    requires built { IsTrue (is_built_field field.now) }
+    ensures same { S.told source.new ≡ S.told source.old }
+    ensures same_source { S.kept source.new ≡ S.kept source.old }
+    ensures later { S.faults source.old ≤ S.faults source.new }
+    ensures ok { OnOk result (IfSome (S.told source.old) (λ bytes. causes_of_column by_pages bytes group.now (rows_read by_pages group.now kept.now.intervals) field.now ≡ [])) }
+    ensures fails { IfErr result (FailsBy (S.told source.old) (S.faults source.old) (S.faults source.new) (λ bytes. causes_of_column by_pages bytes group.now (rows_read by_pages group.now kept.now.intervals) field.now)) }
+    ensures length { IfOk result (λ found. length (cells found.0) ≡ length (rows_read by_pages group.now kept.now.intervals)) }
+    ensures column { IfOk result (λ found. IfSome (S.told source.old) (λ bytes. given_column by_pages bytes group.now (rows_read by_pages group.now kept.now.intervals) field.now ≡ Some (column_of found.0))) }
+    ensures ticks { steps.old ≤ steps.new }
+    ensures pages { IfOk result (λ found. found.1 ≡ min (steps.new - steps.old) (2 ^ 64 - 1)) }
+{
+    let (numbers, pages) = read_column(alloc, source, group, kept, by_pages, field, steps)?;
+    let array = array_of(field.data_type.try_clone(alloc)?, numbers)?;
+    Ok((array, pages))
+}
+
+/// The array of numbers of a type that stores them.
+fn array_of(data_type: DataType, numbers: Vec<i32>) -> Result<Array, Error>
+    requires { IsTrue (stores_i32 data_type) }
+    ensures array { IfOk result (λ array. array ≡ number_array data_type numbers.items) }
+    ensures stored { IfErr result (λ _. ⊥) }
+{
+    let array = PrimitiveArray::try_new(data_type, numbers, None)?;
+    Ok(Array::Int32(array))
+}
+
+/// The numbers of a column in the rows of a group that are read, and how many pages were lent.
+fn read_column<S: Source, L: Ledger>(
+    alloc: Global,
+    source: &mut S,
+    group: &RowGroupMetaData,
+    kept: &GroupKept,
+    by_pages: bool,
+    field: &Field,
+    steps: &mut Steps<L>,
+) -> Result<(Vec<i32>, usize), Error>
+    requires shaped { is_well_shaped kept.now.intervals group.now.num_rows ≡ true }
+    ensures same { S.told source.new ≡ S.told source.old }
+    ensures same_source { S.kept source.new ≡ S.kept source.old }
+    ensures later { S.faults source.old ≤ S.faults source.new }
+    ensures ok { OnOk result (IfSome (S.told source.old) (λ bytes. causes_of_column by_pages bytes group.now (rows_read by_pages group.now kept.now.intervals) field.now ≡ [])) }
+    ensures fails { IfErr result (FailsBy (S.told source.old) (S.faults source.old) (S.faults source.new) (λ bytes. causes_of_column by_pages bytes group.now (rows_read by_pages group.now kept.now.intervals) field.now)) }
+    ensures count { IfOk result (λ found. length found.0.items ≡ length (rows_read by_pages group.now kept.now.intervals)) }
+    ensures numbers { IfOk result (λ found. IfSome (S.told source.old) (λ bytes. map (given_cell by_pages bytes group.now field.now) (rows_read by_pages group.now kept.now.intervals) ≡ map (λ n. Some (Int n)) found.0.items)) }
+    ensures ticks { steps.old ≤ steps.new }
+    ensures pages { IfOk result (λ found. found.1 ≡ min (steps.new - steps.old) (2 ^ 64 - 1)) }
+{
+    let Some(column) = column_named(group, &field.name) else {
+        return Err(Error::ExternalFormat(Part::Group));
+    };
+    if by_pages {
+        return read_located(
+            alloc,
+            source,
+            group,
+            kept.intervals.as_slice(),
+            column,
+            steps,
+        );
+    }
+    read_whole(alloc, source, group, column, steps)
+}
+
+/// The numbers of a column in all rows of a group, and how many pages were lent.
+fn read_whole<S: Source, L: Ledger>(
+    alloc: Global,
+    source: &mut S,
+    group: &RowGroupMetaData,
+    column: &ColumnChunkMetaData,
+    steps: &mut Steps<L>,
+) -> Result<(Vec<i32>, usize), Error>
+    ensures same { S.told source.new ≡ S.told source.old }
+    ensures same_source { S.kept source.new ≡ S.kept source.old }
+    ensures later { S.faults source.old ≤ S.faults source.new }
+    ensures ok { OnOk result (IfSome (S.told source.old) (λ bytes. causes_of_chunk false bytes group.now (every_row group.now) column.now ≡ [])) }
+    ensures fails { IfErr result (FailsBy (S.told source.old) (S.faults source.old) (S.faults source.new) (λ bytes. causes_of_chunk false bytes group.now (every_row group.now) column.now)) }
+    ensures count { IfOk result (λ found. length found.0.items ≡ group.now.num_rows) }
+    ensures numbers { IfOk result (λ found. IfSome (S.told source.old) (λ bytes. map (walked_item bytes group.now column.now) (every_row group.now) ≡ map (λ n. Some (Int n)) found.0.items)) }
+    ensures ticks { steps.old ≤ steps.new }
+    ensures pages { IfOk result (λ found. found.1 ≡ min (steps.new - steps.old) (2 ^ 64 - 1)) }
+{
+    let bytes = read_chunk(alloc, source, group, column)?;
+    let mut reader = PageReader::new(alloc, bytes, column)?;
+    let mut numbers = Vec::new(alloc);
+    let pages = decode_pages(&mut reader, &mut numbers, steps)?;
+    Ok((numbers, pages))
+}
+
+/// Adds the chunk of a group, and how many rows it has and pages were lent for it.
+fn add_chunk(read: &mut RowsRead, arrays: Vec<Array>, pages: usize) -> Result<(), Error>
+    requires { AreEqualLengths arrays.items }
+    ensures chunks { OnOk result (read.new.chunks.items ≡ read.old.chunks.items ++ arrays.items ∷ []) }
+    ensures rows { OnOk result (read.new.rows ≡ min (read.old.rows + chunk_rows arrays.items) (2 ^ 64 - 1)) }
+    ensures pages { OnOk result (read.new.pages ≡ min (read.old.pages + pages) (2 ^ 64 - 1)) }
+    ensures memory { IfErr result IsWantOfMemory }
+{
+    let chunk = Chunk::try_new(arrays)?;
+    read.rows = read.rows.saturating_add(chunk.len());
+    read.chunks.push(chunk)?;
+    read.pages = read.pages.saturating_add(pages);
+    Ok(())
+}

@@ -1,0 +1,73 @@
+-- From what a scan answers to what is reported.
+use Rattle.std.proofs.Common.{◌≡◌, ℕ, List, refl, sym, subst, ◌∙◌, ap}
+use Rattle.std.specs.Prelude.{Option, Some, None, option_map, option_and_then, IfNone, IfSome, IsSomeAnd}
+use Rattle.parquet_base.specs.declared.interval.Interval.{Interval}
+use Rattle.columns_core.specs.declared.cell.Cell.{Cell}
+use Rattle.columns_core.specs.declared.data_type.DataType.{DataType}
+use Rattle.parquet_scan.specs.Causes.{IsValid}
+use Rattle.parquet_scan.specs.Cells.{given_chunks}
+use Rattle.parquet_scan.specs.Rows.{File, file_of, given_count}
+use Rattle.parquet_scan.specs.Scan.{OnFile, kept_groups}
+use Rattle.pqscan.specs.Program.{IsLegal, IsReportOf, IsReported, OnCommand, report_on}
+use Rattle.pqscan.specs.Report.{report}
+use Rattle.pqscan.specs.Words.{Command}
+
+some_file : (command : Command) (bytes : List ℕ) (o : Option File) → file_of bytes ≡ o → IsValid command.request bytes → (o ≡ None → ⊥)
+some_file command bytes o at valid none = absurd cc
+
+same_report : (command : Command) (pages count : ℕ) (kept : List (ℕ × List Interval)) (chunks : List (List (DataType × List Cell))) (file : File) (text : List ℕ)
+    → kept ≡ kept_groups command.request file → given_chunks command.request file ≡ Some chunks → count ≡ given_count command.request file → text ≡ report command.summary kept chunks count pages
+    → report_on command pages file ≡ Some text
+same_report command pages count kept chunks file text k c n t =
+    ap (option_map (λ chunks. report command.summary (kept_groups command.request file) chunks (given_count command.request file) pages)) c
+    ∙ (λ i. Some (report command.summary (sym k i) chunks (sym n i) pages)) ∙ ap Some (sym t)
+
+-- the text of a scan is the report
+pub is_reported : (told : Option (List ℕ)) (command : Command) (pages count : ℕ) (kept : List (ℕ × List Interval)) (chunks : List (List (DataType × List Cell))) (text : List ℕ)
+    → IfSome told (IsLegal command) → IfSome told (IsValid command.request) → OnFile told (λ file. kept ≡ kept_groups command.request file)
+    → OnFile told (λ file. given_chunks command.request file ≡ Some chunks) → OnFile told (λ file. count ≡ given_count command.request file)
+    → text ≡ report command.summary kept chunks count pages → IfSome told (λ bytes. IsReported command bytes pages (λ found. found ≡ text))
+is_reported None command pages count kept chunks text legal valid k c n t = tt
+is_reported (Some bytes) command pages count kept chunks text legal valid k c n t = record { legal = legal; valid = valid; report = at (file_of bytes) refl k c n } where
+  at : (o : Option File) → file_of bytes ≡ o → IfSome o (λ file. kept ≡ kept_groups command.request file) → IfSome o (λ file. given_chunks command.request file ≡ Some chunks)
+      → IfSome o (λ file. count ≡ given_count command.request file) → IsSomeAnd (option_and_then (report_on command pages) o) (λ found. found ≡ text)
+  at None found k c n = absurd (some_file command bytes None found valid refl)
+  at (Some file) found k c n = subst (λ o. IsSomeAnd o (λ found. found ≡ text)) (sym (same_report command pages count kept chunks file text k c n t)) refl
+
+-- ---- facts about the command and the bytes
+
+pub always : (o : Option Command) (told : Option (List ℕ)) (P : Command → List ℕ → Type 0) → ((command : Command) (bytes : List ℕ) → P command bytes) → OnCommand o told P
+always None told P f = tt
+always (Some command) None P f = tt
+always (Some command) (Some bytes) P f = f command bytes
+
+pub passed_up : (o : Option Command) (told : Option (List ℕ)) (P Q : Command → List ℕ → Type 0) → OnCommand o told P → ((command : Command) (bytes : List ℕ) → P command bytes → Q command bytes) → OnCommand o told Q
+passed_up None told P Q h f = tt
+passed_up (Some command) None P Q h f = tt
+passed_up (Some command) (Some bytes) P Q h f = f command bytes h
+
+pub no_command : (o : Option Command) (P : Type 0) → IfNone o ⊥ → IfNone o P
+no_command None P h = absurd h
+no_command (Some command) P h = tt
+
+some_and : {X : Type 0} (o : Option X) (P Q : X → Type 0) → IsSomeAnd o P → ((x : X) → P x → Q x) → IsSomeAnd o Q
+some_and None P Q h f = h
+some_and (Some x) P Q h f = f x h
+
+-- of the text that was made, all that holds of it
+pub of_text : (command : Command) (bytes : List ℕ) (pages : ℕ) (text : List ℕ) (Q : List ℕ → Type 0) → Q text → IsReported command bytes pages (λ found. found ≡ text) → IsReported command bytes pages Q
+of_text command bytes pages text Q h reported = record {
+  legal = reported.legal;
+  valid = reported.valid;
+  report = some_and (option_and_then (report_on command pages) (file_of bytes)) (λ found. found ≡ text) Q reported.report (λ found e. subst Q (sym e) h);
+}
+
+-- the text of a scan is the report on it
+pub is_report_of : (command : Command) (pages count : ℕ) (kept : List (ℕ × List Interval)) (chunks : List (List (DataType × List Cell))) (rows : ℕ) (text : List ℕ)
+    → text ≡ report command.summary kept chunks rows count → count ≡ pages → IsReportOf command pages (λ found. found ≡ text)
+is_report_of command pages count kept chunks rows text e same =
+    record { kept = kept; chunks = chunks; rows = rows; holds = ap (report command.summary kept chunks rows) (sym same) ∙ sym e }
+
+pub of_report : (o : Option Command) (pages : ℕ) (text : List ℕ) (Q : List ℕ → Type 0) → Q text → IfSome o (λ command. IsReportOf command pages (λ found. found ≡ text)) → IfSome o (λ command. IsReportOf command pages Q)
+of_report None pages text Q h found = tt
+of_report (Some command) pages text Q h found = record { kept = found.kept; chunks = found.chunks; rows = found.rows; holds = subst Q (sym found.holds) h }
