@@ -1,23 +1,11 @@
 #!/bin/sh
 # Times the six decoders' calls for runs and slices beside plain Rust. Builds both programs in a scratch folder outside
 # the repository, which takes some minutes. Usage: bench/parquet_encoding/run.sh [FOLDER]
-set -eu
-here=$(cd "$(dirname "$0")" && pwd)
-top=$(cd "$here/../.." && pwd)
-work=${1:-$(mktemp -d)}
-mkdir -p "$work/repo/crates" "$work/inputs"
-cp "$top/HANDLES" "$work/repo/"
-for crate in parquet_base parquet_encoding; do
-    rm -rf "$work/repo/crates/$crate"
-    cp -r "$top/crates/$crate" "$work/repo/crates/"
-done
-mkdir -p "$work/repo/crates/decoder_times/src"
-cp "$here/reader.rt.txt" "$work/repo/crates/decoder_times/src/main.rt"
-printf 'parquet_base:\nparquet_encoding: parquet_base\ndecoder_times: parquet_base parquet_encoding\n' > "$work/repo/crates.txt"
-(cd "$work/repo/crates/decoder_times" && rt run -- hybrid 1 0 /dev/null >/dev/null)
-rustc --edition 2021 -O -C target-cpu=x86-64-v2 -C codegen-units=1 -C panic=abort "$here/twin.rs" -o "$work/twin"
+. "$(dirname "$0")/../scratch.sh"
+build decoder_times 'parquet_base parquet_encoding' hybrid 1 0 /dev/null
+mkdir -p "$work/inputs"
 python3 "$here/inputs.py" "$work/inputs" > "$work/list"
-python3 - "$work/repo/crates/decoder_times/out/decoder_times" "$work/twin" "$work/list" <<'PY'
+python3 - "$ours" "$twin" "$work/list" <<'PY'
 import math, subprocess, sys
 
 ours, twin, inputs = sys.argv[1:]

@@ -1,25 +1,11 @@
 #!/bin/sh
 # Times the reading of large footers beside plain Rust, and compares the memory that both take. Builds both programs in a scratch
 # folder outside the repository, which takes some minutes. Usage: bench/parquet_meta/run.sh [FOLDER]
-set -eu
-here=$(cd "$(dirname "$0")" && pwd)
-top=$(cd "$here/../.." && pwd)
-work=${1:-$(mktemp -d)}
-mkdir -p "$work/repo/crates" "$work/inputs"
-cp "$top/HANDLES" "$work/repo/"
-for crate in parquet_base columns_core parquet_thrift parquet_meta; do
-    rm -rf "$work/repo/crates/$crate"
-    cp -r "$top/crates/$crate" "$work/repo/crates/"
-done
-grep -E '^(parquet_base|columns_core|parquet_thrift|parquet_meta):' "$top/crates.txt" > "$work/repo/crates.txt"
-echo 'footer_times: columns_core parquet_base parquet_thrift parquet_meta' >> "$work/repo/crates.txt"
-mkdir -p "$work/repo/crates/footer_times/src"
-cp "$here/reader.rt.txt" "$work/repo/crates/footer_times/src/main.rt"
+. "$(dirname "$0")/../scratch.sh"
+mkdir -p "$work/inputs"
 python3 "$here/inputs.py" "$work/inputs" > "$work/list"
-first=$(head -n 1 "$work/list" | cut -d ' ' -f 4)
-(cd "$work/repo/crates/footer_times" && rt run -- "$first" >/dev/null)
-rustc --edition 2021 -O -C target-cpu=x86-64-v2 -C codegen-units=1 -C panic=abort "$here/twin.rs" -o "$work/twin"
-python3 - "$work/repo/crates/footer_times/out/footer_times" "$work/twin" "$work/list" <<'PY'
+build footer_times 'parquet_base columns_core parquet_thrift parquet_meta' "$(head -n 1 "$work/list" | cut -d ' ' -f 4)"
+python3 - "$ours" "$twin" "$work/list" <<'PY'
 import os, sys
 
 ours, twin, inputs = sys.argv[1:]
