@@ -7,8 +7,8 @@ work=${1:-$(mktemp -d)}
 mkdir -p "$work/repo/crates"
 cp "$top/HANDLES" "$work/repo/"
 
-# build PROGRAM CRATES WORD..: builds reader.rt.txt over copies of the crates, given lowest first, runs it once on the words, and
-# builds twin.rs. Sets $ours and $twin, the two programs.
+# build PROGRAM CRATES WORD..: builds reader.rt.txt over copies of the crates, given lowest first, with the proof of its main in
+# ghosts.antt.txt if there is one, runs it once on the words, and builds twin.rs. Sets $ours and $twin, the two programs.
 build() {
     program=$1
     crates=$2
@@ -22,6 +22,10 @@ build() {
     echo "$program: $crates" >> "$work/repo/crates.txt"
     mkdir -p "$work/repo/crates/$program/src"
     cp "$here/reader.rt.txt" "$work/repo/crates/$program/src/main.rt"
+    if [ -f "$here/ghosts.antt.txt" ]; then
+        mkdir -p "$work/repo/crates/$program/proofs/main"
+        cp "$here/ghosts.antt.txt" "$work/repo/crates/$program/proofs/main/Invariants.antt"
+    fi
     (cd "$work/repo/crates/$program" && rt run -- "$@" >/dev/null)
     ours=$work/repo/crates/$program/out/$program
     twin=$work/twin
