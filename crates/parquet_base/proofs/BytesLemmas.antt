@@ -1,7 +1,8 @@
 -- Bytes as a number.
 use Rattle.std.proofs.Common.{◌≡◌, ℕ, zero, suc, ◌+◌, ◌*◌, ◌/◌, ◌%◌, ◌^◌, ◌<◌, List, [], ◌∷◌, ◌++◌, length, take, drop, get_or, set, replicate, refl, sym, ap, ◌∙◌, arith}
+use Rattle.std.specs.Int.{w32, w64, from_le_bytes}
 use Rattle.std.proofs.Math.Nat.{zero-div}
-use Rattle.std.proofs.lemmas.List.{get_or-drop}
+use Rattle.std.proofs.lemmas.List.{get_or-drop, drop_all}
 use Rattle.std.proofs.lemmas.Nat.{shr-shr, pow-add, pow_pos, mod_low}
 use Rattle.parquet_base.specs.Bytes.{little_endian}
 
@@ -107,3 +108,17 @@ little_endian-zeros (suc n) = let rest = little_endian-zeros n in omega (arith, 
 pub little_endian-none : little_endian [] ≡ 0
 unfolding little_endian
 little_endian-none = refl
+
+-- ---- numbers as the machine reads them
+
+pub four_bytes : (bytes : List ℕ) → length bytes ≡ 4 → from_le_bytes w32 bytes ≡ little_endian bytes
+four_bytes bytes long =
+    let s : (n : ℕ) → little_endian (drop n bytes) ≡ get_or bytes n 0 + 256 * little_endian (drop (suc n) bytes) = little_endian-step bytes in
+    let rest : little_endian (drop 4 bytes) ≡ 0 = ap little_endian (drop_all 4 bytes (omega arith)) ∙ little_endian-none in
+    omega (arith, s 0, s 1, s 2, s 3)
+
+pub eight_bytes : (bytes : List ℕ) → length bytes ≡ 8 → from_le_bytes w64 bytes ≡ little_endian bytes
+eight_bytes bytes long =
+    let s : (n : ℕ) → little_endian (drop n bytes) ≡ get_or bytes n 0 + 256 * little_endian (drop (suc n) bytes) = little_endian-step bytes in
+    let rest : little_endian (drop 8 bytes) ≡ 0 = ap little_endian (drop_all 8 bytes (omega arith)) ∙ little_endian-none in
+    omega (arith, s 0, s 1, s 2, s 3, s 4, s 5, s 6, s 7)

@@ -54,6 +54,11 @@ pub is_unspelled : (bytes : List ℕ) → varint_within 10 bytes ≡ None → va
 unfolding varint
 is_unspelled bytes e = rw e refl
 
+-- a number of one byte
+pub short : (byte : ℕ) (rest : List ℕ) → byte < 128 → varint (byte ∷ rest) ≡ Some (byte, rest)
+unfolding varint_within
+short byte rest low = is_spelled (byte ∷ rest) byte rest (rw (lt-ltb byte 128 low) refl) (omega arith)
+
 -- a loop reads nine bytes that are followed by others
 pub record IsPart (bytes : List ℕ) (number scale counter : ℕ) (rest : List ℕ) : Type 0 where
   pub scale_is : scale ≡ 128 ^ counter

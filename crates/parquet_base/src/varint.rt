@@ -11,7 +11,21 @@ pub struct Unspelled;
 const MOST_FOLLOWED: usize = 9;
 
 /// An unsigned number in ULEB128 form, and the bytes after it.
+#[tactic(auto, using(crate::proofs::VarintLemmas::short, crate::proofs::EndLemmas::IsEnd_cons))]
 pub fn varint_at(bytes: &[u8]) -> Result<(u64, &[u8]), Unspelled>
+    ensures spelled { Gives (λ x. (x.0, x.1.now)) result (varint bytes.now) }
+    ensures ends { IfOk result (λ x. IsEnd bytes.now x.1.now) }
+    ensures takes { IfOk result (λ x. length x.1.now < length bytes.now) }
+{
+    match bytes.split_first() {
+        Some((byte, rest)) if *byte < 128 => Ok((u64::from(*byte), rest)),
+        _ => long_varint_at(bytes),
+    }
+}
+
+/// The same in a loop, for more than one byte. It is out of line, so that a number of one byte is read where it is wanted.
+#[inline(never)]
+fn long_varint_at(bytes: &[u8]) -> Result<(u64, &[u8]), Unspelled>
     ensures spelled { Gives (λ x. (x.0, x.1.now)) result (varint bytes.now) }
     ensures ends { IfOk result (λ x. IsEnd bytes.now x.1.now) }
     ensures takes { IfOk result (λ x. length x.1.now < length bytes.now) }

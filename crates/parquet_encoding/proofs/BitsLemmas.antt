@@ -1,6 +1,6 @@
 -- Numbers in the bits of bytes.
 use Rattle.std.proofs.Common.{◌≡◌, ℕ, zero, suc, ◌+◌, ◌-◌, ◌*◌, ◌/◌, ◌%◌, ◌^◌, ◌<◌, ◌≤◌, List, [], ◌∷◌, ◌++◌, length, take, drop, get_or, replicate, refl, sym, ap, ◌∙◌, arith}
-use Rattle.std.specs.Int.{w32, w64, from_le_bytes}
+use Rattle.std.specs.Int.{w64, from_le_bytes}
 use Rattle.std.specs.Prelude.{slice_get, Some}
 use Rattle.std.proofs.Math.Pow.{mod-mod-pow}
 use Rattle.std.proofs.lemmas.List.{get_or-take, get_or-drop, drop_all}
@@ -83,13 +83,6 @@ eight_packed bytes width place bit =
     let e6 = at (n + width + width + width + width + width + width) (place + (bit + 6 * width)) (omega arith) in
     let e7 = at (n + width + width + width + width + width + width + width) (place + (bit + 7 * width)) (omega arith) in
     cc
-
--- four bytes as the machine reads them
-pub four_bytes : (bytes : List ℕ) → length bytes ≡ 4 → from_le_bytes w32 bytes ≡ little_endian bytes
-four_bytes bytes long =
-    let s : (n : ℕ) → little_endian (drop n bytes) ≡ get_or bytes n 0 + 256 * little_endian (drop (suc n) bytes) = little_endian-step bytes in
-    let rest : little_endian (drop 4 bytes) ≡ 0 = ap little_endian (drop_all 4 bytes (omega arith)) ∙ little_endian-none in
-    omega (arith, s 0, s 1, s 2, s 3)
 
 -- the bits of a number behind a place, wherever its first byte is
 pub value_in_word : (bytes : List ℕ) (place bit width word : ℕ) → AreBytes bytes → width ≤ 32 → word ≡ little_endian (drop (place + bit / 8) bytes) % 2 ^ 64

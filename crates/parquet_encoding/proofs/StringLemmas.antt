@@ -9,7 +9,7 @@ use Rattle.parquet_base.specs.Reading.{◌>>=◌}
 use Rattle.parquet_encoding.specs.Places.{bytes_in, bytes_from, places_of}
 use Rattle.parquet_encoding.specs.Plain.{plain_bytes, first_string}
 use Rattle.parquet_encoding.specs.PlainLeft.{StringAt}
-use Rattle.parquet_encoding.proofs.BitsLemmas.{four_bytes}
+use Rattle.parquet_base.proofs.BytesLemmas.{four_bytes}
 use Rattle.parquet_encoding.proofs.StepLemmas.{bind_some, given_some, is_something, if_some, nothing_is, same_some, something_is, some_is}
 
 -- ---- one string

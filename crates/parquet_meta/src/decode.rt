@@ -160,6 +160,7 @@ pub(crate) fn decode_bool<M: Memory>(
 }
 
 /// Passes over a field that nobody knows.
+#[inline(always)]
 #[tactic(auto, using(crate::proofs::Rules::unknown_is))]
 pub(crate) fn pass_over<M: Memory>(
     _memory: M,

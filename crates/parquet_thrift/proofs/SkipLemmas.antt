@@ -123,9 +123,9 @@ goes_into n limit inside other bytes rest next l agree top e =
     both None = refl
     both (Some v) = rw (top, ← l) (bind-cong (after_part limit next.then v.1) _ _ (λ r. sym (after_parts-agree n other inside agree r)))
 
--- what is left of passing over a value
-pub record IsSkipping (kind : ℕ) (bytes : List ℕ) (depth : ℕ) (inside : List Part) (rest : List ℕ) : Type 0 where
+-- what is left of passing over the outermost part
+pub record IsSkipping (whole : Part) (bytes : List ℕ) (depth : ℕ) (inside : List Part) (rest : List ℕ) : Type 0 where
   pub within : depth ≤ 32
   pub room : length inside ≡ 32
-  pub same : after_parts depth (part_at inside) rest ≡ after (value_within 32 in_struct kind bytes)
+  pub same : after_parts depth (part_at inside) rest ≡ after_part 31 whole bytes
   pub ends : IsEnd bytes rest

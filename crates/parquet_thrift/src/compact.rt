@@ -48,6 +48,7 @@ impl<'a> Compact<'a> {
     }
 
     /// The next field's header after the id `previous`, which is 0 at a struct's start, or None at the end of the struct.
+    #[inline(always)]
     #[tactic(auto, using(parquet_base::proofs::EndLemmas::IsEnd_through))]
     pub fn next_field(&mut self, previous: i16) -> Result<Option<FieldHeader>, Unspelled>
         ensures { Reads (λ o. option_map (λ h. (h.id, h.kind)) o) (field_header previous) self.old result self.new }
@@ -119,6 +120,7 @@ impl<'a> Compact<'a> {
     }
 
     /// Passes over a field's value of this kind, nested at most 32 deep.
+    #[inline(always)]
     #[tactic(auto, using(parquet_base::proofs::EndLemmas::IsEnd_through, crate::proofs::Depths::value_within_no_deeper))]
     pub fn skip(&mut self, kind: u8) -> Result<(), Unspelled>
         ensures { Passes (no_deeper 32 in_struct kind) self.old result self.new }

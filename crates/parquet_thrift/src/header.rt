@@ -37,6 +37,7 @@ pub(crate) fn is_a_kind(kind: u8) -> bool
 }
 
 /// The next field's header after the id `previous`, or None at the end of the struct.
+#[inline(always)]
 #[tactic(auto, unfolding(crate::specs::Values::field_header))]
 pub(crate) fn field_header_at(
     bytes: &[u8],

@@ -3,7 +3,7 @@
 ghost use Rattle.std.specs.Prelude.{◌≡◌, ◌<◌, ℕ, suc, length, IfOk, slice_get, false};
 ghost use Rattle.parquet_base.specs.Reading.{Gives, IsEnd, after};
 ghost use Rattle.parquet_thrift.specs.Values.{value_within, in_struct};
-ghost use Rattle.parquet_thrift.specs.Skipping.{context_of, BeginsValue, GivesNext, PaysBegun, PaysNext};
+ghost use Rattle.parquet_thrift.specs.Skipping.{context_of, after_part, BeginsValue, GivesNext, PaysBegun, PaysNext};
 
 use crate::header::{FieldHeader, field_header_at, list_header_at, map_header_at};
 use crate::number::{binary_at, bool_at, i8_at, i16_at, i32_at, i64_at, raw_at};
@@ -30,6 +30,7 @@ pub(crate) struct Next {
 }
 
 /// Passes over a value that holds no other, or the header of one that may.
+#[inline(always)]
 #[tactic(auto, unfolding(crate::specs::Values::value_within))]
 fn begin(bytes: &[u8], in_list: bool, kind: u8) -> Result<(Option<Part>, &[u8]), Unspelled>
     ensures begins { (limit : ℕ) → BeginsValue (λ x. (x.0, x.1.now)) result (after (value_within (suc limit) (context_of in_list) kind bytes.now)) limit }
@@ -173,10 +174,20 @@ pub(crate) fn skip_at(bytes: &[u8], kind: u8) -> Result<&[u8], Unspelled>
     ensures spelled { Gives (λ x. x.now) result (after (value_within 32 in_struct kind bytes.now)) }
     ensures ends { IfOk result (λ x. IsEnd bytes.now x.now) }
 {
-    let (begun, mut rest) = begin(bytes, false, kind)?;
-    let Some(part) = begun else {
-        return Ok(rest);
-    };
+    let (begun, rest) = begin(bytes, false, kind)?;
+    match begun {
+        None => Ok(rest),
+        Some(part) => skip_part(rest, part),
+    }
+}
+
+/// Passes over the outermost part of a value. It is out of line, so that a value that holds no other needs no room for parts.
+#[inline(never)]
+fn skip_part(bytes: &[u8], part: Part) -> Result<&[u8], Unspelled>
+    ensures spelled { Gives (λ x. x.now) result (after_part 31 part bytes.now) }
+    ensures ends { IfOk result (λ x. IsEnd bytes.now x.now) }
+{
+    let mut rest = bytes;
     let mut parts = room_for(part);
     let mut depth = 1;
     'walk: while depth > 0 {

@@ -1,8 +1,8 @@
 use Rattle.std.proofs.Common.{arith, ◌-◌}
 use Rattle.parquet_base.proofs.EndLemmas.{IsEnd_behind}
 use Rattle.parquet_base.proofs.VarintLemmas.{has_room, goes_on, finds, finds_none, too_large, is_spelled, tenth_fits}
-use Rattle.parquet_base.proofs.varint.varint_at.Goals as goal
-use Rattle.parquet_base.proofs.varint.varint_at.Goals.{in_default-split_first-via-in-Some-split_first+else-byte-lt2, in_default-split_first-via-in_default-split_first}
+use Rattle.parquet_base.proofs.varint.long_varint_at.Goals as goal
+use Rattle.parquet_base.proofs.varint.long_varint_at.Goals.{in_default-split_first-via-in-Some-split_first+else-byte-lt2, in_default-split_first-via-in_default-split_first}
 
 pub returns-in_default-clause-spelled : goal.returns-in_default-clause-spelled
 returns-in_default-clause-spelled c = finds_none _ _ _ _ _ c.loop.invariant c.in_default.ensures.cases
