@@ -54,7 +54,7 @@ page_front bytes = go (page_header bytes) (page_header-front bytes) where
   go (Some header) at = within header.0 header.1 at (leb header.0.size (length header.1)) refl
 
 -- how many bytes stand before a rest
-before_rest : (front rest bytes : List ℕ) → bytes ≡ front ++ rest → length bytes - length rest ≡ length front
+pub before_rest : (front rest bytes : List ℕ) → bytes ≡ front ++ rest → length bytes - length rest ≡ length front
 before_rest front rest bytes e = let whole = ap length e in omega (arith, whole, length-append front rest)
 
 -- ---- data pages
@@ -156,7 +156,7 @@ record OwnPart (bytes : List ℕ) (page : ChunkPage) (rest : List ℕ) : Type 0 
   alone : page_in part (header_values page.header) ≡ Some page
 
 -- a page that holds so many values at most has as many as it has
-exact_read : (left : ℕ) (bytes : List ℕ) (page : ChunkPage) (rest : List ℕ) → data_page_at left bytes ≡ Some (page, rest)
+pub exact_read : (left : ℕ) (bytes : List ℕ) (page : ChunkPage) (rest : List ℕ) → data_page_at left bytes ≡ Some (page, rest)
     → (data_page_at (header_values page.header) bytes ≡ Some (page, rest)) × (page.size ≡ length bytes - length rest)
 unfolding data_page_at
 exact_read left bytes page rest e =

@@ -8,7 +8,7 @@ use Rattle.parquet_base.specs.Bytes.{little_endian}
 use Rattle.parquet_encoding.specs.Plain.{first_string}
 use Rattle.parquet_page.specs.Levels.{body_of, parts_of_lengths, prefixed_parts}
 use Rattle.parquet_meta.specs.declared.metadata.Repetition.TheVariants.{Required, Optional, Repeated}
-use Rattle.parquet_encoding.proofs.BitsLemmas.{four_bytes}
+use Rattle.parquet_base.proofs.BytesLemmas.{four_bytes}
 
 -- ---- levels behind their length
 

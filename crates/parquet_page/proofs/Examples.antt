@@ -62,7 +62,7 @@ third_entry_twice = refl
 
 -- ---- what is wrong with a page
 
-key_past_the_entries : page_causes None true letters (of ByteArray Required 1 8 (0x02 ∷ 0x02 ∷ 0x03 ∷ [])) ≡ OutOfSpec ∷ []
+key_past_the_entries : page_causes None true (Some 3) (of ByteArray Required 1 8 (0x02 ∷ 0x02 ∷ 0x03 ∷ [])) ≡ OutOfSpec ∷ []
 unfolding page_causes page_keys places_and_values prefixed_parts presence dictionary_keys hybrid runs first_run varint varint_within packed little_endian
 key_past_the_entries = refl
 
@@ -70,7 +70,7 @@ key_past_its_type : page_causes (Some 256) true None (of ByteArray Required 1 8 
 unfolding page_causes page_keys places_and_values prefixed_parts presence dictionary_keys hybrid runs first_run varint varint_within packed little_endian
 key_past_its_type = refl
 
-no_keys : page_causes None true letters (of ByteArray Required 1 8 []) ≡ ExternalFormat ∷ []
+no_keys : page_causes None true (Some 3) (of ByteArray Required 1 8 []) ≡ ExternalFormat ∷ []
 unfolding page_causes page_keys places_and_values prefixed_parts presence dictionary_keys
 no_keys = refl
 
@@ -78,7 +78,7 @@ no_dictionary : page_causes None false None (of ByteArray Required 1 8 []) ≡ N
 unfolding page_causes
 no_dictionary = refl
 
-plain_page_of_a_dictionary_column : page_causes (Some 256) true letters (of Int32 Required 1 0 (7 ∷ 0 ∷ 0 ∷ 0 ∷ [])) ≡ NotYetImplemented ∷ []
+plain_page_of_a_dictionary_column : page_causes (Some 256) true (Some 3) (of Int32 Required 1 0 (7 ∷ 0 ∷ 0 ∷ 0 ∷ [])) ≡ NotYetImplemented ∷ []
 unfolding page_causes
 plain_page_of_a_dictionary_column = refl
 

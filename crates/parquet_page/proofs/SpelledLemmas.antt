@@ -11,12 +11,13 @@ use Rattle.parquet_base.specs.Reading.{◌>>=◌, given}
 use Rattle.parquet_encoding.specs.Hybrid.{hybrid, runs}
 use Rattle.parquet_encoding.proofs.HybridLemmas.{length-runs}
 use Rattle.parquet_encoding.proofs.StepLemmas.{bind_some, given_some, is_something, some_is}
+use Rattle.parquet_meta.specs.declared.metadata.PhysicalType.{PhysicalType}
 use Rattle.parquet_page.specs.Content.{DataContent}
 use Rattle.parquet_page.specs.Levels.{placed, present_count}
 use Rattle.parquet_page.specs.Opened.{goes_on_dictionary, key_causes, page_causes, spelling_causes}
 use Rattle.parquet_page.specs.Spelling.{has_readable_levels, header_encoding, is_keys, page_keys, placed_keys, places_and_values, spelled}
 use Rattle.parquet_page.specs.Stored.{Stored}
-use Rattle.parquet_page.specs.Values.{Encoding, Plain, Keys, DeltaPacked, DeltaLengths, dictionary_keys, encoding_of, goes_with, has_key_past, named_by, unless_none}
+use Rattle.parquet_page.specs.Values.{Encoding, Plain, Keys, DeltaPacked, DeltaLengths, dictionary_keys, encoding_of, goes_with, has_key_past, named_by, unless_none, values_in}
 
 -- ---- as many keys as are wanted
 
@@ -141,7 +142,7 @@ AreTold has_dictionary entries = has_dictionary ≡ true → IsSome entries
 
 -- read as keys of the entries
 read_by_keys : (page : DataContent) (entries : List Stored) → encoding_of (header_encoding page.header) ≡ Some Keys → (goes_with Keys page.type.physical_type && has_readable_levels page.type.repetition page.header) ≡ true
-    → spelling_causes None (Some entries) page Keys ≡ [] → IsSome (spelled page (Some entries))
+    → spelling_causes None (Some (length entries)) page Keys ≡ [] → IsSome (spelled page (Some entries))
 read_by_keys page entries encoding carried none = go (page_keys page) refl none where
   go : (o : Option (List ℕ)) → page_keys page ≡ o → option_map_or (key_causes None (Some (length entries))) o (ExternalFormat ∷ []) ≡ [] → IsSome (spelled page (Some entries))
   go None e none = absurd (no_cause ExternalFormat [] none)
@@ -151,7 +152,7 @@ read_by_keys page entries encoding carried none = go (page_keys page) refl none 
 -- carried, and then spelled
 keys_carried : (page : DataContent) (has_dictionary : Bool) (entries : Option (List Stored)) → AreTold has_dictionary entries → encoding_of (header_encoding page.header) ≡ Some Keys
     → (goes readable : Bool) → goes_with Keys page.type.physical_type ≡ goes → has_readable_levels page.type.repetition page.header ≡ readable
-    → option_map_or (spelling_causes None entries page) (given (goes && has_dictionary && readable) Keys) (NotYetImplemented ∷ []) ≡ [] → IsSome (spelled page entries)
+    → option_map_or (spelling_causes None (option_map length entries) page) (given (goes && has_dictionary && readable) Keys) (NotYetImplemented ∷ []) ≡ [] → IsSome (spelled page entries)
 keys_carried page false entries told encoding false readable g r none = absurd (no_cause NotYetImplemented [] none)
 keys_carried page false entries told encoding true readable g r none = absurd (no_cause NotYetImplemented [] none)
 keys_carried page true entries told encoding false readable g r none = absurd (no_cause NotYetImplemented [] none)
@@ -161,33 +162,45 @@ keys_carried page true None told encoding true true g r none = absurd (no_entrie
   no_entries e = absurd cc
 keys_carried page true (Some entries) told encoding true true g r none = read_by_keys page entries encoding (rw (g, r) refl) none
 
-values_carried : (page : DataContent) (entries : Option (List Stored)) (encoding : Encoding) (carried : Bool) → spelling_causes None entries page encoding ≡ unless (is_some (spelled page entries)) ExternalFormat
-    → option_map_or (spelling_causes None entries page) (given carried encoding) (NotYetImplemented ∷ []) ≡ [] → IsSome (spelled page entries)
-values_carried page entries encoding false is none = absurd (no_cause NotYetImplemented [] none)
-values_carried page entries encoding true is none = none_of (is_some (spelled page entries)) ExternalFormat (sym is ∙ none)
+-- in an encoding that has no use for entries, a page spells the same without them
+spelled_alike : (page : DataContent) (entries : Option (List Stored)) (encoding : Encoding) → encoding_of (header_encoding page.header) ≡ Some encoding
+    → ((type : PhysicalType) (bytes : List ℕ) (count : ℕ) → values_in encoding type entries bytes count ≡ values_in encoding type None bytes count) → spelled page entries ≡ spelled page None
+unfolding spelled
+spelled_alike page entries encoding e same = rw e (go (goes_with encoding page.type.physical_type && has_readable_levels page.type.repetition page.header) (places_and_values page)) where
+  go : (carried : Bool) (o : Option (List Bool × List ℕ)) →
+      (given carried encoding >>= λ encoding. o >>= λ parts. unless_none (present_count parts.0) (values_in encoding page.type.physical_type entries parts.1 (present_count parts.0)) >>= λ values. placed parts.0 values)
+      ≡ (given carried encoding >>= λ encoding. o >>= λ parts. unless_none (present_count parts.0) (values_in encoding page.type.physical_type None parts.1 (present_count parts.0)) >>= λ values. placed parts.0 values)
+  go false o = refl
+  go true None = refl
+  go true (Some parts) = ap (λ values. unless_none (present_count parts.0) values >>= λ values. placed parts.0 values) (same page.type.physical_type parts.1 (present_count parts.0))
 
-pub values_are_spelled : (page : DataContent) (has_dictionary : Bool) (entries : Option (List Stored)) → AreTold has_dictionary entries → page_causes None has_dictionary entries page ≡ [] → IsSome (spelled page entries)
+values_carried : (page : DataContent) (entries : Option (List Stored)) (encoding : Encoding) (carried : Bool) → spelled page entries ≡ spelled page None → spelling_causes None (option_map length entries) page encoding ≡ unless (is_some (spelled page None)) ExternalFormat
+    → option_map_or (spelling_causes None (option_map length entries) page) (given carried encoding) (NotYetImplemented ∷ []) ≡ [] → IsSome (spelled page entries)
+values_carried page entries encoding false alike is none = absurd (no_cause NotYetImplemented [] none)
+values_carried page entries encoding true alike is none = rw alike (none_of (is_some (spelled page None)) ExternalFormat (sym is ∙ none))
+
+pub values_are_spelled : (page : DataContent) (has_dictionary : Bool) (entries : Option (List Stored)) → AreTold has_dictionary entries → page_causes None has_dictionary (option_map length entries) page ≡ [] → IsSome (spelled page entries)
 unfolding page_causes
 values_are_spelled page has_dictionary entries told none = go (encoding_of (header_encoding page.header)) refl none where
   go : (o : Option Encoding) → encoding_of (header_encoding page.header) ≡ o
-      → option_map_or (spelling_causes None entries page) (o >>= λ encoding. given ((false || goes_with encoding page.type.physical_type) && goes_on_dictionary false has_dictionary encoding && has_readable_levels page.type.repetition page.header) encoding) (NotYetImplemented ∷ []) ≡ []
+      → option_map_or (spelling_causes None (option_map length entries) page) (o >>= λ encoding. given ((false || goes_with encoding page.type.physical_type) && goes_on_dictionary false has_dictionary encoding && has_readable_levels page.type.repetition page.header) encoding) (NotYetImplemented ∷ []) ≡ []
       → IsSome (spelled page entries)
   go None e none = absurd (no_cause NotYetImplemented [] none)
   go (Some Keys) e none = keys_carried page has_dictionary entries told e (goes_with Keys page.type.physical_type) (has_readable_levels page.type.repetition page.header) refl refl none
-  go (Some Plain) e none = values_carried page entries Plain (goes_with Plain page.type.physical_type && true && has_readable_levels page.type.repetition page.header) refl none
-  go (Some DeltaPacked) e none = values_carried page entries DeltaPacked (goes_with DeltaPacked page.type.physical_type && true && has_readable_levels page.type.repetition page.header) refl none
-  go (Some DeltaLengths) e none = values_carried page entries DeltaLengths (goes_with DeltaLengths page.type.physical_type && true && has_readable_levels page.type.repetition page.header) refl none
+  go (Some Plain) e none = values_carried page entries Plain (goes_with Plain page.type.physical_type && true && has_readable_levels page.type.repetition page.header) (spelled_alike page entries Plain e (λ type bytes count. refl)) refl none
+  go (Some DeltaPacked) e none = values_carried page entries DeltaPacked (goes_with DeltaPacked page.type.physical_type && true && has_readable_levels page.type.repetition page.header) (spelled_alike page entries DeltaPacked e (λ type bytes count. refl)) refl none
+  go (Some DeltaLengths) e none = values_carried page entries DeltaLengths (goes_with DeltaLengths page.type.physical_type && true && has_readable_levels page.type.repetition page.header) (spelled_alike page entries DeltaLengths e (λ type bytes count. refl)) refl none
 
 -- ---- nothing is wrong with a page that is read as keys
 
-keys_known : (most : ℕ) (page : DataContent) (entries : Option (List Stored)) (carried : Bool) → option_map_or (spelling_causes (Some most) entries page) (given carried Keys) (NotYetImplemented ∷ []) ≡ [] → IsSome (placed_keys page)
+keys_known : (most : ℕ) (page : DataContent) (entries : Option ℕ) (carried : Bool) → option_map_or (spelling_causes (Some most) entries page) (given carried Keys) (NotYetImplemented ∷ []) ≡ [] → IsSome (placed_keys page)
 keys_known most page entries false none = absurd (no_cause NotYetImplemented [] none)
 keys_known most page entries true none = go (page_keys page) refl none where
-  go : (o : Option (List ℕ)) → page_keys page ≡ o → option_map_or (key_causes (Some most) (option_map length entries)) o (ExternalFormat ∷ []) ≡ [] → IsSome (placed_keys page)
+  go : (o : Option (List ℕ)) → page_keys page ≡ o → option_map_or (key_causes (Some most) entries) o (ExternalFormat ∷ []) ≡ [] → IsSome (placed_keys page)
   go None e none = absurd (no_cause ExternalFormat [] none)
   go (Some keys) e none = keys_placed page keys e
 
-pub keys_are_spelled : (most : ℕ) (page : DataContent) (has_dictionary : Bool) (entries : Option (List Stored)) → page_causes (Some most) has_dictionary entries page ≡ [] → IsSome (placed_keys page)
+pub keys_are_spelled : (most : ℕ) (page : DataContent) (has_dictionary : Bool) (entries : Option ℕ) → page_causes (Some most) has_dictionary entries page ≡ [] → IsSome (placed_keys page)
 unfolding page_causes
 keys_are_spelled most page has_dictionary entries none = go (encoding_of (header_encoding page.header)) none where
   go : (o : Option Encoding)

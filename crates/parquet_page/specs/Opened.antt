@@ -1,5 +1,5 @@
 -- What is wrong with a page that is opened, and with a dictionary page.
-use Rattle.std.specs.Prelude.{ℕ, is_some, ◌&&◌, ◌||◌, not, Bool, false, List, [], ◌∷◌, ◌++◌, length, Option, option_map}
+use Rattle.std.specs.Prelude.{ℕ, is_some, ◌&&◌, ◌||◌, not, Bool, false, List, [], ◌∷◌, ◌++◌, Option, None}
 use Rattle.std.specs.Option.{option_map_or}
 use Rattle.columns_core.specs.Causes.{Cause, NotYetImplemented, ExternalFormat, OutOfSpec, Overflow, and_then, unless}
 use Rattle.parquet_base.specs.Reading.{◌>>=◌, given}
@@ -7,7 +7,6 @@ use Rattle.parquet_meta.specs.declared.metadata.PhysicalType.{PhysicalType}
 use Rattle.parquet_page.specs.Chunk.{DictionaryPage}
 use Rattle.parquet_page.specs.Content.{DataContent}
 use Rattle.parquet_page.specs.Spelling.{has_plain_entries, has_readable_levels, header_encoding, page_keys, spelled}
-use Rattle.parquet_page.specs.Stored.{Stored}
 use Rattle.parquet_page.specs.Values.{Encoding, Keys, encoding_of, goes_with, has_key_past, plain_values}
 
 -- Keys are read where the column has a dictionary; a column that is read as a dictionary has pages of keys alone.
@@ -30,13 +29,13 @@ abbrev pub key_causes : Option ℕ → Option ℕ → List ℕ → List Cause
 key_causes most entries keys = unless (not (passes entries keys)) OutOfSpec ++ unless (not (passes most keys)) Overflow
 
 -- what is wrong with the levels and values of a page in an encoding that is carried
-abbrev pub spelling_causes : Option ℕ → Option (List Stored) → DataContent → Encoding → List Cause
-spelling_causes most entries page Keys = option_map_or (key_causes most (option_map length entries)) (page_keys page) (ExternalFormat ∷ [])
-spelling_causes most entries page _ = unless (is_some (spelled page entries)) ExternalFormat
+abbrev pub spelling_causes : Option ℕ → Option ℕ → DataContent → Encoding → List Cause
+spelling_causes most entries page Keys = option_map_or (key_causes most entries) (page_keys page) (ExternalFormat ∷ [])
+spelling_causes most entries page _ = unless (is_some (spelled page None)) ExternalFormat
 
--- What is wrong with a page. A column that is read as a dictionary has keys of a type, so many at most. Entries are told where
--- the dictionary is defined and its entries are spelled.
-unfoldable pub page_causes : Option ℕ → Bool → Option (List Stored) → DataContent → List Cause
+-- What is wrong with a page. A column that is read as a dictionary has keys of a type, so many at most. The number of entries is
+-- told where the dictionary is defined and its entries are spelled.
+unfoldable pub page_causes : Option ℕ → Bool → Option ℕ → DataContent → List Cause
 page_causes most has_dictionary entries page =
     option_map_or (spelling_causes most entries page) (carried_encoding (is_some most) has_dictionary page) (NotYetImplemented ∷ [])
 

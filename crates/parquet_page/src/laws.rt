@@ -1,5 +1,5 @@
 //! Facts about the definitions that the contracts cite.
-ghost use Rattle.std.specs.Prelude.{◌≡◌, ℕ, ◌≤◌, ℤ, pos, Bool, true, IfSome, IsSome, List, [], ◌∷◌, ◌++◌, length, take, drop, map, replicate, Option, Some, None};
+ghost use Rattle.std.specs.Prelude.{◌≡◌, ℕ, ◌≤◌, ℤ, pos, Bool, true, IfSome, IsSome, List, [], ◌∷◌, ◌++◌, length, take, drop, map, replicate, Option, Some, None, option_map};
 ghost use Rattle.std.specs.List.{flat_map};
 ghost use Rattle.parquet_base.specs.Intervals.{AreAdjacent, is_well_shaped, rows_in_page, rows_of};
 ghost use Rattle.parquet_base.specs.declared.interval.Interval.{Interval};
@@ -33,8 +33,8 @@ pub fn pages_are_found_by_their_places()
 
 /// A page with which nothing is wrong is spelled: over the entries of the dictionary, where the column has one, or as keys, where it is read so.
 pub fn pages_without_causes_are_spelled()
-    ensures values { (page : DataContent) (has_dictionary : Bool) (entries : Option (List Stored)) → (has_dictionary ≡ true → IsSome entries) → page_causes None has_dictionary entries page ≡ [] → IsSome (spelled page entries) }
-    ensures keys { (most : ℕ) (page : DataContent) (has_dictionary : Bool) (entries : Option (List Stored)) → page_causes (Some most) has_dictionary entries page ≡ [] → IsSome (placed_keys page) }
+    ensures values { (page : DataContent) (has_dictionary : Bool) (entries : Option (List Stored)) → (has_dictionary ≡ true → IsSome entries) → page_causes None has_dictionary (option_map length entries) page ≡ [] → IsSome (spelled page entries) }
+    ensures keys { (most : ℕ) (page : DataContent) (has_dictionary : Bool) (entries : Option ℕ) → page_causes (Some most) has_dictionary entries page ≡ [] → IsSome (placed_keys page) }
 {}
 
 /// Pages whose first row is a number lie one behind the other, up to the number of rows.
