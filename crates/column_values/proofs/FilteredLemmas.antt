@@ -17,11 +17,11 @@ use Rattle.parquet_page.specs.Content.{DataContent, fit_in, header_values}
 use Rattle.parquet_page.specs.Levels.{Body, body_parts, presence, present_count}
 use Rattle.parquet_page.specs.Spelling.{has_readable_levels}
 use Rattle.parquet_page.specs.ValidityLeft.{levels_causes, page_places}
-use Rattle.parquet_page.proofs.SpelledLemmas.{length-hybrid}
+use Rattle.parquet_page.proofs.SpelledLemmas.{absent_same, length-hybrid, present_suc}
 use Rattle.parquet_page.proofs.ValidityLemmas.{length-all, no-places, places-at}
 use Rattle.parquet_page.specs.Stretches.{BeginsOtherwise, BeginsWith}
 use Rattle.parquet_page.specs.Plan.{Pass, Step, is_selected, kept_count, plan, plan_from, steps_at}
-use Rattle.column_values.specs.FilteredLeft.{intervals_of}
+use Rattle.column_values.specs.FilteredLeft.{intervals_of, stored_values}
 use Rattle.parquet_page.proofs.PlanLemmas.{kept_as, plan-append, plan-kept, plan-passed}
 
 -- ---- rows that pass a test
@@ -246,3 +246,13 @@ begins-page page left n same none counted =
     let some : IsSome left = ap is_some is in
     let long : length (unwrap_or left []) ≡ header_values page.header = ap (λ (o : Option (List Bool)). length (unwrap_or o [])) is ∙ places-length page places.0 places.1 in
     record { some = some; many = counted some ∙ length-all (unwrap_or left []) ∙ long; long = long }
+
+-- Each place that has a value takes one along its steps, or passes over it.
+pub stored-plan : (selected : Option (List Interval)) (row : ℕ) (places : List Bool) → stored_values (plan_from selected row places) ≡ present_count places
+stored-plan selected row [] = refl
+stored-plan selected row (place ∷ places) = step (is_selected selected row) place (plan_from selected (row + 1) places) (stored-plan selected (row + 1) places) where
+  step : (is_wanted place : Bool) (rest : List Step) → stored_values rest ≡ present_count places → stored_values (steps_at is_wanted place ++ rest) ≡ present_count (place ∷ places)
+  step true true rest e = omega (arith, e, present_suc places)
+  step true false rest e = e ∙ sym (absent_same places)
+  step false true rest e = omega (arith, e, present_suc places)
+  step false false rest e = e ∙ sym (absent_same places)

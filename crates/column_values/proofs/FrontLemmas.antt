@@ -39,6 +39,13 @@ front-own_chunk P old new (Some (Err error)) e own = tt
 front-own_chunk P old new None e own = tt
 front-own_chunk P old new More e own = tt
 
+-- what holds of the items before the first was given, holds of it and the others
+pub front-items : {X : Type 0} (P : List X → Type 0) (old new : List X) (result : MaybeNext (Result X Error)) → old ≡ front_of result ++ new → P old → OnNoError result (P (front_of result ++ new))
+front-items P old new (Some (Ok item)) e before = subst P e before
+front-items P old new (Some (Err error)) e before = tt
+front-items P old new None e before = subst P e before
+front-items P old new More e before = subst P e before
+
 pub front-end : {X : Type 0} (N : Type 0) (result : MaybeNext (Result X Error)) → OnNone result ⊥ → OnNone result N
 front-end N (Some result) some = tt
 front-end N None some = absurd some

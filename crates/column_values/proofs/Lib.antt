@@ -5,3 +5,6 @@ pub mod FrontLemmas
 pub mod PlaceLemmas
 pub mod FilteredLemmas
 pub mod WalkLemmas
+pub mod StandingLemmas
+pub mod ChunkLemmas
+pub mod CutLemmas

@@ -1,13 +1,13 @@
 -- Rows that are given, still to come, or refused.
 use Rattle.std.proofs.Common.{◌≡◌, ℕ, ◌+◌, ◌-◌, ◌<◌, ◌≤◌, suc, zero, List, [], ◌∷◌, ◌++◌, length, take, drop, map, Option, Some, None, refl, sym, ap, ◌∙◌, subst, inl, inr, arith, append_assoc}
-use Rattle.std.specs.Prelude.{min, IsSome}
+use Rattle.std.specs.Prelude.{min}
 use Rattle.std.proofs.lemmas.List.{map-append, length-map, length-append, length-take, length-drop}
 use Rattle.std.proofs.lemmas.List.Elements.{Contains-append_left, Contains-append_right}
 use Rattle.std.proofs.lemmas.Grind.{common_steps}
 use Rattle.columns_core.specs.Causes.{Cause, IsOneOf, cause_of}
 use Rattle.columns_core.specs.declared.cell.Cell.{Cell}
 use Rattle.columns_core.specs.declared.error.Error.{Error}
-use Rattle.column_values.specs.Outcome.{Outcome, Given, Refused, IsCausedBy, causes_in, coming}
+use Rattle.column_values.specs.Outcome.{Outcome, Given, Refused, IsCausedBy, causes_in}
 use Rattle.column_values.specs.Queue.{IsCut, AreFull, FitsChunk}
 use Rattle.column_values.proofs.QueueLemmas.{pushed-IsCut, map-push}
 
@@ -21,7 +21,7 @@ one_of-right : (first rest : List Cause) (o : Option Cause) → IsOneOf rest o �
 one_of-right first rest None h = absurd h
 one_of-right first rest (Some cause) h = Contains-append_right first rest cause h
 
-causes_in-append : (xs ys : List Outcome) → causes_in (xs ++ ys) ≡ causes_in xs ++ causes_in ys
+pub causes_in-append : (xs ys : List Outcome) → causes_in (xs ++ ys) ≡ causes_in xs ++ causes_in ys
 causes_in-append [] ys = refl
 causes_in-append (Given cell ∷ xs) ys = causes_in-append xs ys
 causes_in-append (Refused causes ∷ xs) ys = ap (λ rest. causes ++ rest) (causes_in-append xs ys) ∙ sym (append_assoc causes (causes_in xs) (causes_in ys))
@@ -69,21 +69,18 @@ added-IsCut shown size items new more item k xs is full e within some fits =
     subst C (sym (ap (map shown) is ∙ map-push shown items more)) (pushed-IsCut size (map shown items) (shown more) full (omega (arith, long)) (subst F (sym long) fits))
 
 -- one turn of the loop that appends a page's rows
-pub record Turn (wanted remaining k : ℕ) (decoded decoded' : List Cell) (xs : List Outcome) (left : Option (List Outcome)) : Type 0 where
-  pub state : IsSome left
-  pub wanted_now : wanted - k ≡ min (length (coming left)) (remaining - k)
-  pub rows : map Given decoded' ++ take (remaining - k) (coming left) ≡ map Given decoded ++ take remaining xs
-  pub remaining_now : (remaining - k) - length (coming left) ≡ remaining - length xs
-  pub causes : (error : Error) → IsCausedBy (take (remaining - k) (coming left)) error → IsCausedBy (take remaining xs) error
+pub record Turn (wanted remaining k : ℕ) (decoded decoded' : List Cell) (xs left : List Outcome) : Type 0 where
+  pub wanted_now : wanted - k ≡ min (length left) (remaining - k)
+  pub rows : map Given decoded' ++ take (remaining - k) left ≡ map Given decoded ++ take remaining xs
+  pub remaining_now : (remaining - k) - length left ≡ remaining - length xs
+  pub causes : (error : Error) → IsCausedBy (take (remaining - k) left) error → IsCausedBy (take remaining xs) error
 
-pub Turn-from : (wanted remaining k : ℕ) (decoded decoded' : List Cell) (xs : List Outcome) (left : Option (List Outcome)) → wanted ≡ min (length xs) remaining → k ≤ wanted → map Given decoded' ≡ map Given decoded ++ take k xs → left ≡ Some (drop k xs) → Turn wanted remaining k decoded decoded' xs left
+pub Turn-from : (wanted remaining k : ℕ) (decoded decoded' : List Cell) (xs left : List Outcome) → wanted ≡ min (length xs) remaining → k ≤ wanted → map Given decoded' ≡ map Given decoded ++ take k xs → left ≡ drop k xs → Turn wanted remaining k decoded decoded' xs left
 Turn-from wanted remaining k decoded decoded' xs left w le e is =
-    let is' : Some (drop k xs) ≡ left = sym is in
-    let P : Option (List Outcome) → Type 0 = λ o. Turn wanted remaining k decoded decoded' xs o in
+    let P : List Outcome → Type 0 = λ rest. Turn wanted remaining k decoded decoded' xs rest in
     let within : k ≤ remaining = omega arith in
     let long : length (drop k xs) ≡ length xs - k = length-drop k xs in
-    subst P is' (record {
-      state = refl;
+    subst P (sym is) (record {
       wanted_now = omega (arith, long);
       rows = ap (λ ys. ys ++ take (remaining - k) (drop k xs)) e ∙ append_assoc (map Given decoded) (take k xs) (take (remaining - k) (drop k xs)) ∙ ap (λ ys. map Given decoded ++ ys) (sym (take-split k remaining xs within));
       remaining_now = omega (arith, long);

@@ -4,7 +4,7 @@ use Rattle.std.specs.List.{range_with_len}
 use Rattle.parquet_base.specs.Intervals.{interval}
 use Rattle.parquet_base.specs.declared.interval.Interval.{Interval}
 use Rattle.parquet_page.specs.Content.{DataContent, header_values}
-use Rattle.parquet_page.specs.Plan.{Step, is_selected, plan_from}
+use Rattle.parquet_page.specs.Plan.{Keep, KeepNull, Pass, Step, is_selected, plan_from}
 use Rattle.parquet_page.specs.Runs.{run_rows}
 use Rattle.parquet_page.specs.SliceLeft.{IsWalkOver, first_left, rows_left}
 use Rattle.parquet_page.specs.Stretches.{BeginsOtherwise, BeginsWith}
@@ -30,6 +30,13 @@ places_left walk page = unwrap_or (optional_left walk page) []
 -- what is to be done with the places that are left
 abbrev pub filtered_steps : FilteredOptionalPageValidity → DataContent → List Step
 filtered_steps walk page = plan_from page.selected walk.row (places_left walk.places page)
+
+-- how many stored values steps take or pass over
+abbrev pub stored_values : List Step → ℕ
+stored_values [] = 0
+stored_values (Keep ∷ steps) = 1 + stored_values steps
+stored_values (KeepNull ∷ steps) = stored_values steps
+stored_values (Pass ∷ steps) = 1 + stored_values steps
 
 -- the page is that of this walk, and the intervals have still the selected ones of the rows from where it stands up to the last
 pub record IsPageOf (walk : FilteredOptionalPageValidity) (page : DataContent) : Type 0 where

@@ -1,9 +1,10 @@
 -- What the call for the next chunk answers, and what it leaves.
-use Rattle.std.specs.Prelude.{◌≡◌, ℕ, ◌+◌, ◌<◌, ◌^◌, ◌-◌, min, true, List, [], ◌∷◌, length, map, Option, Result, Ok, Err}
+use Rattle.std.specs.Prelude.{◌≡◌, ℕ, ◌+◌, ◌<◌, true, List, [], ◌∷◌, length, map, Option, Result, Ok, Err}
 use Rattle.std.specs.List.{list_all}
 use Rattle.columns_core.specs.Causes.{Cause}
 use Rattle.columns_core.specs.declared.cell.Cell.{Cell}
 use Rattle.columns_core.specs.declared.error.Error.{Error}
+use Rattle.parquet_meta.specs.Source.{raised}
 use Rattle.parquet_page.specs.Content.{Content, is_data}
 use Rattle.parquet_page.specs.Lending.{HasEnded}
 use Rattle.column_values.specs.declared.queue.MaybeNext.{MaybeNext}
@@ -70,16 +71,12 @@ abbrev pub BeginsFull : {A : Type 0} → Option ℕ → List (List A) → Type 0
 BeginsFull size [] = ⊥
 BeginsFull size (item ∷ items) = IsFull size (length item)
 
--- a page is needed: a row is wanted of it, and no whole chunk waits
-abbrev pub NeedsPage : {A : Type 0} → Option ℕ → List (List A) → ℕ → Type 0
-NeedsPage size items remaining = (0 < remaining) × (BeginsFull size items → ⊥)
-
 -- a page is the next one; behind it there are data pages alone
 pub record IsLent (page : Content) (old new : List Content) (causes causes_now : List Cause) (lent lent_now : ℕ) : Type 0 where
   pub first : old ≡ page ∷ new
   pub same : causes_now ≡ causes
   pub data_alone : list_all is_data new ≡ true
-  pub one_more : lent_now ≡ min (lent + 1) (2 ^ 64 - 1)
+  pub one_more : lent_now ≡ raised lent 1
 
 -- No page is asked for, or the next page is lent, or there is none. A page is asked for only where one is needed. Each page that is
 -- lent is one step.

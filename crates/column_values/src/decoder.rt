@@ -1,10 +1,10 @@
 //! Decoders of pages.
-ghost use Rattle.std.specs.Prelude.{◌≡◌, List, [], ◌++◌, length, take, drop, map, Option, Some, Result, Ok, IfOk, OnOk, IfSome, IsSome, option_map};
+ghost use Rattle.std.specs.Prelude.{◌≡◌, true, List, [], ◌++◌, length, take, drop, map, Option, Result, Ok, IfOk, OnOk, IfSome, option_map};
 ghost use Rattle.std.specs.Option.{option_copied};
 ghost use Rattle.columns_core.specs.Causes.{Cause, ComesOf};
 ghost use Rattle.columns_core.specs.declared.cell.Cell.{Cell};
-ghost use Rattle.parquet_page.specs.Content.{DataContent, DictContent, data_content, dict_content};
-ghost use Rattle.column_values.specs.Outcome.{Given, Outcome, causes_in, coming, refusal_of};
+ghost use Rattle.parquet_page.specs.Content.{DataContent, DataOf, DictContent, data_content, dict_content, is_shaped};
+ghost use Rattle.column_values.specs.Outcome.{Given, Outcome, causes_in, refusal_of};
 
 use columns_core::Error;
 use parquet_page::{DataPage, DictPage};
@@ -39,8 +39,11 @@ pub trait Decoder {
     /// The entries that a dictionary holds.
     ghost dict_shown: { Self → Self.Dict → List Cell };
 
+    /// The states of a page and a dictionary.
+    ghost is_state: { Self → Option Self.Dict → DataContent → Self.State → Type 0 };
+
     /// What a state has still to give, over the dictionary and the page that it was built from.
-    ghost left: { Self → Option Self.Dict → DataContent → Self.State → Option (List Outcome) };
+    ghost left: { Self → Option Self.Dict → DataContent → Self.State → List Outcome };
 
     /// The decoded values that are the decoder's own.
     ghost is_own: { Self → Self.DecodedState → Type 0 };
@@ -56,12 +59,14 @@ pub trait Decoder {
     ) -> Result<Self::State, Error>
         requires takes { takes self.now (data_content page.now) }
         requires own { IfSome (option_copied dict) (is_own_dict self.now) }
-        ensures rows { IfOk result (λ state. left self.now (option_copied dict.entry) (data_content page.now) state ≡ Some (outcomes self.now (option_map (dict_shown self.now) (option_copied dict.entry)) (data_content page.now))) }
+        requires shaped { is_shaped (DataOf (data_content page.now)) ≡ true }
+        ensures state { IfOk result (is_state self.now (option_copied dict.entry) (data_content page.now)) }
+        ensures rows { IfOk result (λ state. left self.now (option_copied dict.entry) (data_content page.now) state ≡ outcomes self.now (option_map (dict_shown self.now) (option_copied dict.entry)) (data_content page.now)) }
         ensures cause { ComesOf result (causes_in (take 1 (outcomes self.now (option_map (dict_shown self.now) (option_copied dict.entry)) (data_content page.now)))) };
 
     /// How many rows a state has still to give.
     fn state_len(&self, state: &Self::State) -> usize
-        ensures { (dict : Option Self.Dict) (page : DataContent) (given : List Outcome) → left self.now dict page state.now ≡ Some given → result ≡ length given };
+        ensures { (dict : Option Self.Dict) (page : DataContent) → is_state self.now dict page state.now → result ≡ length (left self.now dict page state.now) };
 
     /// No values yet, with room for so many.
     fn with_capacity(&self, alloc: Global, capacity: usize) -> Result<Self::DecodedState, Error>
@@ -80,12 +85,13 @@ pub trait Decoder {
     ) -> Result<(), Error>
         requires takes { takes self.now (data_content page.now) }
         requires own_dict { IfSome (option_copied dict) (is_own_dict self.now) }
-        requires state { IsSome (left self.now (option_copied dict) (data_content page.now) state.old) }
+        requires state { is_state self.now (option_copied dict) (data_content page.now) state.old }
         requires own { is_own self.now decoded.old }
-        ensures rows { OnOk result (map Given (Self.DecodedState.shown decoded.new) ≡ map Given (Self.DecodedState.shown decoded.old) ++ take additional (coming (left self.now (option_copied dict.entry) (data_content page.now) state.old))) }
-        ensures left { OnOk result (left self.now (option_copied dict.entry) (data_content page.now) state.new ≡ Some (drop additional (coming (left self.now (option_copied dict.entry) (data_content page.now) state.old)))) }
+        ensures rows { OnOk result (map Given (Self.DecodedState.shown decoded.new) ≡ map Given (Self.DecodedState.shown decoded.old) ++ take additional (left self.now (option_copied dict.entry) (data_content page.now) state.old)) }
+        ensures state { OnOk result (is_state self.now (option_copied dict.entry) (data_content page.now) state.new) }
+        ensures left { OnOk result (left self.now (option_copied dict.entry) (data_content page.now) state.new ≡ drop additional (left self.now (option_copied dict.entry) (data_content page.now) state.old)) }
         ensures own { OnOk result (is_own self.now decoded.new) }
-        ensures cause { ComesOf result (causes_in (take additional (coming (left self.now (option_copied dict.entry) (data_content page.now) state.old)))) };
+        ensures cause { ComesOf result (causes_in (take additional (left self.now (option_copied dict.entry) (data_content page.now) state.old))) };
 
     fn deserialize_dict(&self, alloc: Global, page: &DictPage<'_>) -> Result<Self::Dict, Error>
         ensures entries { IfOk result (λ dict. entries self.now (dict_content page.now) ≡ Ok (dict_shown self.now dict)) }

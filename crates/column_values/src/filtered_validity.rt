@@ -59,7 +59,7 @@ pub struct FilteredOptionalPageValidity {
 }
 
 impl FilteredOptionalPageValidity {
-    ghost use Rattle.column_values.specs.FilteredLeft.{IsLongestOf, IsPageOf, filtered_steps, selected_rows};
+    ghost use Rattle.column_values.specs.FilteredLeft.{IsLongestOf, IsPageOf, filtered_steps, selected_rows, stored_values};
 
     /// Before the first row.
     pub fn try_new(page: &DataPage<'_>) -> Result<Self, Error>
@@ -102,6 +102,16 @@ impl FilteredOptionalPageValidity {
         ensures { (page : DataContent) → IsPageOf self.now page → result ≡ kept_count (filtered_steps self.now page) }
     {
         self.rows.len()
+    }
+
+    /// How many stored values the rows have that are not passed yet, whether they are selected or not.
+    pub fn stored_count(&self, page: &DataPage<'_>) -> usize
+        requires page { IsPageOf self.now (data_content page.now) }
+        ensures { result ≡ stored_values (filtered_steps self.now (data_content page.now)) }
+    {
+        let mut places = self.places;
+        let rows = places.len();
+        pass_rows(&mut places, page, rows)
     }
 
     /// The next run over these intervals.

@@ -1,13 +1,14 @@
 //! The next chunk of a column, over any pages and any decoder.
-ghost use Rattle.std.specs.Prelude.{◌≡◌, ◌⊎◌, ◌+◌, ◌-◌, ◌<◌, true, false, All, List, [], ◌++◌, length, take, map, Option, IfOk, OnOk, IfSome, option_map};
+ghost use Rattle.std.specs.Prelude.{◌≡◌, ◌⊎◌, ◌+◌, ◌-◌, ◌<◌, true, false, All, List, [], ◌++◌, length, take, map, Option, IfErr, IfOk, OnOk, IfSome, option_map};
 ghost use Rattle.std.specs.Option.{option_copied};
 ghost use Rattle.columns_core.specs.Causes.{ComesOf};
-ghost use Rattle.parquet_page.specs.Content.{data_content};
+ghost use Rattle.parquet_page.specs.Content.{DataOf, data_content, is_shaped};
 ghost use Rattle.parquet_page.specs.Lending.{HasEnded};
-ghost use Rattle.column_values.specs.Outcome.{Given, IsCausedBy, Outcome, causes_in};
-ghost use Rattle.column_values.specs.Column.{DataPagesAre, wanted_rows};
+ghost use Rattle.column_values.specs.Outcome.{Given, Outcome, causes_in};
+ghost use Rattle.column_values.specs.Column.{DataPagesAre};
 ghost use Rattle.column_values.specs.Queue.{IsChunkSize, IsCut, joined};
-ghost use Rattle.column_values.specs.NextChunk.{BeginsFull, GivesChunk, GivesFront, IfChunk, IfFault, Moves, NeedsPage, OnMore, OnNoError, OnNone, front_of};
+ghost use Rattle.column_values.specs.Standing.{Advances, FailsBy, IsNeeded, NoneComes, standing, still_wanted};
+ghost use Rattle.column_values.specs.NextChunk.{BeginsFull, GivesChunk, GivesFront, IfChunk, IfFault, Moves, OnMore, OnNoError, OnNone, front_of};
 
 use crate::decoder::{DecodedState, Decoder};
 use crate::queue::{MaybeNext, extend_from_new_page, is_full};
@@ -59,6 +60,7 @@ fn add_page<D: Decoder>(
     requires size { IsChunkSize chunk_size }
     requires some { 0 < remaining.old }
     requires takes { D.takes decoder.now (data_content page.now) }
+    requires shaped { is_shaped (DataOf (data_content page.now)) ≡ true }
     requires own_dict { IfSome (option_copied dict) (D.is_own_dict decoder.now) }
     requires cut { IsCut chunk_size (map D.DecodedState.shown items.old.items) }
     requires own { All (D.is_own decoder.now) items.old.items }
@@ -91,7 +93,8 @@ fn read_page<I: Pages, D: Decoder, L: Ledger>(
     requires own_dict { IfSome dict.old (D.is_own_dict decoder.now) }
     requires cut { IsCut chunk_size (map D.DecodedState.shown items.old.items) }
     requires own { All (D.is_own decoder.now) items.old.items }
-    ensures rows { OnOk result (wanted_rows D.DecodedState.shown (D.dict_shown decoder.now) (D.entries decoder.now) (D.outcomes decoder.now) items.new.items remaining.new dict.new (I.to_come iter.new) (I.causes iter.new) ≡ wanted_rows D.DecodedState.shown (D.dict_shown decoder.now) (D.entries decoder.now) (D.outcomes decoder.now) items.old.items remaining.old dict.old (I.to_come iter.old) (I.causes iter.old)) }
+    ensures rows { OnOk result (still_wanted (D.entries decoder.now) (D.outcomes decoder.now) (standing D.DecodedState.shown (D.dict_shown decoder.now) items.new.items remaining.new dict.new) (I.to_come iter.new) (I.causes iter.new) ≡ still_wanted (D.entries decoder.now) (D.outcomes decoder.now) (standing D.DecodedState.shown (D.dict_shown decoder.now) items.old.items remaining.old dict.old) (I.to_come iter.old) (I.causes iter.old)) }
+    ensures standing { OnOk result (Advances (D.entries decoder.now) (D.outcomes decoder.now) (I.to_come iter.old) (I.to_come iter.new) (standing D.DecodedState.shown (D.dict_shown decoder.now) items.old.items remaining.old dict.old) (standing D.DecodedState.shown (D.dict_shown decoder.now) items.new.items remaining.new dict.new)) }
     ensures end { IfOk result (λ more. more ≡ false → HasEnded (I.to_come iter.old) (I.causes iter.old)) }
     ensures ended { IfOk result (λ more. more ≡ false → HasEnded (I.to_come iter.new) (I.causes iter.new)) }
     ensures more { IfOk result (λ more. more ≡ true → length (I.to_come iter.new) < length (I.to_come iter.old)) }
@@ -101,7 +104,7 @@ fn read_page<I: Pages, D: Decoder, L: Ledger>(
     ensures takes { DataPagesAre (D.takes decoder.now) (I.to_come iter.new) }
     ensures pages { Moves (0 < remaining.old) (I.to_come iter.old) (I.to_come iter.new) (I.causes iter.old) (I.causes iter.new) steps.old steps.new (I.lent_count iter.old) (I.lent_count iter.new) }
     ensures row_count { I.row_count iter.new ≡ I.row_count iter.old }
-    ensures cause { ComesOf result (causes_in (wanted_rows D.DecodedState.shown (D.dict_shown decoder.now) (D.entries decoder.now) (D.outcomes decoder.now) items.old.items remaining.old dict.old (I.to_come iter.old) (I.causes iter.old))) }
+    ensures cause { IfErr result (FailsBy (D.entries decoder.now) (D.outcomes decoder.now) (I.to_come iter.old) (I.to_come iter.new) (I.causes iter.old) (standing D.DecodedState.shown (D.dict_shown decoder.now) items.old.items remaining.old dict.old)) }
 {
     match iter.next(steps)? {
         None => Ok(false),
@@ -140,18 +143,20 @@ pub fn next<I: Pages, D: Decoder, L: Ledger>(
     requires own_dict { IfSome dict.old (D.is_own_dict decoder.now) }
     requires cut { IsCut chunk_size (map D.DecodedState.shown items.old.items) }
     requires own { All (D.is_own decoder.now) items.old.items }
-    ensures chunk { GivesChunk D.DecodedState.shown chunk_size (wanted_rows D.DecodedState.shown (D.dict_shown decoder.now) (D.entries decoder.now) (D.outcomes decoder.now) items.old.items remaining.old dict.old (I.to_come iter.old) (I.causes iter.old)) (wanted_rows D.DecodedState.shown (D.dict_shown decoder.now) (D.entries decoder.now) (D.outcomes decoder.now) items.new.items remaining.new dict.new (I.to_come iter.new) (I.causes iter.new)) result }
+    ensures chunk { GivesChunk D.DecodedState.shown chunk_size (still_wanted (D.entries decoder.now) (D.outcomes decoder.now) (standing D.DecodedState.shown (D.dict_shown decoder.now) items.old.items remaining.old dict.old) (I.to_come iter.old) (I.causes iter.old)) (still_wanted (D.entries decoder.now) (D.outcomes decoder.now) (standing D.DecodedState.shown (D.dict_shown decoder.now) items.new.items remaining.new dict.new) (I.to_come iter.new) (I.causes iter.new)) result }
+    ensures standing { OnNoError result (Advances (D.entries decoder.now) (D.outcomes decoder.now) (I.to_come iter.old) (I.to_come iter.new) (standing D.DecodedState.shown (D.dict_shown decoder.now) items.old.items remaining.old dict.old) (standing D.DecodedState.shown (D.dict_shown decoder.now) (front_of result ++ items.new.items) remaining.new dict.new)) }
     ensures more { OnMore result (length (I.to_come iter.new) < length (I.to_come iter.old)) }
     ensures waits { OnMore result (BeginsFull chunk_size (map D.DecodedState.shown items.new.items) → ⊥) }
-    ensures end { OnNone result ((remaining.old ≡ 0) ⊎ HasEnded (I.to_come iter.old) (I.causes iter.old)) }
+    ensures end { OnNone result (NoneComes remaining.old (I.to_come iter.old) (I.causes iter.old)) }
+    ensures ended { OnNone result (NoneComes remaining.new (I.to_come iter.new) (I.causes iter.new)) }
     ensures cut { OnNoError result (IsCut chunk_size (map D.DecodedState.shown items.new.items)) }
     ensures own { OnNoError result (All (D.is_own decoder.now) items.new.items) }
     ensures own_chunk { IfChunk result (D.is_own decoder.now) }
     ensures own_dict { OnNoError result (IfSome dict.new (D.is_own_dict decoder.now)) }
     ensures takes { DataPagesAre (D.takes decoder.now) (I.to_come iter.new) }
-    ensures pages { Moves (NeedsPage chunk_size (map D.DecodedState.shown items.old.items) remaining.old) (I.to_come iter.old) (I.to_come iter.new) (I.causes iter.old) (I.causes iter.new) steps.old steps.new (I.lent_count iter.old) (I.lent_count iter.new) }
+    ensures pages { Moves (IsNeeded chunk_size (standing D.DecodedState.shown (D.dict_shown decoder.now) items.old.items remaining.old dict.old)) (I.to_come iter.old) (I.to_come iter.new) (I.causes iter.old) (I.causes iter.new) steps.old steps.new (I.lent_count iter.old) (I.lent_count iter.new) }
     ensures row_count { I.row_count iter.new ≡ I.row_count iter.old }
-    ensures cause { IfFault result (IsCausedBy (wanted_rows D.DecodedState.shown (D.dict_shown decoder.now) (D.entries decoder.now) (D.outcomes decoder.now) items.old.items remaining.old dict.old (I.to_come iter.old) (I.causes iter.old))) }
+    ensures cause { IfFault result (FailsBy (D.entries decoder.now) (D.outcomes decoder.now) (I.to_come iter.old) (I.to_come iter.new) (I.causes iter.old) (standing D.DecodedState.shown (D.dict_shown decoder.now) items.old.items remaining.old dict.old)) }
 {
     if *remaining == 0 {
         return give_front(chunk_size, items);

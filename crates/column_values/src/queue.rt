@@ -1,9 +1,9 @@
 //! Items of decoded values that wait in a queue, cut into chunks.
-ghost use Rattle.std.specs.Prelude.{◌≡◌, ◌↔◌, ◌⊎◌, IsTrue, true, false, ℕ, ◌+◌, ◌-◌, ◌<◌, ◌≤◌, All, List, [], ◌∷◌, ◌++◌, length, take, drop, map, Some, Option, IfOk, OnOk, IfSome, IsSome};
+ghost use Rattle.std.specs.Prelude.{◌≡◌, ◌↔◌, ◌⊎◌, IsTrue, true, false, ℕ, ◌+◌, ◌-◌, ◌<◌, ◌≤◌, All, List, [], ◌∷◌, ◌++◌, length, take, drop, map, Option, IfOk, OnOk, IfSome};
 ghost use Rattle.std.specs.Option.{option_copied, option_to_list};
 ghost use Rattle.columns_core.specs.Causes.{ComesOf};
 ghost use Rattle.parquet_page.specs.Content.{data_content};
-ghost use Rattle.column_values.specs.Outcome.{Given, causes_in, coming};
+ghost use Rattle.column_values.specs.Outcome.{Given, causes_in};
 ghost use Rattle.column_values.specs.Queue.{AreFull, EndsOpen, FitsChunk, IsChunkSize, IsCut, IsFull, joined};
 
 use crate::decoder::{DecodedState, Decoder};
@@ -110,18 +110,19 @@ fn add_rows<D: Decoder>(
     requires size { IsChunkSize chunk_size }
     requires takes { D.takes decoder.now (data_content page.now) }
     requires own_dict { IfSome (option_copied dict) (D.is_own_dict decoder.now) }
-    requires state { IsSome (D.left decoder.now (option_copied dict) (data_content page.now) state.old) }
+    requires state { D.is_state decoder.now (option_copied dict) (data_content page.now) state.old }
     requires some { 0 < wanted }
-    requires wanted { wanted ≤ length (coming (D.left decoder.now (option_copied dict) (data_content page.now) state.old)) }
+    requires wanted { wanted ≤ length (D.left decoder.now (option_copied dict) (data_content page.now) state.old) }
     requires cut { IsCut chunk_size (map D.DecodedState.shown items.old.items) }
     requires own { All (D.is_own decoder.now) items.old.items }
     ensures some { IfOk result (λ taken. 0 < taken) }
     ensures within { IfOk result (λ taken. taken ≤ wanted) }
-    ensures rows { IfOk result (λ taken. map Given (joined (map D.DecodedState.shown items.new.items)) ≡ map Given (joined (map D.DecodedState.shown items.old.items)) ++ take taken (coming (D.left decoder.now (option_copied dict.entry) (data_content page.now) state.old))) }
-    ensures left { IfOk result (λ taken. D.left decoder.now (option_copied dict.entry) (data_content page.now) state.new ≡ Some (drop taken (coming (D.left decoder.now (option_copied dict.entry) (data_content page.now) state.old)))) }
+    ensures rows { IfOk result (λ taken. map Given (joined (map D.DecodedState.shown items.new.items)) ≡ map Given (joined (map D.DecodedState.shown items.old.items)) ++ take taken (D.left decoder.now (option_copied dict.entry) (data_content page.now) state.old)) }
+    ensures state { OnOk result (D.is_state decoder.now (option_copied dict.entry) (data_content page.now) state.new) }
+    ensures left { IfOk result (λ taken. D.left decoder.now (option_copied dict.entry) (data_content page.now) state.new ≡ drop taken (D.left decoder.now (option_copied dict.entry) (data_content page.now) state.old)) }
     ensures cut { OnOk result (IsCut chunk_size (map D.DecodedState.shown items.new.items)) }
     ensures own { OnOk result (All (D.is_own decoder.now) items.new.items) }
-    ensures cause { ComesOf result (causes_in (take wanted (coming (D.left decoder.now (option_copied dict.entry) (data_content page.now) state.old)))) }
+    ensures cause { ComesOf result (causes_in (take wanted (D.left decoder.now (option_copied dict.entry) (data_content page.now) state.old))) }
 {
     let mut item = open_item(alloc, wanted, chunk_size, items, decoder)?;
     let taken = room(chunk_size, item.len(), wanted);
@@ -144,14 +145,14 @@ pub fn extend_from_new_page<D: Decoder>(
     requires size { IsChunkSize chunk_size }
     requires takes { D.takes decoder.now (data_content page.now) }
     requires own_dict { IfSome (option_copied dict) (D.is_own_dict decoder.now) }
-    requires state { IsSome (D.left decoder.now (option_copied dict) (data_content page.now) state) }
+    requires state { D.is_state decoder.now (option_copied dict) (data_content page.now) state }
     requires cut { IsCut chunk_size (map D.DecodedState.shown items.old.items) }
     requires own { All (D.is_own decoder.now) items.old.items }
-    ensures rows { OnOk result (map Given (joined (map D.DecodedState.shown items.new.items)) ≡ map Given (joined (map D.DecodedState.shown items.old.items)) ++ take remaining.old (coming (D.left decoder.now (option_copied dict.entry) (data_content page.now) state))) }
-    ensures remaining { OnOk result (remaining.new ≡ remaining.old - length (coming (D.left decoder.now (option_copied dict.entry) (data_content page.now) state))) }
+    ensures rows { OnOk result (map Given (joined (map D.DecodedState.shown items.new.items)) ≡ map Given (joined (map D.DecodedState.shown items.old.items)) ++ take remaining.old (D.left decoder.now (option_copied dict.entry) (data_content page.now) state)) }
+    ensures remaining { OnOk result (remaining.new ≡ remaining.old - length (D.left decoder.now (option_copied dict.entry) (data_content page.now) state)) }
     ensures cut { OnOk result (IsCut chunk_size (map D.DecodedState.shown items.new.items)) }
     ensures own { OnOk result (All (D.is_own decoder.now) items.new.items) }
-    ensures cause { ComesOf result (causes_in (take remaining.old (coming (D.left decoder.now (option_copied dict.entry) (data_content page.now) state)))) }
+    ensures cause { ComesOf result (causes_in (take remaining.old (D.left decoder.now (option_copied dict.entry) (data_content page.now) state))) }
 {
     let mut wanted = decoder.state_len(&state).min(*remaining);
     while wanted > 0 {

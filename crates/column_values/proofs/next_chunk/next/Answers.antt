@@ -1,10 +1,12 @@
 use Rattle.std.proofs.Common.{◌≡◌, ◌<◌, arith, ◌∙◌, ap, sym, refl, inl, inr, [], ◌++◌, take, map}
 use Rattle.std.specs.Prelude.{option_map}
 use Rattle.column_values.specs.Outcome.{Given}
-use Rattle.column_values.specs.Column.{rows, wanted_rows}
+use Rattle.column_values.specs.Column.{rows}
 use Rattle.column_values.specs.Queue.{joined}
-use Rattle.column_values.specs.NextChunk.{GivesFront, NeedsPage}
-use Rattle.column_values.proofs.FrontLemmas.{front-chunk, front-end, front-more, front-cause, front-own, front-own_chunk}
+use Rattle.column_values.specs.NextChunk.{GivesFront}
+use Rattle.column_values.specs.Standing.{Advances, standing, still_wanted}
+use Rattle.column_values.proofs.ChunkLemmas.{needed-from}
+use Rattle.column_values.proofs.FrontLemmas.{front-chunk, front-end, front-items, front-more, front-cause, front-own, front-own_chunk}
 use Rattle.column_values.proofs.NextLemmas.{moves-since, take-nil}
 use Rattle.column_values.proofs.next_chunk.next.Goals as goal
 
@@ -102,7 +104,7 @@ returns-then-begins_full-2-clause-chunk g c =
     let old = map Given (joined (map shown c.read_page.new.items.items)) ++ take c.read_page.new.remaining coming in
     let new = map Given (joined (map shown c.give_front-then-begins_full-2.new.items.items)) ++ take c.read_page.new.remaining coming in
     let front : GivesFront shown c.args.chunk_size old new c.give_front-then-begins_full-2.result = c.give_front-then-begins_full-2.ensures.chunk (take c.read_page.new.remaining coming) (inl (c.begins_full-in-Ok-true.ensures.full c.if-begins_full-2.true)) in
-    front-chunk shown c.args.chunk_size (wanted_rows shown (g.D.Decoder.dict_shown c.args.decoder.now) entries outcomes c.args.items.now.items c.args.remaining.now c.args.dict.now (g.I.Pages.to_come c.args.iter.now) (g.I.Pages.causes c.args.iter.now)) old new c.give_front-then-begins_full-2.result (sym c.in-Ok-true.ensures.rows) front
+    front-chunk shown c.args.chunk_size (still_wanted entries outcomes (standing shown (g.D.Decoder.dict_shown c.args.decoder.now) c.args.items.now.items c.args.remaining.now c.args.dict.now) (g.I.Pages.to_come c.args.iter.now) (g.I.Pages.causes c.args.iter.now)) old new c.give_front-then-begins_full-2.result (sym c.in-Ok-true.ensures.rows) front
 
 pub returns-then-begins_full-2-clause-own : goal.returns-then-begins_full-2-clause-own
 returns-then-begins_full-2-clause-own g c = front-own (g.D.Decoder.is_own c.args.decoder.now) c.read_page.new.items.items c.give_front-then-begins_full-2.new.items.items c.give_front-then-begins_full-2.result c.give_front-then-begins_full-2.ensures.items c.in-Ok-true.ensures.own
@@ -134,7 +136,7 @@ returns-in-Ok-false-clause-chunk g c =
     let old = map Given (joined (map shown c.read_page.new.items.items)) ++ take c.read_page.new.remaining coming in
     let new = map Given (joined (map shown c.give_front-in-Ok-false.new.items.items)) ++ take c.read_page.new.remaining coming in
     let front : GivesFront shown c.args.chunk_size old new c.give_front-in-Ok-false.result = c.give_front-in-Ok-false.ensures.chunk (take c.read_page.new.remaining coming) (inr (ended ∙ take-nil c.read_page.new.remaining)) in
-    front-chunk shown c.args.chunk_size (wanted_rows shown (g.D.Decoder.dict_shown c.args.decoder.now) entries outcomes c.args.items.now.items c.args.remaining.now c.args.dict.now (g.I.Pages.to_come c.args.iter.now) (g.I.Pages.causes c.args.iter.now)) old new c.give_front-in-Ok-false.result (sym c.in-Ok-false.ensures.rows) front
+    front-chunk shown c.args.chunk_size (still_wanted entries outcomes (standing shown (g.D.Decoder.dict_shown c.args.decoder.now) c.args.items.now.items c.args.remaining.now c.args.dict.now) (g.I.Pages.to_come c.args.iter.now) (g.I.Pages.causes c.args.iter.now)) old new c.give_front-in-Ok-false.result (sym c.in-Ok-false.ensures.rows) front
 
 pub returns-in-Ok-false-clause-own : goal.returns-in-Ok-false-clause-own
 returns-in-Ok-false-clause-own g c = front-own (g.D.Decoder.is_own c.args.decoder.now) c.read_page.new.items.items c.give_front-in-Ok-false.new.items.items c.give_front-in-Ok-false.result c.give_front-in-Ok-false.ensures.items c.in-Ok-false.ensures.own
@@ -229,14 +231,44 @@ returns-in-Ok-false-clause-waits g c =
 pub returns-in-Err-clause-pages : goal.returns-in-Err-clause-pages
 returns-in-Err-clause-pages g c =
     let some : 0 < c.args.remaining.now = omega (arith, c.if-remaining-eq0.false) in
-    moves-since (0 < c.args.remaining.now) (NeedsPage c.args.chunk_size (map g.D.DecodedState.DecodedState.shown c.args.items.now.items) c.args.remaining.now) (some, c.begins_full.ensures.not_full c.if-begins_full.false) c.in-Err.ensures.pages
+    moves-since (0 < c.args.remaining.now) _
+    (needed-from g.D.DecodedState.DecodedState.shown (g.D.Decoder.dict_shown c.args.decoder.now) c.args.chunk_size c.args.items.now.items c.args.remaining.now c.args.dict.now c.requires.size c.requires.cut some (c.begins_full.ensures.not_full c.if-begins_full.false)) c.in-Err.ensures.pages
 
 pub returns-then-begins_full-2-clause-pages : goal.returns-then-begins_full-2-clause-pages
 returns-then-begins_full-2-clause-pages g c =
     let some : 0 < c.args.remaining.now = omega (arith, c.if-remaining-eq0.false) in
-    moves-since (0 < c.args.remaining.now) (NeedsPage c.args.chunk_size (map g.D.DecodedState.DecodedState.shown c.args.items.now.items) c.args.remaining.now) (some, c.begins_full.ensures.not_full c.if-begins_full.false) c.in-Ok-true.ensures.pages
+    moves-since (0 < c.args.remaining.now) _
+    (needed-from g.D.DecodedState.DecodedState.shown (g.D.Decoder.dict_shown c.args.decoder.now) c.args.chunk_size c.args.items.now.items c.args.remaining.now c.args.dict.now c.requires.size c.requires.cut some (c.begins_full.ensures.not_full c.if-begins_full.false)) c.in-Ok-true.ensures.pages
 
 pub returns-else-begins_full-2-clause-pages : goal.returns-else-begins_full-2-clause-pages
 returns-else-begins_full-2-clause-pages g c =
     let some : 0 < c.args.remaining.now = omega (arith, c.if-remaining-eq0.false) in
-    moves-since (0 < c.args.remaining.now) (NeedsPage c.args.chunk_size (map g.D.DecodedState.DecodedState.shown c.args.items.now.items) c.args.remaining.now) (some, c.begins_full.ensures.not_full c.if-begins_full.false) c.in-Ok-true.ensures.pages
+    moves-since (0 < c.args.remaining.now) _
+    (needed-from g.D.DecodedState.DecodedState.shown (g.D.Decoder.dict_shown c.args.decoder.now) c.args.chunk_size c.args.items.now.items c.args.remaining.now c.args.dict.now c.requires.size c.requires.cut some (c.begins_full.ensures.not_full c.if-begins_full.false)) c.in-Ok-true.ensures.pages
+
+pub returns-then-begins_full-clause-ended : goal.returns-then-begins_full-clause-ended
+returns-then-begins_full-clause-ended g c = front-end _ c.give_front-then-begins_full.result (c.give_front-then-begins_full.ensures.some (c.begins_full.ensures.full c.if-begins_full.true))
+
+pub returns-then-begins_full-2-clause-ended : goal.returns-then-begins_full-2-clause-ended
+returns-then-begins_full-2-clause-ended g c = front-end _ c.give_front-then-begins_full-2.result (c.give_front-then-begins_full-2.ensures.some (c.begins_full-in-Ok-true.ensures.full c.if-begins_full-2.true))
+
+pub returns-then-begins_full-2-clause-more : goal.returns-then-begins_full-2-clause-more
+returns-then-begins_full-2-clause-more g c =
+    let shown = g.D.DecodedState.DecodedState.shown in
+    let entries = g.D.Decoder.entries c.args.decoder.now in
+    let outcomes = g.D.Decoder.outcomes c.args.decoder.now in
+    let dict = option_map (g.D.Decoder.dict_shown c.args.decoder.now) c.read_page.new.dict in
+    let coming = rows entries outcomes dict (g.I.Pages.to_come c.read_page.new.iter) (g.I.Pages.causes c.read_page.new.iter) in
+    let old = map Given (joined (map shown c.read_page.new.items.items)) ++ take c.read_page.new.remaining coming in
+    let new = map Given (joined (map shown c.give_front-then-begins_full-2.new.items.items)) ++ take c.read_page.new.remaining coming in
+    let front : GivesFront shown c.args.chunk_size old new c.give_front-then-begins_full-2.result = c.give_front-then-begins_full-2.ensures.chunk (take c.read_page.new.remaining coming) (inl (c.begins_full-in-Ok-true.ensures.full c.if-begins_full-2.true)) in
+    front-more _ shown c.args.chunk_size old new c.give_front-then-begins_full-2.result front
+
+pub returns-then-begins_full-2-clause-standing : goal.returns-then-begins_full-2-clause-standing
+returns-then-begins_full-2-clause-standing g c =
+    let shown = g.D.DecodedState.DecodedState.shown in
+    let dict_shown = g.D.Decoder.dict_shown c.args.decoder.now in
+    let before = standing shown dict_shown c.args.items.now.items c.args.remaining.now c.args.dict.now in
+    let P : _ → Type 0 = λ items.
+    Advances (g.D.Decoder.entries c.args.decoder.now) (g.D.Decoder.outcomes c.args.decoder.now) (g.I.Pages.to_come c.args.iter.now) (g.I.Pages.to_come c.read_page.new.iter) before (standing shown dict_shown items c.read_page.new.remaining c.read_page.new.dict) in
+    front-items P c.read_page.new.items.items c.give_front-then-begins_full-2.new.items.items c.give_front-then-begins_full-2.result c.give_front-then-begins_full-2.ensures.items c.in-Ok-true.ensures.standing

@@ -1,7 +1,7 @@
 use Rattle.std.proofs.Common.{rules, ap, ◌∙◌, ◌≤◌, length, map, take, arith, subst, ℕ, ◌+◌}
 use Rattle.std.specs.Option.{option_copied}
 use Rattle.parquet_page.specs.Content.{data_content}
-use Rattle.column_values.specs.Outcome.{Given, IsCausedBy, coming}
+use Rattle.column_values.specs.Outcome.{Given, IsCausedBy}
 use Rattle.column_values.specs.Queue.{joined, FitsChunk}
 use Rattle.column_values.proofs.QueueLemmas.{joined-popped}
 use Rattle.column_values.proofs.RowLemmas.{added-rows, added-IsCut, caused-take}
@@ -9,7 +9,7 @@ use Rattle.column_values.proofs.queue.add_rows.Goals as goal
 
 pub returns-in_err-extend_from_state-clause-cause : goal.returns-in_err-extend_from_state-clause-cause
 returns-in_err-extend_from_state-clause-cause g c =
-    let xs = coming (g.D.Decoder.left c.args.decoder.now (option_copied c.args.dict) (data_content c.args.page.now) c.args.state.now) in
+    let xs = g.D.Decoder.left c.args.decoder.now (option_copied c.args.dict) (data_content c.args.page.now) c.args.state.now in
     let cause : IsCausedBy (take c.args.wanted xs) c.in_err-extend_from_state.field-0.0 = caused-take c.room-taken.result c.args.wanted xs c.in_err-extend_from_state.field-0.0 c.room-taken.ensures.within c.in_err-extend_from_state.ensures.cause in
     search rules
 
@@ -20,12 +20,12 @@ returns-clause-rows g c =
     let item = c.in_ok-item.item in
     let more = c.extend_from_state.new.decoded in
     ap (map Given) (joined-popped shown c.push_back.new.self.items items more c.in_ok-push_back.ensures.items)
-    ∙ added-rows (joined (map shown c.args.items.now.items)) (joined (map shown items)) (shown item) (shown more) (take c.room-taken.result (coming (g.D.Decoder.left c.args.decoder.now (option_copied c.args.dict) (data_content c.args.page.now) c.args.state.now))) c.in_ok-item.ensures.rows c.in_ok-extend_from_state.ensures.rows
+    ∙ added-rows (joined (map shown c.args.items.now.items)) (joined (map shown items)) (shown item) (shown more) (take c.room-taken.result (g.D.Decoder.left c.args.decoder.now (option_copied c.args.dict) (data_content c.args.page.now) c.args.state.now)) c.in_ok-item.ensures.rows c.in_ok-extend_from_state.ensures.rows
 
 pub returns-clause-cut : goal.returns-clause-cut
 returns-clause-cut g c =
     let shown = g.D.DecodedState.DecodedState.shown in
-    let xs = coming (g.D.Decoder.left c.args.decoder.now (option_copied c.args.dict) (data_content c.args.page.now) c.args.state.now) in
+    let xs = g.D.Decoder.left c.args.decoder.now (option_copied c.args.dict) (data_content c.args.page.now) c.args.state.now in
     let within : c.room-taken.result ≤ length xs = omega (arith, c.room-taken.ensures.within, c.requires.wanted) in
     let F : ℕ → Type 0 = λ n. FitsChunk c.args.chunk_size (n + c.room-taken.result) in
     added-IsCut shown c.args.chunk_size c.open_item.new.items.items c.push_back.new.self.items c.extend_from_state.new.decoded (shown c.in_ok-item.item) c.room-taken.result xs c.in_ok-push_back.ensures.items c.in_ok-item.ensures.full c.in_ok-extend_from_state.ensures.rows within c.room-taken.ensures.some (subst F c.len.ensures c.room-taken.ensures.fits)

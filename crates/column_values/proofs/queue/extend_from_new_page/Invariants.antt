@@ -1,9 +1,9 @@
 use Rattle.std.proofs.Common.{◌≡◌, ◌-◌, min, ◌++◌, length, take, map}
-use Rattle.std.specs.Prelude.{All, IsSome}
+use Rattle.std.specs.Prelude.{All}
 use Rattle.std.specs.Option.{option_copied}
 use Rattle.columns_core.specs.declared.error.Error.{Error}
 use Rattle.parquet_page.specs.Content.{data_content}
-use Rattle.column_values.specs.Outcome.{Given, IsCausedBy, coming}
+use Rattle.column_values.specs.Outcome.{Given, IsCausedBy}
 use Rattle.column_values.specs.Queue.{joined, IsCut}
 use Rattle.column_values.proofs.queue.extend_from_new_page.Given as goal
 
@@ -12,13 +12,13 @@ invariant-loop-wanted g l =
     let shown = g.D.DecodedState.DecodedState.shown in
     let left = g.D.Decoder.left l.decoder (option_copied l.dict) (data_content l.page) in
     record {
-      state : IsSome (left l.state);
-      wanted : l.wanted ≡ min (length (coming (left l.state))) l.remaining;
-      rows : map Given (joined (map shown l.items.items)) ++ take l.remaining (coming (left l.state)) ≡ map Given (joined (map shown l.initial.items.items)) ++ take l.initial.remaining (coming (left l.initial.state));
-      remaining : l.remaining - length (coming (left l.state)) ≡ l.initial.remaining - length (coming (left l.initial.state));
+      state : g.D.Decoder.is_state l.decoder (option_copied l.dict) (data_content l.page) l.state;
+      wanted : l.wanted ≡ min (length (left l.state)) l.remaining;
+      rows : map Given (joined (map shown l.items.items)) ++ take l.remaining (left l.state) ≡ map Given (joined (map shown l.initial.items.items)) ++ take l.initial.remaining (left l.initial.state);
+      remaining : l.remaining - length (left l.state) ≡ l.initial.remaining - length (left l.initial.state);
       cut : IsCut l.chunk_size (map shown l.items.items);
       own : All (g.D.Decoder.is_own l.decoder) l.items.items;
-      causes : (error : Error) → IsCausedBy (take l.remaining (coming (left l.state))) error → IsCausedBy (take l.initial.remaining (coming (left l.initial.state))) error;
+      causes : (error : Error) → IsCausedBy (take l.remaining (left l.state)) error → IsCausedBy (take l.initial.remaining (left l.initial.state)) error;
     }
 
 abbrev pub decreases-loop-wanted : goal.decreases-loop-wanted
