@@ -2,7 +2,6 @@
 use Rattle.std.proofs.Common.{◌≡◌, ℕ, ℤ, zero, suc, ◌+◌, ◌-◌, ◌<◌, ◌≤◌, Bool, true, false, cond, List, [], ◌∷◌, ◌++◌, length, map, drop, refl, sym, ◌∙◌, ap, arith}
 use Rattle.std.specs.Prelude.{Option, Some, None, option_and_then, option_map, slice_get, find, sum_by, flat_map, if◌then◌else◌, IfSome}
 use Rattle.std.specs.Option.{option_map_or}
-use Rattle.std.specs.Simd.{first_chunks}
 use Rattle.std.specs.List.{range_with_len}
 use Rattle.std.proofs.lemmas.List.{length-map, map-append}
 use Rattle.std.proofs.lemmas.List.Sums.{sum_by-cons}
@@ -26,7 +25,7 @@ use Rattle.parquet_page.proofs.RowSums.{page_values as values_of, walk_sum, is_w
 use Rattle.parquet_scan.specs.Causes.{causes_of_data, causes_of_page, chunk_opened, opened_causes}
 use Rattle.parquet_scan.specs.Cells.{chunk_of, content_of, given_cell, item_of, item_in, item_among, located_item, page_values, rows_of, walked_item}
 use Rattle.parquet_scan.specs.Counting.{every_row}
-use Rattle.parquet_scan.specs.Numbers.{all_numbers, data_numbers, numbers_of, number_of}
+use Rattle.parquet_scan.specs.Numbers.{all_numbers, data_numbers}
 use Rattle.parquet_scan.specs.Rows.{column_named}
 use Rattle.parquet_scan.proofs.PageLemmas.{plain_spelled}
 use Rattle.parquet_scan.proofs.PickedLemmas.{numbers_count}
@@ -146,7 +145,7 @@ from_data type walk start n sum none =
     ap (λ k. map (item_among type (placed_pages start 0 walk.pages)) (range_with_len 0 k)) (sym (sum whole))
     ∙ items_among type (plain_items type) start 0 walk.pages (stand_for type walk.pages pages_none) ∙ plain_cells type walk.pages
 
-some_dictionary : (type : PrimitiveType) (page : DictionaryPage) (walk : Walk) (b : Bool)
+pub some_dictionary : (type : PrimitiveType) (page : DictionaryPage) (walk : Walk) (b : Bool)
     → opened_causes (if b then in_front (dictionary_of page) (lent_data type walk) else record { pages = []; causes = NotYetImplemented ∷ [] }) ≡ [] → ⊥
 some_dictionary type page walk true none = absurd cc
 some_dictionary type page walk false none = absurd cc
@@ -172,7 +171,7 @@ numbers_of_rows type n chunk none =
     sym (length-map (all_numbers (chunk_lent type n chunk).pages) (λ n. Some (Int n))) ∙ ap length (sym (chunk_items type n chunk none))
     ∙ length-map-range_with_len (item_among type (pages_of_chunk n chunk)) 0 n
 
-walked : (bytes : List ℕ) (column : ColumnChunkMetaData) (o : Option Place) (chunk : List ℕ) → option_map (bytes_at bytes) o ≡ Some chunk
+pub walked : (bytes : List ℕ) (column : ColumnChunkMetaData) (o : Option Place) (chunk : List ℕ) → option_map (bytes_at bytes) o ≡ Some chunk
     → option_map_or (λ place. pages_of_chunk column.num_values (bytes_at bytes place)) o [] ≡ pages_of_chunk column.num_values chunk
 walked bytes column None chunk e = absurd cc
 walked bytes column (Some place) chunk e = ap (λ o. option_map_or (pages_of_chunk column.num_values) o []) e

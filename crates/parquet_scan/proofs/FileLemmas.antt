@@ -1,6 +1,6 @@
 -- What is wrong with a whole file, put together from its metadata and its groups.
-use Rattle.std.proofs.Common.{◌≡◌, ℕ, ◌≤◌, Bool, true, false, cond, not, List, [], ◌∷◌, ◌++◌, length, map, refl, sym, subst, ◌∙◌, ap, arith, inl, inr}
-use Rattle.std.specs.Prelude.{Option, Some, None, zip, filter, is_some, option_map, ◌&&◌, nat_lt, IfSome, IfOk, IfErr, OnOk, Result, Ok, Err, Contains, if◌then◌else◌}
+use Rattle.std.proofs.Common.{◌≡◌, ℕ, ◌≤◌, Bool, true, false, cond, not, List, [], ◌∷◌, ◌++◌, map, refl, sym, subst, ◌∙◌, ap, arith, inl, inr}
+use Rattle.std.specs.Prelude.{Option, Some, None, zip, filter, is_some, option_map, ◌&&◌, IfSome, IfOk, IfErr, OnOk, Result, Ok, Err, Contains, if◌then◌else◌}
 use Rattle.std.specs.List.{flat_map, list_all}
 use Rattle.std.specs.Option.{option_map_or}
 use Rattle.std.specs.Cmp.{first_so, second_so}
@@ -46,10 +46,6 @@ not_some : (o : Option ℕ) → not (is_some o) ≡ true → o ≡ None
 not_some None h = refl
 not_some (Some n) h = absurd (true≢false (sym h))
 
-whole_request : (request : Request) → is_built_request request ≡ true → (not (is_some request.limit) && not (is_some request.chunk_size)) ≡ true
-whole_request request e = first_so (not (is_some request.limit) && not (is_some request.chunk_size)) (nat_lt (length request.fields) 2)
-    (first_so ((not (is_some request.limit) && not (is_some request.chunk_size)) && nat_lt (length request.fields) 2) (nat_lt (length request.bounds) 2) e)
-
 pub passes : (b : Bool) (cause : Cause) → unless b cause ≡ [] → b ≡ true
 passes true cause e = refl
 passes false cause e = absurd cc
@@ -61,7 +57,7 @@ built_request request metadata none =
     (nothing_first (not_built request metadata.columns) _ none))
 
 built_whole : (request : Request) (metadata : FileMetaData) → metadata_causes request metadata ≡ [] → (not (is_some request.limit) && not (is_some request.chunk_size)) ≡ true
-built_whole request metadata none = whole_request request (first_so (is_built_request request) (list_all is_built_field request.fields) (built_request request metadata none))
+built_whole request metadata none = first_so (is_built_request request) (list_all is_built_field request.fields) (built_request request metadata none)
 
 pub built_limit : (request : Request) (metadata : FileMetaData) → metadata_causes request metadata ≡ [] → request.limit ≡ None
 built_limit request metadata none = not_some request.limit (first_so (not (is_some request.limit)) (not (is_some request.chunk_size)) (built_whole request metadata none))

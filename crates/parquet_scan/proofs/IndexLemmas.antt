@@ -1,17 +1,17 @@
 -- The column index of one column, and the ends that it tells.
 use Rattle.std.proofs.Common.{◌≡◌, ℕ, ◌+◌, ◌<◌, ◌≤◌, Bool, true, false, cond, List, [], ◌∷◌, ◌++◌, length, drop, get_or, Option, Some, None, refl, sym, subst, ◌∙◌, ap, arith, inl, inr}
-use Rattle.std.specs.Prelude.{◌&&◌, ◌||◌, ◌==◌, ◌⊎◌, is_none, unwrap_or, IfSome, Result, Ok, Err, filter, nat_eq, Contains}
+use Rattle.std.specs.Prelude.{◌&&◌, ◌||◌, is_none, unwrap_or, IfSome, Result, Err, nat_eq, Contains}
 use Rattle.std.specs.Cmp.Lexicographic.{pointwise, same_text}
-use Rattle.std.specs.List.{list_all, list_any}
+use Rattle.std.specs.List.{list_all}
 use Rattle.std.specs.Option.{option_map_or}
 use Rattle.std.proofs.lemmas.Bool.{and_parts, eq-eqb, ne_eqb, true≢false}
 use Rattle.std.proofs.lemmas.List.{drop_all, drop_more}
-use Rattle.columns_core.specs.Causes.{Cause, ExternalFormat, NotYetImplemented, IsOneOf, IsWantOfMemory, and_then, cause_of, unless}
+use Rattle.columns_core.specs.Causes.{ExternalFormat, NotYetImplemented, IsOneOf, and_then, cause_of, unless}
 use Rattle.columns_core.specs.declared.error.Error.{Error}
 use Rattle.columns_core.specs.declared.error.Error.TheVariants as error
 use Rattle.columns_core.specs.declared.error.Part.{Part}
 use Rattle.parquet_base.specs.Reading.{◌>>=◌}
-use Rattle.parquet_meta.specs.Indexes.{FindsIndex, FindsIndexes, begins_with, field_columns, has_index, is_broken, is_read, raw_index}
+use Rattle.parquet_meta.specs.Indexes.{FindsIndex, FindsIndexes, field_columns, has_index, is_broken, is_read, raw_index}
 use Rattle.parquet_meta.specs.Lists.{all_of}
 use Rattle.parquet_meta.specs.Indexes.{is_first as is_first_of}
 use Rattle.parquet_meta.specs.declared.metadata.ColumnChunkMetaData.{ColumnChunkMetaData}

@@ -8,7 +8,7 @@ use Rattle.parquet_meta.specs.File.{footer}
 use Rattle.parquet_meta.specs.Source.{Finds}
 use Rattle.parquet_meta.specs.declared.metadata.FileMetaData.{FileMetaData}
 use Rattle.parquet_scan.specs.Request.{Request, is_legal}
-use Rattle.parquet_scan.specs.Rows.{File, file_with}
+use Rattle.parquet_scan.specs.Rows.{file_with}
 use Rattle.parquet_scan.specs.Scan.{OnFile}
 
 -- the file that the source tells, if it has metadata, may be asked for this

@@ -1,7 +1,9 @@
 pub mod CauseLemmas
 pub mod CellLemmas
+pub mod CostLemmas
 pub mod Exact
 pub mod Examples
+pub mod FileCosts
 pub mod FileLemmas
 pub mod GivenCells
 pub mod GivenLemmas
@@ -18,6 +20,9 @@ pub mod PairLemmas
 pub mod PickedLemmas
 pub mod PruningLemmas
 pub mod ReadLemmas
+pub mod SameColumns
+pub mod SameFiles
+pub mod SameWalk
 pub mod ScanLemmas
 pub mod Sound
 pub mod SoundLists

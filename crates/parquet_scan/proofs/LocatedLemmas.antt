@@ -1,17 +1,16 @@
 -- Pages that are read by their locations, and the items of the rows in them.
 use Rattle.std.proofs.Common.{◌≡◌, ℕ, ℤ, pos, zero, suc, ◌+◌, ◌-◌, ◌<◌, ◌≤◌, min, max, Bool, true, false, not, cond, List, [], ◌∷◌, ◌++◌, length, map, take, drop, Option, Some, None, refl, sym, subst, ◌∙◌, ap, arith, append_assoc, inl, inr}
 use Rattle.std.specs.Prelude.{filter, find, flat_map, slice_get, slice_range, zip, nat_lt, nat_le, ◌==◌, ◌&&◌, ◌||◌, option_map, option_and_then, if◌then◌else◌}
-use Rattle.std.specs.List.{list_any, range_with_len, filter_map, cons_option}
-use Rattle.std.specs.Option.{option_map_or}
+use Rattle.std.specs.List.{list_any, range_with_len, cons_option}
 use Rattle.std.proofs.lemmas.Bool.{le-leb, lt-leb, lt-ltb, le-ltb, leb-true, leb-false, cases_lt, eq-eqb, eqb-true, and_parts, true≢false}
-use Rattle.std.proofs.lemmas.List.{drop-take, take-take, drop-drop, length-take-le, length-drop, length-map, map-append}
+use Rattle.std.proofs.lemmas.List.{drop-take, take-take, drop-drop, length-take-le, length-drop, map-append}
 use Rattle.std.proofs.lemmas.List.Folds.{list_any-append}
 use Rattle.std.proofs.lemmas.List.Elements.{Contains-append_cases}
 use Rattle.std.proofs.lemmas.Simd.{map-map}
 use Rattle.columns_core.specs.Causes.{Cause, ExternalFormat, NotYetImplemented, IsOneOf}
 use Rattle.columns_core.specs.declared.cell.Cell.{Cell, Int}
 use Rattle.parquet_base.specs.Reading.{◌>>=◌, given}
-use Rattle.parquet_base.specs.Intervals.{AreAdjacent, end, holds, is_well_shaped, is_well_shaped_from, overlap, overlaps, rows_in_page, rows_of}
+use Rattle.parquet_base.specs.Intervals.{AreAdjacent, end, holds, is_well_shaped, is_well_shaped_from, overlaps, rows_in_page, rows_of}
 use Rattle.parquet_base.specs.declared.interval.Interval.{Interval}
 use Rattle.parquet_base.proofs.OverlapLemmas.{overlaps-shaped}
 use Rattle.parquet_base.proofs.SegmentLemmas.{holds_after, holds_before, holds_inside}
@@ -21,17 +20,17 @@ use Rattle.parquet_meta.specs.declared.metadata.PageLocation.{PageLocation}
 use Rattle.parquet_meta.specs.declared.metadata.Place.{Place}
 use Rattle.parquet_meta.specs.declared.metadata.PrimitiveType.{PrimitiveType}
 use Rattle.parquet_page.specs.Chunk.{ChunkPage, Dictionary, NoDictionary, Undefined, Defined, data_page_at}
-use Rattle.parquet_page.specs.Content.{DataOf, header_values}
-use Rattle.parquet_page.specs.Lent.{Lent, behind_dictionary, data_of, dictionary_of, if_there, in_front, is_wanted, lent_parts, located_lent, wanted_page}
-use Rattle.parquet_page.specs.Located.{dictionary_in, located_dictionary, page_in}
+use Rattle.parquet_page.specs.Content.{header_values}
+use Rattle.parquet_page.specs.Lent.{data_of, dictionary_of, if_there, in_front, is_wanted, lent_parts, located_lent, wanted_page}
+use Rattle.parquet_page.specs.Located.{page_in}
 use Rattle.parquet_page.specs.Located.{located_page as page_in_chunk}
 use Rattle.parquet_page.specs.Locations.{filtered_page, filtered_pages, located, part_of}
 use Rattle.parquet_page.specs.Spelling.{has_plain_entries}
 use Rattle.parquet_page.specs.Stored.{Stored, Number}
 use Rattle.parquet_page.specs.declared.page.FilteredPage.{FilteredPage}
 use Rattle.parquet_encoding.proofs.StepLemmas.{bind_some, given_some}
-use Rattle.parquet_scan.specs.Causes.{causes_of_data, causes_of_dictionary, causes_of_found, causes_of_opened, causes_of_page, is_opened, opened_causes, opened_located}
-use Rattle.parquet_scan.specs.Cells.{content_of, item_at, item_located, item_of, named_page, page_values}
+use Rattle.parquet_scan.specs.Causes.{causes_of_data, causes_of_found, causes_of_opened, causes_of_page, is_opened, opened_causes, opened_located}
+use Rattle.parquet_scan.specs.Cells.{content_of, item_at, item_located, item_of, named_page}
 use Rattle.parquet_scan.specs.Located.{entry_part, entry_place, part_in}
 use Rattle.parquet_scan.specs.Numbers.{all_numbers, data_numbers}
 use Rattle.parquet_scan.proofs.CauseLemmas.{one_left, one_right}
@@ -108,7 +107,7 @@ located_part bytes chunk part rows fits = by (nat_le chunk.offset part.offset) (
       ∙ behind_chunk bytes chunk part rows fits (leb-true _ _ low) (leb-false _ _ high)
       ∙ sym (ap (λ o. o >>= λ body. page_in body rows) (part_outside bytes chunk part low high))
 
-located_by : (bytes : List ℕ) (chunk : Place) (location : PageLocation) (rows : ℕ) → after chunk ≤ length bytes
+pub located_by : (bytes : List ℕ) (chunk : Place) (location : PageLocation) (rows : ℕ) → after chunk ≤ length bytes
     → located chunk.offset (bytes_at bytes chunk) location rows ≡ (part_of location >>= λ part. page_there bytes chunk part rows)
 unfolding located
 located_by bytes chunk location rows fits = by (part_of location) where
@@ -172,7 +171,7 @@ named_are bytes chunk intervals (location ∷ locations) (rows ∷ others) (entr
 -- ---- pages that hold a row of intervals
 
 -- some row of a page is one of so many behind another
-any_row : (page : Interval) (a n : ℕ) → list_any (holds page) (range_with_len a n) ≡ nat_lt (max page.start a) (min (end page) (a + n))
+pub any_row : (page : Interval) (a n : ℕ) → list_any (holds page) (range_with_len a n) ≡ nat_lt (max page.start a) (min (end page) (a + n))
 any_row page a zero = sym (le-ltb (max page.start a) (min (end page) (a + zero)) (omega arith))
 any_row page a (suc n) = elim (cases_lt a page.start) [
   | inl low ↦ ap (λ b. b || list_any (holds page) (range_with_len (a + 1) n)) (holds_before page a low) ∙ any_row page (a + 1) n ∙ (let first : max page.start (a + 1) ≡ max page.start a = omega (arith, low) in let last : min (end page) (a + 1 + n) ≡ min (end page) (a + suc n) = omega arith in λ i. nat_lt (first i) (last i))

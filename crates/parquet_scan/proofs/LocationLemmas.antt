@@ -1,6 +1,6 @@
 -- Locations that have their shape.
-use Rattle.std.proofs.Common.{◌≡◌, ℕ, ℤ, zero, suc, ◌<◌, ◌≤◌, Bool, true, false, List, [], ◌∷◌, ◌++◌, length, map, Option, Some, None, refl, sym, subst, ◌∙◌, ap, arith, inl, inr}
-use Rattle.std.specs.Prelude.{◌&&◌, ◌==◌, is_some, unwrap_or, IfSome, Contains, Result, Ok, Err}
+use Rattle.std.proofs.Common.{◌≡◌, ℕ, Bool, true, false, List, [], ◌∷◌, ◌++◌, length, map, Option, Some, None, refl, sym, subst, ◌∙◌, ap, arith, inl, inr}
+use Rattle.std.specs.Prelude.{◌&&◌, is_some, unwrap_or, IfSome, Contains, Err}
 use Rattle.std.specs.List.{list_all}
 use Rattle.std.proofs.lemmas.Bool.{and_parts, eqb-true, le-leb}
 use Rattle.columns_core.specs.Causes.{Cause, ExternalFormat, IsOneOf, IsWantOfMemory, cause_of, unless}
@@ -14,7 +14,7 @@ use Rattle.parquet_meta.specs.declared.metadata.ColumnChunkMetaData.{ColumnChunk
 use Rattle.parquet_meta.specs.declared.metadata.PageLocation.{PageLocation}
 use Rattle.parquet_meta.specs.declared.metadata.Place.{Place}
 use Rattle.parquet_meta.specs.declared.metadata.RowGroupMetaData.{RowGroupMetaData}
-use Rattle.parquet_page.specs.Locations.{begin_in_time, begin_with_row_0, filtered_page, filtered_pages, has_shape, page_intervals, part_of, selected_pages}
+use Rattle.parquet_page.specs.Locations.{begin_in_time, begin_with_row_0, filtered_pages, has_shape, page_intervals, part_of, selected_pages}
 use Rattle.columns_core.specs.Refusals.{IsDamaged, Refuses}
 use Rattle.parquet_page.specs.declared.page.FilteredPage.{FilteredPage}
 use Rattle.parquet_page.proofs.SelectionLemmas.{Covers, some, pages-cover, pages-length, selects}

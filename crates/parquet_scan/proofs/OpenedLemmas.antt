@@ -1,6 +1,6 @@
 -- What is wrong with a chunk that is read by locations, by its parts.
-use Rattle.std.proofs.Common.{◌≡◌, ℕ, ℤ, get_or, zero, suc, ◌+◌, ◌-◌, ◌<◌, ◌≤◌, ◌^◌, Bool, true, false, not, List, [], ◌∷◌, ◌++◌, length, map, take, drop, Option, Some, None, refl, sym, subst, ◌∙◌, ap, arith, inl, inr}
-use Rattle.std.specs.Prelude.{filter, flat_map, zip, sum_by, nat_le, nat_lt, ◌==◌, ◌&&◌, is_some, option_map, unwrap_or, ◌⊎◌, IfSome, IsTrue, if◌then◌else◌}
+use Rattle.std.proofs.Common.{◌≡◌, ℕ, ℤ, get_or, ◌+◌, ◌-◌, ◌<◌, ◌≤◌, ◌^◌, Bool, true, false, List, [], ◌∷◌, ◌++◌, length, map, take, drop, Option, Some, None, refl, sym, subst, ◌∙◌, ap, arith, inl, inr}
+use Rattle.std.specs.Prelude.{filter, flat_map, zip, sum_by, nat_le, ◌&&◌, is_some, option_map, unwrap_or, ◌⊎◌, IfSome, if◌then◌else◌}
 use Rattle.std.specs.List.{list_all}
 use Rattle.std.specs.Option.{option_map_or}
 use Rattle.std.proofs.lemmas.Bool.{and_from, and_parts, le-leb, lt-leb, lt-ltb, leb-true, leb-false}
@@ -10,24 +10,24 @@ use Rattle.std.proofs.lemmas.List.Concat.{length-flat_map}
 use Rattle.std.proofs.lemmas.Simd.{map-map}
 use Rattle.std.proofs.lemmas.List.Sums.{sum_by-cons}
 use Rattle.columns_core.specs.Causes.{Cause, ExternalFormat, IsOneOf, and_then, is_empty, unless}
-use Rattle.columns_core.specs.declared.cell.Cell.{Cell, Int}
+use Rattle.columns_core.specs.declared.cell.Cell.{Int}
 use Rattle.parquet_base.specs.Reading.{◌>>=◌}
-use Rattle.parquet_base.specs.Intervals.{AreAdjacent, is_well_shaped, overlaps, row_count, rows_in_page, rows_of}
+use Rattle.parquet_base.specs.Intervals.{is_well_shaped, overlaps, row_count, rows_in_page, rows_of}
 use Rattle.parquet_base.specs.declared.interval.Interval.{Interval}
 use Rattle.parquet_base.proofs.OverlapLemmas.{overlaps-shaped}
 use Rattle.parquet_base.proofs.RowLemmas.{pages-share, rows_of-length}
 use Rattle.parquet_base.proofs.ShapeLemmas.{shape-count}
 use Rattle.parquet_meta.specs.Chunks.{chunk_causes, chunk_range, has_range}
-use Rattle.parquet_meta.specs.Places.{after, bytes_at, lies_in}
+use Rattle.parquet_meta.specs.Places.{after, bytes_at}
 use Rattle.parquet_meta.specs.declared.metadata.ColumnChunkMetaData.{ColumnChunkMetaData}
 use Rattle.parquet_meta.specs.declared.metadata.PageLocation.{PageLocation}
 use Rattle.parquet_meta.specs.declared.metadata.Place.{Place}
 use Rattle.parquet_meta.specs.declared.metadata.PrimitiveType.{PrimitiveType}
 use Rattle.parquet_meta.specs.declared.metadata.RowGroupMetaData.{RowGroupMetaData}
 use Rattle.parquet_page.specs.Chunk.{ChunkPage, Dictionary, Undefined}
-use Rattle.parquet_page.specs.Lent.{Lent, are_well_shaped, first_start, has_parts, is_wanted, located_lent, located_parts, lent_parts, selected_count}
+use Rattle.parquet_page.specs.Lent.{Lent, are_well_shaped, is_wanted, located_parts, selected_count}
 use Rattle.parquet_page.specs.Located.{dictionary_in, located_dictionary, page_in}
-use Rattle.parquet_page.specs.Locations.{has_shape, page_intervals, part_of, selected_pages}
+use Rattle.parquet_page.specs.Locations.{has_shape, selected_pages}
 use Rattle.parquet_page.specs.declared.page.FilteredPage.{FilteredPage}
 use Rattle.parquet_encoding.proofs.StepLemmas.{given_some}
 use Rattle.parquet_page.proofs.SelectionLemmas.{pages-length}
@@ -38,7 +38,7 @@ use Rattle.parquet_scan.specs.Located.{entry_causes, entry_part, entry_place, pa
 use Rattle.parquet_scan.specs.Numbers.{all_numbers}
 use Rattle.parquet_scan.specs.Pages.{location_rows, locations, locations_causes, rows_at}
 use Rattle.parquet_scan.proofs.CauseLemmas.{one_left, one_right, then_next}
-use Rattle.parquet_scan.proofs.LocatedLemmas.{AreEntries, are_entries, chunk_length, found, items_shown, more_causes, named_are, no_dictionary, opened_are, opened_in, opened_ok, page_there, pages_of, pages_there, part_inside, part_outside}
+use Rattle.parquet_scan.proofs.LocatedLemmas.{AreEntries, are_entries, chunk_length, found, items_shown, named_are, no_dictionary, opened_are, opened_in, opened_ok, pages_of, pages_there, part_inside, part_outside}
 use Rattle.parquet_scan.proofs.ScanLemmas.{in_filtered}
 use Rattle.parquet_scan.proofs.LocationLemmas.{HaveRows, have_rows, selection_is}
 
@@ -92,7 +92,7 @@ abbrev pub opened_by : List ℕ → PrimitiveType → Place → List FilteredPag
 opened_by bytes type chunk entries = causes_of_opened type (dictionary_of bytes chunk entries) (map (found bytes chunk) (filter is_wanted entries))
 
 -- where no page is opened, no dictionary is
-same_opened : (type : PrimitiveType) (one other : Dictionary) (pages : List (Option ChunkPage)) → (0 < length pages → one ≡ other) → causes_of_opened type one pages ≡ causes_of_opened type other pages
+pub same_opened : (type : PrimitiveType) (one other : Dictionary) (pages : List (Option ChunkPage)) → (0 < length pages → one ≡ other) → causes_of_opened type one pages ≡ causes_of_opened type other pages
 same_opened type one other [] same = refl
 same_opened type one other (page ∷ pages) same = ap (λ dictionary. causes_of_opened type dictionary (page ∷ pages)) (same (omega arith))
 
@@ -108,7 +108,7 @@ pub record IsSelected (group : RowGroupMetaData) (intervals : List Interval) (lo
   pub shape : has_shape locations group.num_rows ≡ true
   pub are : selected_pages intervals locations group.num_rows ≡ Some entries
 
-rows_of_selected : (group : RowGroupMetaData) (intervals : List Interval) (locations : List PageLocation) (entries : List FilteredPage) (selected : IsSelected group intervals locations entries)
+pub rows_of_selected : (group : RowGroupMetaData) (intervals : List Interval) (locations : List PageLocation) (entries : List FilteredPage) (selected : IsSelected group intervals locations entries)
     → let have = have_rows locations group.num_rows selected.shape in AreEntries intervals locations (have.first ∷ have.others) entries
 rows_of_selected group intervals locations entries selected =
     let have = have_rows locations group.num_rows selected.shape in

@@ -9,7 +9,7 @@ use Rattle.std.proofs.lemmas.List.{length-map, length-take-le, length-drop}
 use Rattle.columns_core.specs.Causes.{NotYetImplemented, ExternalFormat, and_then, unless}
 use Rattle.parquet_base.specs.Reading.{◌>>=◌, given}
 use Rattle.parquet_encoding.specs.Plain.{plain_fixed}
-use Rattle.parquet_encoding.proofs.BitsLemmas.{four_bytes}
+use Rattle.parquet_base.proofs.BytesLemmas.{four_bytes}
 use Rattle.parquet_encoding.proofs.FixedLemmas.{is_exact}
 use Rattle.parquet_base.specs.declared.interval.Interval.{Interval}
 use Rattle.parquet_meta.specs.declared.metadata.PrimitiveLogicalType.{PrimitiveLogicalType as LogicalType}

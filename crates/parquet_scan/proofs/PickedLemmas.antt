@@ -1,6 +1,6 @@
 -- The values of selected rows.
-use Rattle.std.proofs.Common.{◌≡◌, ℕ, ℤ, pos, zero, suc, ◌+◌, ◌-◌, ◌*◌, ◌/◌, ◌<◌, ◌≤◌, true, List, [], ◌∷◌, ◌++◌, length, map, take, drop, get_or, Some, refl, sym, ◌∙◌, ap, arith, length-append}
-use Rattle.std.specs.Prelude.{Option, None, flat_map, option_map, slice_get, slice_range}
+use Rattle.std.proofs.Common.{◌≡◌, ℕ, ℤ, pos, zero, suc, ◌+◌, ◌-◌, ◌*◌, ◌/◌, ◌<◌, ◌≤◌, true, List, [], ◌∷◌, ◌++◌, length, map, take, drop, get_or, Some, refl, sym, ◌∙◌, ap, arith}
+use Rattle.std.specs.Prelude.{Option, None, flat_map, slice_get, slice_range}
 use Rattle.std.specs.List.{range_with_len}
 use Rattle.std.specs.Simd.{first_chunks}
 use Rattle.std.proofs.lemmas.Grind.{flat_map-append}
@@ -10,7 +10,7 @@ use Rattle.parquet_base.specs.Intervals.{end, is_well_shaped_from, row_count, ro
 use Rattle.parquet_base.specs.declared.interval.Interval.{Interval}
 use Rattle.parquet_base.proofs.RowLemmas.{rows_of-length}
 use Rattle.parquet_base.proofs.ShapeLemmas.{shape-cons, shape-le}
-use Rattle.parquet_page.specs.Content.{Content, DataContent, DataOf, DictOf, content_rows, fit_in, header_values, is_shaped, rows_among}
+use Rattle.parquet_page.specs.Content.{DataContent, DataOf, content_rows, fit_in, header_values, is_shaped, rows_among}
 use Rattle.parquet_scan.specs.Numbers.{data_numbers, number_of, numbers_of, page_numbers, selected_numbers}
 
 -- ---- the values of runs

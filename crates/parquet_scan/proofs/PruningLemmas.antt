@@ -1,11 +1,11 @@
 -- The runs of rows that bounds keep by their pages.
-use Rattle.std.proofs.Common.{◌≡◌, ℕ, zero, suc, ◌+◌, ◌<◌, ◌≤◌, Bool, true, false, cond, List, [], ◌∷◌, ◌++◌, length, map, drop, get_or, Option, Some, None, refl, sym, subst, ◌∙◌, ap, arith, inl, inr}
-use Rattle.std.specs.Prelude.{◌&&◌, ◌||◌, filter, find, zip, is_some, unwrap_or, IfSome}
+use Rattle.std.proofs.Common.{◌≡◌, ℕ, zero, suc, ◌+◌, ◌<◌, Bool, true, false, cond, List, [], ◌∷◌, length, map, drop, get_or, Option, Some, None, refl, sym, ◌∙◌, ap, arith, inl, inr}
+use Rattle.std.specs.Prelude.{◌&&◌, filter, find, is_some, unwrap_or, IfSome}
 use Rattle.std.specs.List.{list_all}
 use Rattle.std.specs.Option.{option_map_or}
 use Rattle.std.proofs.lemmas.Bool.{and_parts, cases_lt, true≢false}
 use Rattle.std.proofs.lemmas.List.{drop_all, drop_more}
-use Rattle.columns_core.specs.Causes.{Cause, ExternalFormat}
+use Rattle.columns_core.specs.Causes.{ExternalFormat}
 use Rattle.columns_core.specs.declared.data_type.Field.{Field}
 use Rattle.parquet_base.specs.Intervals.{covers, is_well_shaped, maximal_runs}
 use Rattle.parquet_base.specs.declared.interval.Interval.{Interval}
@@ -13,11 +13,10 @@ use Rattle.parquet_base.proofs.SegmentLemmas.{covers-maximal_runs, same_runs}
 use Rattle.parquet_meta.specs.declared.metadata.ColumnChunkMetaData.{ColumnChunkMetaData}
 use Rattle.parquet_meta.specs.declared.metadata.PageLocation.{PageLocation}
 use Rattle.parquet_meta.specs.declared.metadata.RowGroupMetaData.{RowGroupMetaData}
-use Rattle.parquet_page.specs.Locations.{has_shape}
 use Rattle.parquet_scan.specs.declared.bound.Bound.{Bound}
 use Rattle.parquet_scan.specs.declared.groups.KnownEnds.{KnownEnds}
 use Rattle.parquet_scan.specs.Causes.{index_causes_of_bound, offset_causes_of_field}
-use Rattle.parquet_scan.specs.Pages.{column_index_causes, keeps_row, location_rows, locations, locations_causes, page_ends, row_keeps, rows_at}
+use Rattle.parquet_scan.specs.Pages.{column_index_causes, keeps_row, locations, locations_causes, page_ends, row_keeps, rows_at}
 use Rattle.parquet_scan.specs.Request.{are_values_of, begins, bound_type, field_of, is_legal_bound_of}
 use Rattle.parquet_scan.specs.Rows.{bound_keeps, column_named, field_locations, is_named, only_one, pages_keep}
 use Rattle.parquet_scan.proofs.KeptLemmas.{runs_shaped}

@@ -2,7 +2,7 @@
 use Rattle.std.proofs.Common.{◌≡◌, ℕ, zero, suc, ◌+◌, ◌<◌, ◌≤◌, Bool, true, false, not, List, [], ◌∷◌, ◌++◌, length, map, drop, get_or, refl, sym, subst, ◌∙◌, ap, arith, append_assoc, inl, inr}
 use Rattle.std.specs.Prelude.{Option, Some, None, zip, filter, ◌&&◌, ◌||◌, ◌==◌, nat_lt, IfSome, if◌then◌else◌}
 use Rattle.std.specs.List.{flat_map, list_all}
-use Rattle.columns_core.specs.Causes.{Cause, ExternalFormat, IsOneOf, IsWantOfMemory, cause_of}
+use Rattle.columns_core.specs.Causes.{Cause, ExternalFormat, and_then, IsOneOf, IsWantOfMemory, cause_of}
 use Rattle.columns_core.specs.declared.data_type.Field.{Field}
 use Rattle.columns_core.specs.declared.error.Error.{Error}
 use Rattle.columns_core.specs.declared.error.Error.TheVariants as error
@@ -209,3 +209,9 @@ in_first (Some bytes) first second = λ o one. one_left (first bytes) (second by
 pub in_second : (told : Option (List ℕ)) (first second : List ℕ → List Cause) → IfSome told (λ bytes. (o : Option Cause) → IsOneOf (second bytes) o → IsOneOf (first bytes ++ second bytes) o)
 in_second None first second = tt
 in_second (Some bytes) first second = λ o one. one_right (first bytes) (second bytes) o one
+
+-- what is wrong with the next part is wrong with both, where nothing is wrong with the first
+pub in_next : (told : Option (List ℕ)) (first next part : List ℕ → List Cause) → IfSome told (λ bytes. first bytes ≡ []) → IfSome told (λ bytes. part bytes ≡ next bytes)
+    → IfSome told (λ bytes. (o : Option Cause) → IsOneOf (part bytes) o → IsOneOf (and_then (first bytes) (next bytes)) o)
+in_next None first next part none same = tt
+in_next (Some bytes) first next part none same = λ o one. subst (λ causes. IsOneOf causes o) (same ∙ sym (then_next (first bytes) (next bytes) none)) one

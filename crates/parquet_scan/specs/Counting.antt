@@ -1,5 +1,5 @@
 -- Groups beside whether they count, and beside the runs of their rows that are kept.
-use Rattle.std.specs.Prelude.{ℕ, ℤ, Option, Some, map, Bool, not, ◌&&◌, ◌||◌, ◌==◌, nat_lt, if◌then◌else◌, List, [], ◌∷◌, length, zip, flat_map, sum_by}
+use Rattle.std.specs.Prelude.{ℕ, ℤ, Option, Some, map, Bool, not, ◌&&◌, ◌||◌, ◌==◌, ◌+◌, nat_lt, if◌then◌else◌, List, [], ◌∷◌, length, zip, flat_map, sum_by}
 use Rattle.std.specs.List.{list_all, range_with_len}
 use Rattle.columns_core.specs.Causes.{Cause, and_then}
 use Rattle.columns_core.specs.declared.array.Array.{Array}
@@ -14,6 +14,7 @@ use Rattle.parquet_scan.specs.declared.bound.Bound.{Bound}
 use Rattle.parquet_scan.specs.declared.scanning.GroupKept.{GroupKept}
 use Rattle.parquet_scan.specs.Causes.{causes_of_group, index_causes_of_group}
 use Rattle.parquet_scan.specs.Cells.{columns_of, given_chunk}
+use Rattle.parquet_scan.specs.Costs.{column_index_of, lent_of_group, offset_index_of, taken_of_column}
 use Rattle.parquet_scan.specs.NotBuilt.{is_built_field}
 use Rattle.parquet_scan.specs.Rows.{has_column_index, has_offset_index, pages_keep}
 
@@ -87,10 +88,48 @@ rows_if_read by_pages group = if is_read group then length (rows_read by_pages g
 abbrev pub rows_of_groups : Bool → List RowGroupMetaData → List GroupKept → ℕ
 rows_of_groups by_pages groups kept = sum_by (rows_if_read by_pages) (zip groups kept)
 
+-- the pages that are lent of a group, if it is read
+abbrev pub lent_if_read : Bool → List Field → List ℕ → RowGroupMetaData × GroupKept → ℕ
+lent_if_read by_pages fields bytes group =
+    if is_read group then lent_of_group by_pages fields bytes (group.0, rows_read by_pages group.0 (group.1).intervals) else 0
+
+abbrev pub lent_of_groups : Bool → List Field → List ℕ → List RowGroupMetaData → List GroupKept → ℕ
+lent_of_groups by_pages fields bytes groups kept = sum_by (lent_if_read by_pages fields bytes) (zip groups kept)
+
 -- what is wrong with the indexes, and where nothing is, with the groups that are read
 abbrev pub scan_causes : Bool → List Field → List Bound → List ℕ → List RowGroupMetaData → List Bool → List Cause
 scan_causes by_pages fields bounds bytes groups counts =
     and_then (index_causes_of_groups by_pages fields bounds bytes groups counts) (causes_of_groups by_pages fields bytes groups (kept_of_groups by_pages bounds bytes groups counts))
+
+-- ---- what is taken from the source
+
+-- the indexes of a group, if they are read
+abbrev pub indexes_taken : Bool → List Field → List Bound → RowGroupMetaData × Bool → ℕ
+indexes_taken by_pages fields bounds group =
+    if by_pages && group.1 then sum_by (offset_index_of group.0) fields + sum_by (column_index_of group.0) bounds else 0
+
+abbrev pub indexes_taken_of_groups : Bool → List Field → List Bound → List RowGroupMetaData → List Bool → ℕ
+indexes_taken_of_groups by_pages fields bounds groups counts = sum_by (indexes_taken by_pages fields bounds) (zip groups counts)
+
+-- a column that is read, and before it its offset index where rows are pruned by pages
+abbrev pub column_taken : Bool → List ℕ → RowGroupMetaData → List ℕ → Field → ℕ
+column_taken by_pages bytes group rows field = (if by_pages then offset_index_of group field else 0) + taken_of_column by_pages bytes group rows field
+
+abbrev pub columns_taken : Bool → List Field → List ℕ → RowGroupMetaData × List ℕ → ℕ
+columns_taken by_pages fields bytes read = sum_by (column_taken by_pages bytes read.0 read.1) fields
+
+-- the columns of a group, if it is read
+abbrev pub taken_if_read : Bool → List Field → List ℕ → RowGroupMetaData × GroupKept → ℕ
+taken_if_read by_pages fields bytes group =
+    if is_read group then columns_taken by_pages fields bytes (group.0, rows_read by_pages group.0 (group.1).intervals) else 0
+
+abbrev pub taken_of_groups : Bool → List Field → List ℕ → List RowGroupMetaData → List GroupKept → ℕ
+taken_of_groups by_pages fields bytes groups kept = sum_by (taken_if_read by_pages fields bytes) (zip groups kept)
+
+-- what a scan of the groups takes: their indexes, and then what is read of them
+abbrev pub scan_taken : Bool → List Field → List Bound → List ℕ → List RowGroupMetaData → List Bool → ℕ
+scan_taken by_pages fields bounds bytes groups counts =
+    indexes_taken_of_groups by_pages fields bounds groups counts + taken_of_groups by_pages fields bytes groups (kept_of_groups by_pages bounds bytes groups counts)
 
 -- ---- what was read
 

@@ -2,10 +2,12 @@ pub mod Bound
 pub mod Causes
 pub mod Cells
 pub mod Column
+pub mod Costs
 pub mod Counting
 pub mod Exact
 pub mod Laws
 pub mod Located
+pub mod LookedAt
 pub mod NotBuilt
 pub mod Numbers
 pub mod Pages

@@ -1,5 +1,5 @@
 -- Parts of a chunk that are read by the locations of its pages.
-use Rattle.std.specs.Prelude.{ℕ, ◌-◌, List, [], ◌∷◌, Option, Some, None, option_map, if◌then◌else◌, is_some}
+use Rattle.std.specs.Prelude.{ℕ, ◌-◌, List, Option, None, if◌then◌else◌, is_some}
 use Rattle.columns_core.specs.Causes.{Cause, ExternalFormat, unless}
 use Rattle.parquet_meta.specs.declared.metadata.Place.{Place}
 use Rattle.parquet_meta.specs.Places.{lies_in, part_at}

@@ -1,7 +1,7 @@
 -- Forms that are not read yet, although the format has them. Each is a cause for answering that it is not yet
 -- implemented, and where a request or a column has one nothing else is asked. No scan comes of it. What is built leaves
 -- this file, and the last of them takes the file with it.
-use Rattle.std.specs.Prelude.{pos, Bool, true, false, not, ◌&&◌, ◌||◌, ◌==◌, nat_lt, List, [], ◌∷◌, length, is_some}
+use Rattle.std.specs.Prelude.{pos, Bool, true, false, not, ◌&&◌, ◌||◌, ◌==◌, List, [], ◌∷◌, is_some}
 use Rattle.std.specs.List.{list_all, list_any}
 use Rattle.columns_core.specs.Causes.{Cause, NotYetImplemented, unless}
 use Rattle.columns_core.specs.declared.data_type.DataType.{out-DataType}
@@ -47,11 +47,9 @@ is_built_header _ = false
 
 -- ---- what is not
 
--- one field, one bound at most, and neither a chunk size nor a limit
+-- neither a chunk size nor a limit
 abbrev pub is_built_request : Request → Bool
-is_built_request request =
-    (not (is_some request.limit) && not (is_some request.chunk_size))
-    && nat_lt (length request.fields) 2 && nat_lt (length request.bounds) 2
+is_built_request request = not (is_some request.limit) && not (is_some request.chunk_size)
 
 -- a column is not requested, or it is built
 abbrev pub is_built_if_named : List Field → ColumnDescriptor → Bool

@@ -1,5 +1,5 @@
 //! What is not built yet is refused.
-ghost use Rattle.std.specs.Prelude.{◌≡◌, [], OnOk};
+ghost use Rattle.std.specs.Prelude.{◌≡◌, ◌&&◌, [], OnOk, is_some, not};
 ghost use Rattle.std.specs.List.{list_all, list_any};
 ghost use Rattle.columns_core.specs.Causes.{ComesOf};
 ghost use Rattle.parquet_scan.specs.NotBuilt as spec;
@@ -11,7 +11,7 @@ use crate::request::begins;
 use columns_core::{DataType, Error, Field, Part, Schema};
 use parquet_meta::{ColumnDescriptor, PhysicalType, Repetition};
 
-/// Refuses a request of another form than one field, read as Int32, of a required column of INT32, with one bound at most.
+/// Refuses a request with a chunk size or a limit, and one of another field than one read as Int32 of a required column of INT32.
 pub(crate) fn check_built(
     columns: &[ColumnDescriptor],
     schema: &Schema,
@@ -22,7 +22,7 @@ pub(crate) fn check_built(
     ensures ok { OnOk result (spec.not_built (request_of schema.now bounds.now chunk_size limit) columns.now ≡ []) }
     ensures cause { ComesOf result (spec.not_built (request_of schema.now bounds.now chunk_size limit) columns.now) }
 {
-    if is_built_request(schema, bounds, chunk_size, limit)
+    if is_built_request(chunk_size, limit)
         && are_built_fields(schema.fields.as_slice())
         && are_built_columns(schema.fields.as_slice(), columns)
     {
@@ -45,18 +45,10 @@ fn are_built_columns(fields: &[Field], columns: &[ColumnDescriptor]) -> bool
         .all(|column| is_built_if_named(fields, column))
 }
 
-fn is_built_request(
-    schema: &Schema,
-    bounds: &[Bound],
-    chunk_size: Option<usize>,
-    limit: Option<usize>,
-) -> bool
-    ensures { result ≡ spec.is_built_request (request_of schema.now bounds.now chunk_size limit) }
+fn is_built_request(chunk_size: Option<usize>, limit: Option<usize>) -> bool
+    ensures { result ≡ (not (is_some limit) && not (is_some chunk_size)) }
 {
-    limit.is_none()
-        && chunk_size.is_none()
-        && schema.fields.as_slice().len() < 2
-        && bounds.len() < 2
+    limit.is_none() && chunk_size.is_none()
 }
 
 fn is_built_field(field: &Field) -> bool

@@ -3,7 +3,7 @@ ghost use Rattle.std.specs.Prelude.{◌≡◌, ◌+◌, ◌-◌, ◌/◌, ◌^�
 ghost use Rattle.std.specs.Simd.{first_chunks};
 ghost use Rattle.columns_core.specs.Causes.{ComesOf};
 ghost use Rattle.parquet_base.specs.Intervals.{end, is_well_shaped};
-ghost use Rattle.parquet_meta.specs.Chunks.{chunk_causes};
+ghost use Rattle.parquet_meta.specs.Chunks.{chunk_causes, chunk_range};
 ghost use Rattle.parquet_meta.specs.Places.{bytes_at};
 ghost use Rattle.parquet_page.specs.Content.{DataOf, content, content_rows, data_content, fit_in, header_values, is_shaped};
 ghost use Rattle.parquet_scan.specs.Causes.{causes_of_data, causes_of_page, opened_causes};
@@ -45,6 +45,7 @@ pub(crate) fn read_chunk<S: Source>(
     ensures chunk { IfOk result (λ found. IfSome (S.told source.old) (λ bytes.
         option_map (bytes_at bytes) (chunk_of bytes group.now column.now) ≡ Some found.items)) }
     ensures fails { IfErr result (FailsBy (S.told source.old) (S.faults source.old) (S.faults source.new) (λ bytes. chunk_read_causes bytes group.now column.now)) }
+    ensures taken { S.taken source.new ≤ S.taken source.old + (chunk_range column.now).length }
 {
     check_chunk(column)?;
     if !has_all_values(group, column) {
@@ -66,6 +67,7 @@ pub(crate) fn place_of_chunk<S: Source>(
     ensures readable { OnOk result (chunk_causes column.now ≡ []) }
     ensures place { IfOk result (λ place. IfSome (S.told source.old) (λ bytes. chunk_of bytes group.now column.now ≡ Some place)) }
     ensures fails { IfErr result (FailsBy (S.told source.old) (S.faults source.old) (S.faults source.new) (λ bytes. chunk_read_causes bytes group.now column.now)) }
+    ensures taken { S.taken source.new ≡ S.taken source.old }
 {
     check_chunk(column)?;
     if !has_all_values(group, column) {
@@ -110,6 +112,7 @@ pub(crate) fn decode_pages<I: Pages, L: Ledger>(
     ensures rows { OnOk result (length numbers.new.items ≡ length numbers.old.items + sum_by content_rows (I.to_come pages.old)) }
     ensures later { steps.old ≤ steps.new }
     ensures count { IfOk result (λ count. count ≡ min (steps.new - steps.old) (2 ^ 64 - 1)) }
+    ensures lent { OnOk result (steps.new ≡ steps.old + length (I.to_come pages.old)) }
 {
     let mut count: usize = 0;
     while let Some(page) = pages.next(steps)? {

@@ -1,6 +1,11 @@
 //! Facts about the definitions that the contracts cite.
 ghost use Rattle.parquet_scan.specs.Exact.{KeepsExactly, TrueEndsKeep};
 ghost use Rattle.parquet_scan.specs.Laws.{GivenCellsAreCells, LocatedCellsAreCells, LosesNoRowOfValidFiles};
+ghost use Rattle.parquet_scan.specs.LookedAt.{HaveSameScan};
+ghost use Rattle.parquet_scan.specs.Scan.{request_of};
+
+use crate::Bound;
+use columns_core::Schema;
 
 /// Statistics rule rows out exactly where no rows of which they are true hold an item that meets the bound.
 pub fn keeps_is_exact()
@@ -25,4 +30,16 @@ pub fn given_cells_are_cells()
 /// Where the statistics of a valid file are true, a legal request rules out no row that meets all its bounds.
 pub fn no_row_is_lost()
     ensures { LosesNoRowOfValidFiles }
+{}
+
+/// Two files that agree on the parts which a request looks at in the first give the same scan. So no byte outside of them changes an answer.
+pub fn same_parts(
+    _first: &[u8],
+    _second: &[u8],
+    _schema: &Schema,
+    _bounds: &[Bound],
+    _chunk_size: Option<usize>,
+    _limit: Option<usize>,
+)
+    ensures { HaveSameScan (request_of _schema.now _bounds.now _chunk_size _limit) _first.now _second.now }
 {}

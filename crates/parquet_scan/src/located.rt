@@ -1,15 +1,17 @@
 //! Columns that are read by the locations of their pages.
-ghost use Rattle.std.specs.Prelude.{◌≡◌, ◌-◌, ◌^◌, ◌≤◌, [], Some, true, filter, min, map, flat_map, length, if◌then◌else◌, IfOk, IfErr, IfSome, IsTrue, OnOk};
+ghost use Rattle.std.specs.Prelude.{◌≡◌, ◌+◌, ◌-◌, ◌^◌, ◌≤◌, [], Some, true, filter, min, map, flat_map, length, sum_by, if◌then◌else◌, IfOk, IfErr, IfSome, IsTrue, OnOk};
 ghost use Rattle.columns_core.specs.Causes.{ComesOf};
 ghost use Rattle.columns_core.specs.declared.cell.Cell.{Int};
 ghost use Rattle.parquet_base.specs.Intervals.{is_well_shaped, rows_of};
+ghost use Rattle.parquet_meta.specs.Indexes.{offset_index_length};
 ghost use Rattle.parquet_meta.specs.Places.{lies_in as lies_in_by};
 ghost use Rattle.parquet_page.specs.Lent.{are_well_shaped, first_start as first_start_by, has_parts, is_wanted as is_wanted_by, located_parts, selected_count};
 ghost use Rattle.parquet_scan.specs.Causes.{causes_of_chunk, opened_causes};
 ghost use Rattle.parquet_scan.specs.Cells.{located_item};
+ghost use Rattle.parquet_scan.specs.Costs.{lent_of_chunk, taken_of_chunk};
 ghost use Rattle.parquet_scan.specs.Located.{entry_causes, entry_part, entry_place, part_causes, part_in, place_before as place_before_by};
 ghost use Rattle.parquet_scan.specs.Numbers.{all_numbers};
-ghost use Rattle.parquet_scan.specs.Scan.{FailsBy};
+ghost use Rattle.parquet_scan.specs.Scan.{FailsBy, RisesBy};
 
 use crate::column::{decode_pages, place_of_chunk};
 use crate::locations::read_locations;
@@ -39,6 +41,8 @@ pub(crate) fn read_located<S: Source, L: Ledger>(
     ensures numbers { IfOk result (λ found. IfSome (S.told source.old) (λ bytes. map (located_item bytes group.now column.now) (rows_of intervals.now) ≡ map (λ n. Some (Int n)) found.0.items)) }
     ensures ticks { steps.old ≤ steps.new }
     ensures pages { IfOk result (λ found. found.1 ≡ min (steps.new - steps.old) (2 ^ 64 - 1)) }
+    ensures lent { OnOk result (RisesBy (S.told source.old) steps.old steps.new (λ bytes. lent_of_chunk true bytes group.now (rows_of intervals.now) column.now)) }
+    ensures taken { OnOk result (RisesBy (S.told source.old) (S.taken source.old) (S.taken source.new) (λ bytes. offset_index_length column.now + taken_of_chunk true bytes group.now (rows_of intervals.now) column.now)) }
 {
     let chunk = place_of_chunk(source, group, column)?;
     let locations = read_locations(alloc, source, group, column)?;
@@ -62,6 +66,7 @@ fn read_bodies<S: Source>(
     ensures fails { IfErr result (FailsBy (S.told source.old) (S.faults source.old) (S.faults source.new) (λ bytes. flat_map (entry_causes bytes chunk) (filter is_wanted_by pages.now))) }
     ensures bodies { IfOk result (λ bodies. IfSome (S.told source.old) (λ bytes. map (entry_part bytes chunk) (filter is_wanted_by pages.now) ≡ map (λ body. Some body.items) bodies.items)) }
     ensures length { IfOk result (λ bodies. length bodies.items ≡ length (filter is_wanted_by pages.now)) }
+    ensures taken { OnOk result (S.taken source.new ≤ S.taken source.old + sum_by (λ page. page.length) (filter is_wanted_by pages.now)) }
 {
     let mut bodies = Vec::new(alloc);
     for page in pages {
@@ -101,6 +106,7 @@ fn read_before<S: Source>(
     ensures ok { OnOk result (IfSome (S.told source.old) (λ bytes. (if wanted then part_causes bytes chunk (place_before_by chunk pages.now) else []) ≡ [])) }
     ensures fails { IfErr result (FailsBy (S.told source.old) (S.faults source.old) (S.faults source.new) (λ bytes. (if wanted then part_causes bytes chunk (place_before_by chunk pages.now) else []))) }
     ensures part { IfOk result (λ part. IsTrue wanted → IfSome (S.told source.old) (λ bytes. part_in bytes chunk (place_before_by chunk pages.now) ≡ Some part.items)) }
+    ensures taken { S.taken source.new ≤ S.taken source.old + (if wanted then (place_before_by chunk pages.now).length else 0) }
 {
     if wanted {
         return read_part(alloc, source, chunk, place_before(chunk, pages));
@@ -139,6 +145,7 @@ fn read_part<S: Source>(
     ensures ok { OnOk result (IfSome (S.told source.old) (λ bytes. part_causes bytes chunk part ≡ [])) }
     ensures fails { IfErr result (FailsBy (S.told source.old) (S.faults source.old) (S.faults source.new) (λ bytes. part_causes bytes chunk part)) }
     ensures part { IfOk result (λ found. IfSome (S.told source.old) (λ bytes. part_in bytes chunk part ≡ Some found.items)) }
+    ensures taken { S.taken source.new ≤ S.taken source.old + part.length }
 {
     if !lies_in(chunk, part) {
         return Err(Error::ExternalFormat(Part::Location));
@@ -170,6 +177,7 @@ fn decode_located<L: Ledger>(
     ensures count { IfOk result (λ found. length found.0.items ≡ selected_count pages.items) }
     ensures ticks { steps.old ≤ steps.new }
     ensures pages { IfOk result (λ found. found.1 ≡ min (steps.new - steps.old) (2 ^ 64 - 1)) }
+    ensures lent { OnOk result (steps.new ≤ steps.old + (length (filter is_wanted_by pages.items) + 1)) }
 {
     let mut reader = IndexedPageReader::from_ranges(alloc, Some(before), bodies, column, pages)?;
     let _rows = reader.rows();

@@ -1,9 +1,11 @@
 //! Where the pages of a column stand.
-ghost use Rattle.std.specs.Prelude.{◌≡◌, ◌≤◌, ◌&&◌, [], true, is_some, length, map, flat_map, IfOk, IfErr, IfSome, OnOk, Some};
+ghost use Rattle.std.specs.Prelude.{◌≡◌, ◌≤◌, ◌+◌, ◌&&◌, [], true, is_some, length, sum_by, map, flat_map, IfOk, IfErr, IfSome, OnOk, Some};
 ghost use Rattle.std.specs.List.{list_all};
 ghost use Rattle.columns_core.specs.Causes.{ComesOf, ExternalFormat, unless};
+ghost use Rattle.parquet_meta.specs.Indexes.{offset_index_length};
 ghost use Rattle.parquet_page.specs.Locations.{begin_with_row_0, has_shape, part_of};
 ghost use Rattle.parquet_scan.specs.Causes.{offset_causes_of_field};
+ghost use Rattle.parquet_scan.specs.Costs.{offset_index_of};
 ghost use Rattle.parquet_scan.specs.Pages.{locations as locations_by, locations_causes};
 ghost use Rattle.parquet_scan.specs.Rows.{field_locations};
 ghost use Rattle.parquet_scan.specs.Scan.{FailsBy};
@@ -33,6 +35,7 @@ pub(crate) fn read_all_locations<S: Source>(
     ensures locations { IfOk result (λ lists. IfSome (S.told source.old) (λ bytes. map (λ field. field_locations bytes group.now field.name) fields.now ≡ map (λ list. list.items) lists.items)) }
     ensures length { IfOk result (λ lists. length lists.items ≡ length fields.now) }
     ensures shaped { IfOk result (λ lists. list_all (λ list. has_shape list.items group.now.num_rows) lists.items ≡ true) }
+    ensures taken { OnOk result (S.taken source.new ≤ S.taken source.old + sum_by (offset_index_of group.now) fields.now) }
 {
     let mut lists = Vec::new(alloc);
     for field in fields {
@@ -54,6 +57,7 @@ fn read_field_locations<S: Source>(
     ensures fails { IfErr result (FailsBy (S.told source.old) (S.faults source.old) (S.faults source.new) (λ bytes. offset_causes_of_field bytes group.now field.now)) }
     ensures locations { IfOk result (λ list. IfSome (S.told source.old) (λ bytes. field_locations bytes group.now field.now.name ≡ list.items)) }
     ensures shaped { IfOk result (λ list. has_shape list.items group.now.num_rows ≡ true) }
+    ensures taken { S.taken source.new ≤ S.taken source.old + offset_index_of group.now field.now }
 {
     let Some(column) = column_named(group, &field.name) else {
         return Err(Error::ExternalFormat(Part::Group));
@@ -75,6 +79,7 @@ pub(crate) fn read_locations<S: Source>(
     ensures fails { IfErr result (FailsBy (S.told source.old) (S.faults source.old) (S.faults source.new) (λ bytes. locations_causes bytes group.now column.now)) }
     ensures locations { IfOk result (λ list. IfSome (S.told source.old) (λ bytes. locations_by bytes column.now ≡ list.items)) }
     ensures shaped { IfOk result (λ list. has_shape list.items group.now.num_rows ≡ true) }
+    ensures taken { S.taken source.new ≤ S.taken source.old + offset_index_length column.now }
 {
     let mut lists = read_pages_locations(alloc, source, slice::from_ref(column))?;
     let Some(locations) = lists.pop() else {

@@ -1,6 +1,6 @@
 //! What the column index of a column says of its pages.
-ghost use Rattle.std.specs.Prelude.{◌≡◌, ◌≤◌, [], Some, true, length, IfOk, IfErr, IfSome, OnOk};
-ghost use Rattle.parquet_meta.specs.Indexes.{FindsIndex};
+ghost use Rattle.std.specs.Prelude.{◌≡◌, ◌≤◌, ◌+◌, [], Some, true, length, IfOk, IfErr, IfSome, OnOk};
+ghost use Rattle.parquet_meta.specs.Indexes.{FindsIndex, column_index_length};
 ghost use Rattle.parquet_meta.specs.Lists.{all_of};
 ghost use Rattle.parquet_meta.specs.TypedStatistics.{known_count as known_count_by};
 ghost use Rattle.columns_core.specs.Refusals.{IsDamaged};
@@ -30,6 +30,7 @@ pub(crate) fn read_page_ends<S: Source>(
     ensures fails { IfErr result (FailsBy (S.told source.old) (S.faults source.old) (S.faults source.new) (λ bytes. spec.column_index_causes count bytes column.now)) }
     ensures ends { IfOk result (λ ends. IfSome (S.told source.old) (λ bytes. spec.page_ends bytes column.now ≡ ends.items)) }
     ensures length { IfOk result (λ ends. length ends.items ≡ count) }
+    ensures taken { S.taken source.new ≤ S.taken source.old + column_index_length column.now }
 {
     let index = read_index(alloc, source, column, name)?;
     let ends = ends_of_pages(alloc, &index)?;
@@ -51,6 +52,7 @@ fn read_index<S: Source>(
     ensures same_source { S.kept source.new ≡ S.kept source.old }
     ensures later { S.faults source.old ≤ S.faults source.new }
     ensures found { FindsIndex column.now (S.told source.old) (S.faults source.old) (S.faults source.new) result }
+    ensures taken { S.taken source.new ≤ S.taken source.old + column_index_length column.now }
 {
     let mut indexes = read_raw_indexes(alloc, source, slice::from_ref(column), name.as_str())?;
     let Some(index) = indexes.pop() else {

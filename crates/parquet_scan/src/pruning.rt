@@ -1,10 +1,11 @@
 //! Which rows of a group its pages keep.
-ghost use Rattle.std.specs.Prelude.{◌≡◌, ◌≤◌, [], true, All, length, map, flat_map, zip, IfOk, IfErr, IfSome, OnOk};
+ghost use Rattle.std.specs.Prelude.{◌≡◌, ◌≤◌, ◌+◌, [], true, All, length, sum_by, map, flat_map, zip, IfOk, IfErr, IfSome, OnOk};
 ghost use Rattle.std.specs.List.{list_all};
 ghost use Rattle.columns_core.specs.Causes.{IsWantOfMemory};
 ghost use Rattle.parquet_base.specs.Intervals.{is_well_shaped, maximal_runs, AreApart};
 ghost use Rattle.parquet_page.specs.Locations.{has_shape};
 ghost use Rattle.parquet_scan.specs.Causes.{index_causes_of_bound, index_causes_of_group};
+ghost use Rattle.parquet_scan.specs.Costs.{column_index_of, offset_index_of};
 ghost use Rattle.parquet_scan.specs.Pages.{keeps_row, page_keeps as page_keeps_by, rows_at};
 ghost use Rattle.parquet_scan.specs.Request.{is_legal_bound_of};
 ghost use Rattle.parquet_scan.specs.Rows.{bound_keeps, field_locations, pages_keep};
@@ -37,6 +38,8 @@ pub(crate) fn kept_by_pages<S: Source>(
     ensures fails { IfErr result (FailsBy (S.told source.old) (S.faults source.old) (S.faults source.new) (λ bytes. index_causes_of_group fields.now bounds.now bytes group.now)) }
     ensures kept { IfOk result (λ runs. IfSome (S.told source.old) (λ bytes. runs.items ≡ maximal_runs (pages_keep true bounds.now bytes group.now) group.now.num_rows)) }
     ensures shaped { IfOk result (λ runs. is_well_shaped runs.items group.now.num_rows ≡ true) }
+    ensures apart { IfOk result (λ runs. AreApart 0 runs.items group.now.num_rows) }
+    ensures taken { OnOk result (S.taken source.new ≤ S.taken source.old + (sum_by (offset_index_of group.now) fields.now + sum_by (column_index_of group.now) bounds.now)) }
 {
     let locations = read_all_locations(alloc, source, group, fields)?;
     let runs = read_all_runs(alloc, source, group, fields, bounds, &locations)?;
@@ -63,6 +66,7 @@ fn read_all_runs<S: Source>(
     ensures fails { IfErr result (FailsBy (S.told source.old) (S.faults source.old) (S.faults source.new) (λ bytes. flat_map (index_causes_of_bound bytes group.now) bounds.now)) }
     ensures runs { IfOk result (λ lists. IfSome (S.told source.old) (λ bytes. map (λ bound. maximal_runs (λ row. bound_keeps bytes group.now row bound) group.now.num_rows) bounds.now ≡ map (λ list. list.items) lists.items)) }
     ensures apart { IfOk result (λ lists. All (λ list. AreApart 0 list.items group.now.num_rows) lists.items) }
+    ensures taken { OnOk result (S.taken source.new ≤ S.taken source.old + sum_by (column_index_of group.now) bounds.now) }
 {
     let mut lists = Vec::new(alloc);
     for bound in bounds {
@@ -89,6 +93,7 @@ fn read_runs<S: Source>(
     ensures fails { IfErr result (FailsBy (S.told source.old) (S.faults source.old) (S.faults source.new) (λ bytes. index_causes_of_bound bytes group.now bound.now)) }
     ensures runs { IfOk result (λ runs. IfSome (S.told source.old) (λ bytes. maximal_runs (λ row. bound_keeps bytes group.now row bound.now) group.now.num_rows ≡ runs.items)) }
     ensures apart { IfOk result (λ runs. AreApart 0 runs.items group.now.num_rows) }
+    ensures taken { S.taken source.new ≤ S.taken source.old + column_index_of group.now bound.now }
 {
     let Some(column) = column_named(group, &bound.field) else {
         return Err(Error::ExternalFormat(Part::Group));

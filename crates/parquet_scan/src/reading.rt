@@ -6,11 +6,13 @@ ghost use Rattle.columns_core.specs.Chunk.{AreEqualLengths, rows_of as chunk_row
 ghost use Rattle.columns_core.specs.declared.cell.Cell.{Int};
 ghost use Rattle.columns_core.specs.ElementType.{stores_i32};
 ghost use Rattle.parquet_base.specs.Intervals.{is_well_shaped};
+ghost use Rattle.parquet_meta.specs.Chunks.{chunk_range};
 ghost use Rattle.parquet_scan.specs.Causes.{causes_of_chunk, causes_of_column, causes_of_group};
 ghost use Rattle.parquet_scan.specs.Cells.{given_cell, given_chunk, given_column, walked_item};
-ghost use Rattle.parquet_scan.specs.Counting.{are_built, are_shaped, causes_if_read, causes_of_groups, chunks_if_read, chunks_of_groups, every_row, is_shaped, number_array, rows_if_read, rows_of_groups, rows_read, shown};
+ghost use Rattle.parquet_scan.specs.Costs.{lent_of_chunk, lent_of_column, lent_of_group};
+ghost use Rattle.parquet_scan.specs.Counting.{are_built, are_shaped, causes_if_read, causes_of_groups, chunks_if_read, chunks_of_groups, column_taken, columns_taken, every_row, is_shaped, lent_if_read, lent_of_groups, number_array, rows_if_read, rows_of_groups, rows_read, shown, taken_if_read, taken_of_groups};
 ghost use Rattle.parquet_scan.specs.NotBuilt.{is_built_field};
-ghost use Rattle.parquet_scan.specs.Scan.{FailsBy};
+ghost use Rattle.parquet_scan.specs.Scan.{FailsBy, RisesBy, rows_in};
 
 use crate::GroupKept;
 use crate::column::{decode_pages, read_chunk};
@@ -52,8 +54,11 @@ pub(crate) fn read_groups<S: Source, L: Ledger>(
     ensures fails { IfErr result (FailsBy (S.told source.old) (S.faults source.old) (S.faults source.new) (λ bytes. causes_of_groups by_pages fields.now bytes groups.now kept.now)) }
     ensures chunks { OnOk result (IfSome (S.told source.old) (λ bytes. shown read.new.chunks.items ≡ shown read.old.chunks.items ++ chunks_of_groups by_pages fields.now bytes groups.now kept.now)) }
     ensures rows { OnOk result (read.new.rows ≡ min (read.old.rows + rows_of_groups by_pages groups.now kept.now) (2 ^ 64 - 1)) }
+    ensures own_rows { read.old.rows ≡ rows_in read.old.chunks.items → OnOk result (read.new.rows ≡ rows_in read.new.chunks.items) }
     ensures ticks { steps.old ≤ steps.new }
     ensures pages { OnOk result (read.new.pages ≡ min (read.old.pages + (steps.new - steps.old)) (2 ^ 64 - 1)) }
+    ensures lent { OnOk result (RisesBy (S.told source.old) steps.old steps.new (λ bytes. lent_of_groups by_pages fields.now bytes groups.now kept.now)) }
+    ensures taken { OnOk result (RisesBy (S.told source.old) (S.taken source.old) (S.taken source.new) (λ bytes. taken_of_groups by_pages fields.now bytes groups.now kept.now)) }
 {
     let _rows = read.rows;
     for i in 0..groups.len() {
@@ -84,8 +89,11 @@ fn read_if_kept<S: Source, L: Ledger>(
     ensures fails { IfErr result (FailsBy (S.told source.old) (S.faults source.old) (S.faults source.new) (λ bytes. causes_if_read by_pages fields.now bytes (group.now, kept.now))) }
     ensures chunks { OnOk result (IfSome (S.told source.old) (λ bytes. shown read.new.chunks.items ≡ shown read.old.chunks.items ++ chunks_if_read by_pages fields.now bytes (group.now, kept.now))) }
     ensures rows { OnOk result (read.new.rows ≡ min (read.old.rows + rows_if_read by_pages (group.now, kept.now)) (2 ^ 64 - 1)) }
+    ensures own_rows { read.old.rows ≡ rows_in read.old.chunks.items → OnOk result (read.new.rows ≡ rows_in read.new.chunks.items) }
     ensures ticks { steps.old ≤ steps.new }
     ensures pages { OnOk result (read.new.pages ≡ min (read.old.pages + (steps.new - steps.old)) (2 ^ 64 - 1)) }
+    ensures lent { OnOk result (RisesBy (S.told source.old) steps.old steps.new (λ bytes. lent_if_read by_pages fields.now bytes (group.now, kept.now))) }
+    ensures taken { OnOk result (RisesBy (S.told source.old) (S.taken source.old) (S.taken source.new) (λ bytes. taken_if_read by_pages fields.now bytes (group.now, kept.now))) }
 {
     if has_kept_rows(kept) {
         return read_group(alloc, source, group, kept, by_pages, fields, read, steps);
@@ -120,8 +128,11 @@ fn read_group<S: Source, L: Ledger>(
     ensures fails { IfErr result (FailsBy (S.told source.old) (S.faults source.old) (S.faults source.new) (λ bytes. causes_of_group by_pages fields.now bytes (group.now, rows_read by_pages group.now kept.now.intervals))) }
     ensures chunk { OnOk result (IfSome (S.told source.old) (λ bytes. shown read.new.chunks.items ≡ shown read.old.chunks.items ++ given_chunk by_pages fields.now bytes group.now (rows_read by_pages group.now kept.now.intervals) ∷ [])) }
     ensures rows { OnOk result (read.new.rows ≡ min (read.old.rows + length (rows_read by_pages group.now kept.now.intervals)) (2 ^ 64 - 1)) }
+    ensures own_rows { read.old.rows ≡ rows_in read.old.chunks.items → OnOk result (read.new.rows ≡ rows_in read.new.chunks.items) }
     ensures ticks { steps.old ≤ steps.new }
     ensures pages { OnOk result (read.new.pages ≡ min (read.old.pages + (steps.new - steps.old)) (2 ^ 64 - 1)) }
+    ensures lent { OnOk result (RisesBy (S.told source.old) steps.old steps.new (λ bytes. lent_of_group by_pages fields.now bytes (group.now, rows_read by_pages group.now kept.now.intervals))) }
+    ensures taken { OnOk result (RisesBy (S.told source.old) (S.taken source.old) (S.taken source.new) (λ bytes. columns_taken by_pages fields.now bytes (group.now, rows_read by_pages group.now kept.now.intervals))) }
 {
     let (arrays, pages) = read_arrays(alloc, source, group, kept, by_pages, fields, steps)?;
     add_chunk(read, arrays, pages)
@@ -149,6 +160,8 @@ fn read_arrays<S: Source, L: Ledger>(
     ensures columns { IfOk result (λ found. IfSome (S.told source.old) (λ bytes. map (given_column by_pages bytes group.now (rows_read by_pages group.now kept.now.intervals)) fields.now ≡ map (λ array. Some (column_of array)) found.0.items)) }
     ensures ticks { steps.old ≤ steps.new }
     ensures pages { IfOk result (λ found. found.1 ≡ min (steps.new - steps.old) (2 ^ 64 - 1)) }
+    ensures lent { OnOk result (RisesBy (S.told source.old) steps.old steps.new (λ bytes. lent_of_group by_pages fields.now bytes (group.now, rows_read by_pages group.now kept.now.intervals))) }
+    ensures taken { OnOk result (RisesBy (S.told source.old) (S.taken source.old) (S.taken source.new) (λ bytes. columns_taken by_pages fields.now bytes (group.now, rows_read by_pages group.now kept.now.intervals))) }
 {
     let mut arrays = Vec::new(alloc);
     let mut pages: usize = 0;
@@ -181,6 +194,8 @@ fn read_array<S: Source, L: Ledger>(
     ensures column { IfOk result (λ found. IfSome (S.told source.old) (λ bytes. given_column by_pages bytes group.now (rows_read by_pages group.now kept.now.intervals) field.now ≡ Some (column_of found.0))) }
     ensures ticks { steps.old ≤ steps.new }
     ensures pages { IfOk result (λ found. found.1 ≡ min (steps.new - steps.old) (2 ^ 64 - 1)) }
+    ensures lent { OnOk result (RisesBy (S.told source.old) steps.old steps.new (λ bytes. lent_of_column by_pages bytes group.now (rows_read by_pages group.now kept.now.intervals) field.now)) }
+    ensures taken { OnOk result (RisesBy (S.told source.old) (S.taken source.old) (S.taken source.new) (λ bytes. column_taken by_pages bytes group.now (rows_read by_pages group.now kept.now.intervals) field.now)) }
 {
     let (numbers, pages) = read_column(alloc, source, group, kept, by_pages, field, steps)?;
     let array = array_of(field.data_type.try_clone(alloc)?, numbers)?;
@@ -217,6 +232,8 @@ fn read_column<S: Source, L: Ledger>(
     ensures numbers { IfOk result (λ found. IfSome (S.told source.old) (λ bytes. map (given_cell by_pages bytes group.now field.now) (rows_read by_pages group.now kept.now.intervals) ≡ map (λ n. Some (Int n)) found.0.items)) }
     ensures ticks { steps.old ≤ steps.new }
     ensures pages { IfOk result (λ found. found.1 ≡ min (steps.new - steps.old) (2 ^ 64 - 1)) }
+    ensures lent { OnOk result (RisesBy (S.told source.old) steps.old steps.new (λ bytes. lent_of_column by_pages bytes group.now (rows_read by_pages group.now kept.now.intervals) field.now)) }
+    ensures taken { OnOk result (RisesBy (S.told source.old) (S.taken source.old) (S.taken source.new) (λ bytes. column_taken by_pages bytes group.now (rows_read by_pages group.now kept.now.intervals) field.now)) }
 {
     let Some(column) = column_named(group, &field.name) else {
         return Err(Error::ExternalFormat(Part::Group));
@@ -251,6 +268,8 @@ fn read_whole<S: Source, L: Ledger>(
     ensures numbers { IfOk result (λ found. IfSome (S.told source.old) (λ bytes. map (walked_item bytes group.now column.now) (every_row group.now) ≡ map (λ n. Some (Int n)) found.0.items)) }
     ensures ticks { steps.old ≤ steps.new }
     ensures pages { IfOk result (λ found. found.1 ≡ min (steps.new - steps.old) (2 ^ 64 - 1)) }
+    ensures lent { OnOk result (RisesBy (S.told source.old) steps.old steps.new (λ bytes. lent_of_chunk false bytes group.now (every_row group.now) column.now)) }
+    ensures taken { OnOk result (S.taken source.new ≤ S.taken source.old + (chunk_range column.now).length) }
 {
     let bytes = read_chunk(alloc, source, group, column)?;
     let mut reader = PageReader::new(alloc, bytes, column)?;
@@ -264,6 +283,7 @@ fn add_chunk(read: &mut RowsRead, arrays: Vec<Array>, pages: usize) -> Result<()
     requires { AreEqualLengths arrays.items }
     ensures chunks { OnOk result (read.new.chunks.items ≡ read.old.chunks.items ++ arrays.items ∷ []) }
     ensures rows { OnOk result (read.new.rows ≡ min (read.old.rows + chunk_rows arrays.items) (2 ^ 64 - 1)) }
+    ensures own_rows { read.old.rows ≡ rows_in read.old.chunks.items → OnOk result (read.new.rows ≡ rows_in read.new.chunks.items) }
     ensures pages { OnOk result (read.new.pages ≡ min (read.old.pages + pages) (2 ^ 64 - 1)) }
     ensures memory { IfErr result IsWantOfMemory }
 {

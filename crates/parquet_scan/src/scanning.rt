@@ -1,15 +1,16 @@
 //! Scans.
-ghost use Rattle.std.specs.Prelude.{◌≡◌, ◌+◌, ◌-◌, ◌^◌, ◌≤◌, [], Some, min, map, length, Contains, IfOk, IfErr, IfSome, IsTrue, IsFalse, OnOk, true};
+ghost use Rattle.std.specs.Prelude.{◌≡◌, ◌+◌, ◌-◌, ◌^◌, ◌≤◌, [], Some, min, map, length, Contains, IfOk, IfErr, IfSome, IsTrue, IsFalse, OnOk, All, true};
 ghost use Rattle.std.specs.List.{list_all};
 ghost use Rattle.columns_core.specs.Causes.{ComesOf, cause_of, is_invalid_argument};
 ghost use Rattle.parquet_base.specs.Failures.{MayFail};
 ghost use Rattle.parquet_meta.specs.File.{footer};
 ghost use Rattle.parquet_scan.specs.Causes.{causes, metadata_causes, IsValid};
 ghost use Rattle.parquet_scan.specs.Cells.{columns_of, given_chunks};
-ghost use Rattle.parquet_scan.specs.Counting.{are_built, are_pruned as are_pruned_by, chunks_of_groups, kept_of_groups, rows_of_groups, scan_causes, shown};
+ghost use Rattle.parquet_scan.specs.Costs.{most_bytes, most_pages};
+ghost use Rattle.parquet_scan.specs.Counting.{are_built, are_pruned as are_pruned_by, chunks_of_groups, kept_of_groups, lent_of_groups, rows_of_groups, scan_causes, scan_taken, shown};
 ghost use Rattle.parquet_scan.specs.Request.{is_legal as is_legal_by, is_legal_bound_of};
 ghost use Rattle.parquet_scan.specs.Rows.{given_count, group_counts};
-ghost use Rattle.parquet_scan.specs.Scan.{request_of, FailsBy, OnFile, kept_of, kept_groups as kept_by};
+ghost use Rattle.parquet_scan.specs.Scan.{request_of, rows_in, FailsBy, IsApart, IsSound, OnFile, RisesBy, kept_of, kept_groups as kept_by};
 
 use crate::Bound;
 use crate::built::check_built;
@@ -68,10 +69,17 @@ pub fn scan_where<S: Source, L: Ledger>(
         given_chunks (request_of schema.now bounds.now chunk_size limit) file ≡ Some (map columns_of scan.chunks))) }
     ensures rows { IfOk result (λ scan. OnFile (S.told source.old) (λ file.
         scan.rows ≡ given_count (request_of schema.now bounds.now chunk_size limit) file)) }
+    // Where statistics are true, no row that meets all bounds lies outside these runs.
+    ensures sound { IfOk result (λ scan. OnFile (S.told source.old) (λ file. IsSound (request_of schema.now bounds.now chunk_size limit) file (map kept_of scan.kept))) }
+    // So it is with a source that does not tell its bytes.
+    ensures apart { IfOk result (λ scan. All IsApart scan.kept) }
+    ensures own_rows { IfOk result (λ scan. scan.rows ≡ rows_in scan.chunks) }
 
     // What it costs.
     ensures ticks { steps.old ≤ steps.new }
     ensures pages { IfOk result (λ scan. scan.pages ≡ min (steps.new - steps.old) (2 ^ 64 - 1)) }
+    ensures most_pages { IfOk result (λ _. OnFile (S.told source.old) (λ file. steps.new ≤ steps.old + most_pages (request_of schema.now bounds.now chunk_size limit) file)) }
+    ensures taken { IfOk result (λ _. OnFile (S.told source.old) (λ file. S.taken source.new ≤ S.taken source.old + most_bytes (request_of schema.now bounds.now chunk_size limit) file)) }
 
     // An error comes only where its cause is among those of the file. Want of memory may come at any time.
     ensures argument { IfErr result (λ e. IsTrue (is_invalid_argument e) → IfSome (S.told source.old) (λ bytes.
@@ -144,8 +152,12 @@ fn scan_groups<S: Source, L: Ledger>(
     ensures kept { IfOk result (λ scan. IfSome (S.told source.old) (λ bytes. scan.kept ≡ kept_of_groups (are_pruned_by bounds.now fields.now groups.now counts.now) bounds.now bytes groups.now counts.now)) }
     ensures chunks { IfOk result (λ scan. IfSome (S.told source.old) (λ bytes. shown scan.chunks ≡ chunks_of_groups (are_pruned_by bounds.now fields.now groups.now counts.now) fields.now bytes groups.now (kept_of_groups (are_pruned_by bounds.now fields.now groups.now counts.now) bounds.now bytes groups.now counts.now))) }
     ensures rows { IfOk result (λ scan. IfSome (S.told source.old) (λ bytes. scan.rows ≡ min (rows_of_groups (are_pruned_by bounds.now fields.now groups.now counts.now) groups.now (kept_of_groups (are_pruned_by bounds.now fields.now groups.now counts.now) bounds.now bytes groups.now counts.now)) (2 ^ 64 - 1))) }
+    ensures apart { IfOk result (λ scan. All IsApart scan.kept) }
+    ensures own_rows { IfOk result (λ scan. scan.rows ≡ rows_in scan.chunks) }
     ensures ticks { steps.old ≤ steps.new }
     ensures pages { IfOk result (λ scan. scan.pages ≡ min (steps.new - steps.old) (2 ^ 64 - 1)) }
+    ensures lent { OnOk result (RisesBy (S.told source.old) steps.old steps.new (λ bytes. lent_of_groups (are_pruned_by bounds.now fields.now groups.now counts.now) fields.now bytes groups.now (kept_of_groups (are_pruned_by bounds.now fields.now groups.now counts.now) bounds.now bytes groups.now counts.now))) }
+    ensures taken { OnOk result (RisesBy (S.told source.old) (S.taken source.old) (S.taken source.new) (λ bytes. scan_taken (are_pruned_by bounds.now fields.now groups.now counts.now) fields.now bounds.now bytes groups.now counts.now)) }
 {
     let by_pages = are_pruned(groups, counts, fields, bounds);
     let kept = kept_groups(alloc, source, groups, counts, by_pages, fields, bounds)?;

@@ -1,4 +1,4 @@
-use Rattle.std.proofs.Common.{◌≡◌, ℕ, suc, ◌-◌, ◌*◌, ◌/◌, ◌++◌, ◌∙◌, [], length, ap, sym, arith, true, is_ok}
+use Rattle.std.proofs.Common.{◌≡◌, suc, ◌-◌, ◌/◌, ◌++◌, ◌∙◌, length, ap, sym, arith, true, is_ok}
 use Rattle.std.specs.Prelude.{is_some, option_map}
 use Rattle.std.proofs.lemmas.List.{append-nil}
 use Rattle.parquet_encoding.specs.Plain.{plain_fixed}

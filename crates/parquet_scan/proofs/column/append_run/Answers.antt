@@ -1,4 +1,4 @@
-use Rattle.std.proofs.Common.{◌≡◌, ◌+◌, ◌*◌, ◌/◌, ◌++◌, ◌∙◌, length, ap, arith}
+use Rattle.std.proofs.Common.{◌/◌, ◌++◌, ◌∙◌, length, ap, arith}
 use Rattle.parquet_scan.proofs.PageLemmas.{on_ok}
 use Rattle.parquet_scan.proofs.PickedLemmas.{numbers_of_run}
 use Rattle.parquet_scan.proofs.column.append_run.Goals as goal

@@ -1,4 +1,4 @@
-use Rattle.std.proofs.Common.{◌≡◌, ◌≤◌, ◌+◌, ◌*◌, ◌/◌, ◌++◌, ◌∙◌, length, map, take, ap, sym, arith, append_assoc}
+use Rattle.std.proofs.Common.{◌/◌, ◌++◌, ◌∙◌, length, map, take, ap, sym, append_assoc}
 use Rattle.std.specs.Prelude.{slice_range, get_or}
 use Rattle.std.specs.Simd.{first_chunks}
 use Rattle.parquet_base.specs.Intervals.{end, interval}

@@ -1,5 +1,3 @@
-use Rattle.parquet_scan.proofs.OpenedLemmas.{told_causes}
-use Rattle.parquet_scan.proofs.PickedLemmas.{page_count}
 use Rattle.std.proofs.Common.{subst}
 use Rattle.std.proofs.lemmas.Result.{err_from_is_err_and}
 use Rattle.parquet_scan.proofs.CauseLemmas.{TellsOf, tells_of_lent}

@@ -16,6 +16,7 @@ invariant-loop-page g l =
       numbers : l.numbers.items ++ all_numbers (to_come l.pages) ≡ l.fn.numbers.items ++ all_numbers (to_come l.fn.pages);
       rows : length l.numbers.items + sum_by content_rows (to_come l.pages) ≡ length l.fn.numbers.items + sum_by content_rows (to_come l.fn.pages);
       later : l.fn.steps ≤ l.steps;
+      lent : l.steps + length (to_come l.pages) ≡ l.fn.steps + length (to_come l.fn.pages);
       count : l.count ≡ min (l.steps - l.fn.steps) (2 ^ 64 - 1);
     }
 

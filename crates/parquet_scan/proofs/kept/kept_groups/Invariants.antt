@@ -1,6 +1,7 @@
-use Rattle.std.proofs.Common.{◌≡◌, ◌≤◌, ◌++◌, drop, length, true}
+use Rattle.std.proofs.Common.{◌≡◌, ◌≤◌, ◌+◌, ◌++◌, All, drop, length, true}
 use Rattle.std.specs.Prelude.{IfSome}
-use Rattle.parquet_scan.specs.Counting.{are_shaped, index_causes_of_groups, kept_of_groups}
+use Rattle.parquet_scan.specs.Counting.{are_shaped, index_causes_of_groups, indexes_taken_of_groups, kept_of_groups}
+use Rattle.parquet_scan.specs.Scan.{IsApart}
 use Rattle.parquet_scan.proofs.kept.kept_groups.Given as goal
 
 -- the groups so far stand in front of those that are left, and none of them has a cause
@@ -15,6 +16,8 @@ invariant-loop-i g l =
           index_causes_of_groups l.by_pages l.fields l.bounds bytes l.groups l.counts ≡ index_causes_of_groups l.by_pages l.fields l.bounds bytes (drop l.i l.groups) (drop l.i l.counts));
       kept : IfSome (source.told l.fn.source) (λ bytes.
           kept_of_groups l.by_pages l.bounds bytes l.groups l.counts ≡ l.kept.items ++ kept_of_groups l.by_pages l.bounds bytes (drop l.i l.groups) (drop l.i l.counts));
+      taken : source.taken l.source + indexes_taken_of_groups l.by_pages l.fields l.bounds (drop l.i l.groups) (drop l.i l.counts) ≤ source.taken l.fn.source + indexes_taken_of_groups l.by_pages l.fields l.bounds l.groups l.counts;
       count : length l.kept.items ≡ l.i;
+      apart : All IsApart l.kept.items;
       shaped : are_shaped l.groups l.kept.items ≡ true;
     }

@@ -1,6 +1,7 @@
-use Rattle.std.proofs.Common.{◌≡◌, ◌∙◌, ap, sym, true, false, List, ℕ, Bool, []}
+use Rattle.std.proofs.Common.{◌≡◌, ◌∙◌, ap, subst, sym, true, false, List, ℕ, Bool, []}
 use Rattle.std.specs.Prelude.{Option, ◌&&◌, IfSome, Some, None}
-use Rattle.parquet_base.specs.Intervals.{is_well_shaped, maximal_runs}
+use Rattle.parquet_base.specs.Intervals.{AreApart, is_well_shaped, maximal_runs}
+use Rattle.parquet_base.proofs.SegmentLemmas.{runs_apart}
 use Rattle.parquet_base.specs.declared.interval.Interval.{Interval}
 use Rattle.parquet_meta.specs.declared.metadata.RowGroupMetaData.{RowGroupMetaData}
 use Rattle.parquet_scan.specs.declared.bound.Bound.{Bound}
@@ -30,3 +31,6 @@ returns-clause-kept g c =
 
 pub returns-clause-shaped : goal.returns-clause-shaped
 returns-clause-shaped g c = ap (λ runs. is_well_shaped runs c.args.group.now.num_rows) c.in_ok-runs_of_all.ensures ∙ runs_shaped (λ row. true) c.args.group.now.num_rows
+
+pub returns-clause-apart : goal.returns-clause-apart
+returns-clause-apart g c = subst (λ runs. AreApart 0 runs c.args.group.now.num_rows) (sym c.in_ok-runs_of_all.ensures) (runs_apart (λ row. true) c.args.group.now.num_rows)

@@ -1,24 +1,24 @@
-use Rattle.std.proofs.Common.{◌≡◌, ◌∙◌, ◌<◌, ◌≤◌, Bool, List, ◌∷◌, ℕ, ℤ, suc, not, Some, true, false, [], length, map, ap, sym, subst, arith, refl, Vec, Global}
-use Rattle.std.specs.Prelude.{◌==◌, vec_len, Option, IfSome, filter, flat_map, OnOk}
+use Rattle.std.proofs.Common.{◌≡◌, ◌∙◌, ◌+◌, ◌-◌, ◌<◌, ◌≤◌, Bool, List, ◌∷◌, ℕ, suc, not, Some, true, false, [], length, map, ap, sym, subst, arith, refl, Vec, Global}
+use Rattle.std.specs.Prelude.{◌==◌, vec_len, Option, IfSome, filter, flat_map, sum_by, if◌then◌else◌}
 use Rattle.std.proofs.lemmas.Bool.{eq-eqb, eqb-true, true≢false}
 use Rattle.std.proofs.lemmas.List.{length-map}
 use Rattle.std.proofs.lemmas.Result.{err_from_is_err_and}
 use Rattle.columns_core.specs.Causes.{Cause}
-use Rattle.columns_core.specs.declared.cell.Cell.{Int}
 use Rattle.parquet_base.specs.Intervals.{is_well_shaped, rows_of}
 use Rattle.columns_core.specs.Refusals.{Refuses}
-use Rattle.parquet_page.specs.Lent.{is_wanted, located_parts}
+use Rattle.parquet_meta.specs.Indexes.{offset_index_length}
+use Rattle.parquet_page.specs.Lent.{first_start, is_wanted, located_parts}
 use Rattle.parquet_page.specs.Locations.{selected_pages}
 use Rattle.parquet_page.specs.declared.page.FilteredPage.{FilteredPage}
 use Rattle.parquet_scan.specs.Causes.{causes_of_chunk, opened_causes}
-use Rattle.parquet_scan.specs.Cells.{located_item}
 use Rattle.parquet_scan.specs.Column.{chunk_read_causes}
 use Rattle.parquet_scan.specs.Located.{entry_causes, entry_part, part_in, place_before}
 use Rattle.parquet_scan.specs.Pages.{locations, locations_causes}
 use Rattle.parquet_scan.specs.Scan.{FailsBy}
+use Rattle.parquet_scan.proofs.CostLemmas.{lent_located, taken_located}
 use Rattle.parquet_scan.proofs.LocationLemmas.{selection_fails}
 use Rattle.parquet_scan.proofs.OpenedLemmas.{IsSelected, before_causes, before_in, bodies_in, decode_none, decode_within, entries_shaped, locations_in, opened_by, read_in, selected_total, told_causes, told_located, told_parts, within_opened}
-use Rattle.parquet_scan.proofs.PageLemmas.{both_ok, if_err, if_ok, on_ok}
+use Rattle.parquet_scan.proofs.PageLemmas.{both_ok, if_err, if_ok, ok_always, on_ok}
 use Rattle.parquet_scan.proofs.ScanLemmas.{fails_by_memory, fails_more, fails_within}
 use Rattle.parquet_scan.proofs.located.read_located.Goals as goal
 
@@ -249,3 +249,38 @@ returns-clause-numbers g c =
     both_ok c.decode_located.result
     (λ none found are. told_located told group intervals list entries selected column chunk before (map items bodies) found.0.items c.requires.shaped c.in_ok-chunk.ensures.place at parts none are)
     c.decode_located.ensures.ok c.decode_located.ensures.numbers
+
+pub returns-clause-lent : goal.returns-clause-lent
+returns-clause-lent g c =
+    let told = g.S.Source.told c.args.source.now in
+    let group = c.args.group.now in
+    let column = c.args.column.now in
+    let intervals = c.args.intervals.now in
+    let at = subst (λ (told : Option (List ℕ)). IfSome told (λ bytes. locations bytes column ≡ c.in_ok-locations.locations.items)) c.in_ok-chunk.ensures.same c.in_ok-locations.ensures.locations in
+    let list = c.in_ok-locations.locations.items in
+    let entries = c.in_ok-pages.pages.items in
+    let selected : IsSelected group intervals list entries = record { shape = c.in_ok-locations.ensures.shaped; are = ap (λ found. selected_pages intervals found group.num_rows) (sym c.deref.ensures.value) ∙ c.in_ok-pages.ensures.pages } in
+    on_ok c.decode_located.result (λ most. lent_located group column intervals list entries selected told c.args.steps.now c.decode_located.new.steps at most) c.decode_located.ensures.lent
+
+pub returns-clause-taken : goal.returns-clause-taken
+returns-clause-taken g c =
+    let told = g.S.Source.told c.args.source.now in
+    let group = c.args.group.now in
+    let column = c.args.column.now in
+    let intervals = c.args.intervals.now in
+    let chunk = c.in_ok-chunk.chunk in
+    let at = subst (λ (told : Option (List ℕ)). IfSome told (λ bytes. locations bytes column ≡ c.in_ok-locations.locations.items)) c.in_ok-chunk.ensures.same c.in_ok-locations.ensures.locations in
+    let list = c.in_ok-locations.locations.items in
+    let entries = c.in_ok-pages.pages.items in
+    let selected : IsSelected group intervals list entries = record { shape = c.in_ok-locations.ensures.shaped; are = ap (λ found. selected_pages intervals found group.num_rows) (sym c.deref.ensures.value) ∙ c.in_ok-pages.ensures.pages } in
+    let count = c.in_ok-bodies.ensures.length ∙ ap (λ pages. length (filter is_wanted pages)) c.deref-2.ensures.value in
+    let wanted = not c.is_empty.result in
+    let long : vec_len c.in_ok-bodies.bodies ≡ length c.in_ok-bodies.bodies.items = omega arith in
+    let wanted_is : not c.is_empty.result ≡ not (length c.in_ok-bodies.bodies.items == 0) = ap not (c.is_empty.ensures ∙ ap (λ n. n == 0) long) in
+    let now = g.S.Source.taken c.read_before.new.source in
+    let index = offset_index_length column in
+    let bodies = subst (λ pages. g.S.Source.taken c.read_bodies.new.source ≤ g.S.Source.taken c.read_locations.new.source + sum_by (λ (page : FilteredPage). page.length) (filter is_wanted pages)) c.deref-2.ensures.value c.in_ok-bodies.ensures.taken in
+    let before = subst (λ pages. now ≤ g.S.Source.taken c.read_bodies.new.source + (if wanted then first_start pages - chunk.offset else 0)) c.deref-3.ensures.value c.in_ok-before.ensures.taken in
+    ok_always c.decode_located.result
+    (taken_located group column intervals list entries selected told chunk wanted index (g.S.Source.taken c.args.source.now) now c.in_ok-chunk.ensures.place at (wanted_some wanted c.in_ok-bodies.bodies.items entries wanted_is count)
+    (omega (arith, c.in_ok-chunk.ensures.taken, c.in_ok-locations.ensures.taken, bodies, before)))

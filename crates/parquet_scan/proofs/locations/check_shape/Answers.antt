@@ -1,4 +1,4 @@
-use Rattle.std.proofs.Common.{◌≡◌, ◌∙◌, sym, ap, inr, subst}
+use Rattle.std.proofs.Common.{◌∙◌, ap, inr}
 use Rattle.std.specs.Prelude.{◌&&◌, Some, is_some}
 use Rattle.std.specs.List.{list_all}
 use Rattle.parquet_page.specs.Locations.{begin_with_row_0, part_of}

@@ -1,5 +1,5 @@
-use Rattle.std.proofs.Common.{◌≡◌, ◌∙◌, List, ℕ, Some, [], ◌∷◌, ◌++◌, length, map, sym, subst, arith, Vec, Global}
-use Rattle.std.specs.Prelude.{Option, IfSome, Err}
+use Rattle.std.proofs.Common.{◌≡◌, List, Some, [], ◌∷◌, map, sym, subst, arith, Vec, Global}
+use Rattle.std.specs.Prelude.{IfSome, Err}
 use Rattle.std.proofs.lemmas.Result.{err_from_is_err_and}
 use Rattle.columns_core.specs.Causes.{ExternalFormat, unless}
 use Rattle.columns_core.specs.declared.error.Part.TheVariants as part

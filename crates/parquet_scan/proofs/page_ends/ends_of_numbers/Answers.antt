@@ -1,4 +1,4 @@
-use Rattle.std.proofs.Common.{◌∙◌, sym, ap, refl, inr}
+use Rattle.std.proofs.Common.{sym, refl, inr}
 use Rattle.parquet_page.proofs.ListLemmas.{is_done, none_here, one_more}
 use Rattle.parquet_scan.specs.Pages.{ends_of_page}
 use Rattle.parquet_scan.proofs.IndexLemmas.{all_behind, all_next}

@@ -1,9 +1,10 @@
-use Rattle.std.proofs.Common.{◌≡◌, ◌∙◌, ◌++◌, ◌≤◌, [], true, List, ℕ, All, length, map, ap, sym, subst, arith, Vec, Global}
+use Rattle.std.proofs.Common.{◌≡◌, ◌∙◌, ◌++◌, [], List, ℕ, All, length, map, ap, sym, subst, arith, Vec, Global}
 use Rattle.std.specs.Prelude.{Option, IfSome, flat_map}
 use Rattle.std.specs.List.{list_all}
 use Rattle.std.proofs.lemmas.Result.{err_from_is_err_and}
 use Rattle.columns_core.specs.Causes.{Cause}
 use Rattle.parquet_base.specs.Intervals.{AreApart, covers, maximal_runs}
+use Rattle.parquet_base.proofs.SegmentLemmas.{runs_apart}
 use Rattle.parquet_base.specs.declared.interval.Interval.{Interval}
 use Rattle.parquet_meta.specs.declared.metadata.PageLocation.{PageLocation}
 use Rattle.parquet_page.specs.Locations.{has_shape}
@@ -80,3 +81,8 @@ returns-clause-kept g c =
 
 pub returns-clause-shaped : goal.returns-clause-shaped
 returns-clause-shaped g c = shaped_from c.in_ok-runs_of_all.field-0.items (λ row. list_all (λ list. covers list.items row) c.deref-2.result.now) c.args.group.now.num_rows c.in_ok-runs_of_all.ensures
+
+pub returns-clause-apart : goal.returns-clause-apart
+returns-clause-apart g c =
+    let rows = c.args.group.now.num_rows in
+    subst (λ runs. AreApart 0 runs rows) (sym c.in_ok-runs_of_all.ensures) (runs_apart (λ row. list_all (λ list. covers list.items row) c.deref-2.result.now) rows)

@@ -1,4 +1,4 @@
-use Rattle.std.proofs.Common.{◌≡◌, ◌∙◌, ◌++◌, ◌+◌, rules, true, [], ◌∷◌, All, List, ℕ, length, map, drop, ap, sym, subst, arith, refl, Vec, Global}
+use Rattle.std.proofs.Common.{◌≡◌, ◌∙◌, ◌++◌, ◌+◌, rules, [], ◌∷◌, All, List, ℕ, map, drop, ap, sym, subst, arith, Vec, Global}
 use Rattle.std.specs.Prelude.{Option, IfSome, flat_map}
 use Rattle.std.proofs.lemmas.List.{map-append}
 use Rattle.std.proofs.lemmas.List.Elements.{All-push}
@@ -7,8 +7,10 @@ use Rattle.parquet_base.specs.Intervals.{AreApart, maximal_runs}
 use Rattle.parquet_base.specs.declared.interval.Interval.{Interval}
 use Rattle.parquet_scan.specs.Causes.{index_causes_of_bound}
 use Rattle.parquet_meta.specs.declared.metadata.PageLocation.{PageLocation}
+use Rattle.parquet_scan.specs.Costs.{column_index_of}
 use Rattle.parquet_scan.specs.Request.{is_legal_bound_of}
 use Rattle.parquet_scan.specs.Rows.{bound_keeps, field_locations}
+use Rattle.parquet_scan.proofs.CostLemmas.{none_left, sum_left}
 use Rattle.parquet_scan.proofs.PruningLemmas.{all_at, locations_at}
 use Rattle.parquet_scan.specs.Scan.{FailsBy}
 use Rattle.parquet_scan.proofs.ScanLemmas.{fails_more, in_item, made_more, none_more}
@@ -47,6 +49,7 @@ loop-bound-preserved g c =
           ≡ lists ++ map (λ bound. maximal_runs (λ row. bound_keeps bytes group row bound) group.num_rows) (drop (i + 1) bounds)))
           (sym (ap (map items) c.in_ok-push.ensures.items ∙ map-append items c.loop-bound.lists.items (list ∷ [])))
           (made_more told (λ bytes bound. maximal_runs (λ row. bound_keeps bytes group row bound) group.num_rows) bounds i bound (map items c.loop-bound.lists.items) list.items c.loop-bound-test.true c.bound-item.is c.loop-bound.invariant.runs are);
+      taken = omega (arith, c.loop-bound.invariant.taken, c.in_ok-read_runs.ensures.taken, sum_left (column_index_of group) bounds i bound c.loop-bound-test.true c.bound-item.is);
       apart = subst (λ (lists : List (Vec Interval Global)). All (λ list. AreApart 0 list.items group.num_rows) lists) (sym c.in_ok-push.ensures.items)
           (All-push (λ list. AreApart 0 list.items group.num_rows) c.loop-bound.lists.items list c.loop-bound.invariant.apart c.in_ok-read_runs.ensures.apart);
     }
@@ -65,3 +68,6 @@ read_runs-requires-clause-told g c =
     subst (λ (told : Option (List ℕ)). IfSome told (λ bytes. field_locations bytes group bound.field ≡ c.deref.result.now)) (sym c.loop-bound.invariant.same)
     (subst (λ (list : List PageLocation). IfSome told (λ bytes. field_locations bytes group bound.field ≡ list)) (sym (c.deref.ensures.value ∙ ap items c.index-locations-place_of.is))
     (locations_at told group c.args.fields.now items c.args.locations.now bound c.place_of.result list c.requires.told c.place_of.ensures.within (omega (arith, c.place_of.ensures.within, c.requires.length)) c.place_of.ensures.named))
+
+pub returns-clause-taken : goal.returns-clause-taken
+returns-clause-taken g c = omega (arith, c.loop-bound.invariant.taken, none_left (column_index_of c.args.group.now) c.args.bounds.now c.loop-bound.bound-index (omega arith))

@@ -1,7 +1,6 @@
-use Rattle.std.proofs.Common.{◌≡◌, ◌∙◌, List, ℕ, length, ap, sym}
+use Rattle.std.proofs.Common.{◌∙◌, List, length, ap, sym}
 use Rattle.std.specs.Prelude.{option_copied}
 use Rattle.std.proofs.lemmas.Result.{err_from_is_err_and}
-use Rattle.columns_core.specs.Causes.{Cause}
 use Rattle.parquet_base.specs.Intervals.{maximal_runs}
 use Rattle.parquet_base.proofs.SegmentLemmas.{apart_from}
 use Rattle.parquet_scan.specs.declared.groups.KnownEnds.{KnownEnds}

@@ -1,4 +1,4 @@
-use Rattle.std.proofs.Common.{◌≡◌, ◌∙◌, [], List, length, map, ap, sym, subst, arith}
+use Rattle.std.proofs.Common.{◌∙◌, [], List, length, map, ap, sym, subst, arith}
 use Rattle.std.specs.Prelude.{unwrap_or, zip}
 use Rattle.std.proofs.lemmas.Result.{err_from_is_err_and}
 use Rattle.parquet_base.specs.Intervals.{AreAdjacent, is_kept_page, maximal_runs}

@@ -9,9 +9,11 @@ use Rattle.columns_core.specs.declared.array.Array.{Array}
 use Rattle.columns_core.specs.Array.{cells, column_of}
 use Rattle.parquet_scan.specs.Causes.{causes_of_column, causes_of_group}
 use Rattle.parquet_scan.specs.Cells.{given_column}
-use Rattle.parquet_scan.specs.Counting.{rows_read}
+use Rattle.parquet_scan.specs.Costs.{lent_of_column}
+use Rattle.parquet_scan.specs.Counting.{column_taken, rows_read}
 use Rattle.parquet_scan.specs.NotBuilt.{is_built_field}
-use Rattle.parquet_scan.specs.Scan.{FailsBy}
+use Rattle.parquet_scan.specs.Scan.{FailsBy, RisesBy}
+use Rattle.parquet_scan.proofs.CostLemmas.{rises_all, rises_more}
 use Rattle.parquet_scan.proofs.GivenLemmas.{column_more, equal_lengths, first_length}
 use Rattle.parquet_scan.proofs.ScanLemmas.{fails_more, in_item, none_more}
 use Rattle.parquet_scan.proofs.reading.read_arrays.Goals as goal
@@ -42,6 +44,8 @@ loop-field-preserved g c =
     let array = c.in_ok-array.array in
     let own = subst (λ (told : Option (List ℕ)). IfSome told (λ bytes. causes_of_column by_pages bytes group rows field ≡ [])) c.loop-field.invariant.same c.in_ok-array.ensures.ok in
     let column = subst (λ (told : Option (List ℕ)). IfSome told (λ bytes. given_column by_pages bytes group rows field ≡ Some (column_of array))) c.loop-field.invariant.same c.in_ok-array.ensures.column in
+    let lent = subst (λ (told : Option (List ℕ)). RisesBy told c.loop-field.steps c.read_array.new.steps (λ bytes. lent_of_column by_pages bytes group rows field)) c.loop-field.invariant.same c.in_ok-array.ensures.lent in
+    let taken = subst (λ (told : Option (List ℕ)). RisesBy told (g.S.Source.taken c.loop-field.source) (g.S.Source.taken c.read_array.new.source) (λ bytes. column_taken by_pages bytes group rows field)) c.loop-field.invariant.same c.in_ok-array.ensures.taken in
     record {
       same = search rules;
       same_source = search rules;
@@ -51,6 +55,8 @@ loop-field-preserved g c =
           map (given_column by_pages bytes group rows) fields ≡ map (λ array. Some (column_of array)) arrays ++ map (given_column by_pages bytes group rows) (drop (i + 1) fields)))
           (sym c.in_ok-push.ensures.items)
           (column_more told (λ bytes. given_column by_pages bytes group rows) fields i field c.loop-field.arrays.items array c.loop-field-test.true c.field-item.is c.loop-field.invariant.columns column);
+      lent = rises_more told (λ bytes. lent_of_column by_pages bytes group rows) fields i field c.args.steps.now c.loop-field.steps c.read_array.new.steps c.loop-field-test.true c.field-item.is c.loop-field.invariant.lent lent;
+      taken = rises_more told (λ bytes. column_taken by_pages bytes group rows) fields i field (g.S.Source.taken c.args.source.now) (g.S.Source.taken c.loop-field.source) (g.S.Source.taken c.read_array.new.source) c.loop-field-test.true c.field-item.is c.loop-field.invariant.taken taken;
       count = search rules;
       lengths = subst (λ (arrays : List Array). All (λ array. length (cells array) ≡ length rows) arrays) (sym c.in_ok-push.ensures.items)
           (All-push (λ array. length (cells array) ≡ length rows) c.loop-field.arrays.items array c.loop-field.invariant.lengths c.in_ok-array.ensures.length);
@@ -71,3 +77,17 @@ returns-clause-rows g c =
     let some : 0 < length fields = ltb-true 0 (length fields) (first_so (nat_lt 0 (length fields)) (list_all is_built_field fields) c.requires.built) in
     let rows = rows_read c.args.by_pages c.args.group.now c.args.kept.now.intervals in
     first_length c.loop-field.arrays.items (length rows) (omega (arith, some, c.loop-field.invariant.count, c.loop-field.auto.field-index-end, c.loop-field-test.false)) c.loop-field.invariant.lengths
+
+pub returns-clause-lent : goal.returns-clause-lent
+returns-clause-lent g c =
+    let by_pages = c.args.by_pages in
+    let group = c.args.group.now in
+    let rows = rows_read by_pages group c.args.kept.now.intervals in
+    rises_all (g.S.Source.told c.args.source.now) (λ bytes. lent_of_column by_pages bytes group rows) c.args.fields.now c.loop-field.field-index c.args.steps.now c.loop-field.steps (omega arith) c.loop-field.invariant.lent
+
+pub returns-clause-taken : goal.returns-clause-taken
+returns-clause-taken g c =
+    let by_pages = c.args.by_pages in
+    let group = c.args.group.now in
+    let rows = rows_read by_pages group c.args.kept.now.intervals in
+    rises_all (g.S.Source.told c.args.source.now) (λ bytes. column_taken by_pages bytes group rows) c.args.fields.now c.loop-field.field-index (g.S.Source.taken c.args.source.now) (g.S.Source.taken c.loop-field.source) (omega arith) c.loop-field.invariant.taken

@@ -1,9 +1,10 @@
-use Rattle.std.proofs.Common.{◌≡◌, ◌≤◌, ◌-◌, ◌^◌, ◌++◌, Some, drop, length, map, All}
+use Rattle.std.proofs.Common.{◌≡◌, ◌≤◌, ◌+◌, ◌-◌, ◌^◌, ◌++◌, Some, drop, length, map, All}
 use Rattle.std.specs.Prelude.{IfSome, min}
 use Rattle.columns_core.specs.Array.{cells, column_of}
 use Rattle.parquet_scan.specs.Cells.{given_column}
 use Rattle.parquet_scan.specs.Causes.{causes_of_group}
-use Rattle.parquet_scan.specs.Counting.{rows_read}
+use Rattle.parquet_scan.specs.Costs.{lent_of_group}
+use Rattle.parquet_scan.specs.Counting.{columns_taken, rows_read}
 use Rattle.parquet_scan.proofs.reading.read_arrays.Given as goal
 
 -- what is wrong with all columns, and what they have, is what is so of those that are left
@@ -18,6 +19,9 @@ invariant-loop-field g l =
       none : IfSome (source.told l.fn.source) (λ bytes. causes_of_group l.by_pages l.fields bytes (l.group, rows) ≡ causes_of_group l.by_pages (drop l.field-index l.fields) bytes (l.group, rows));
       columns : IfSome (source.told l.fn.source) (λ bytes.
           map (given_column l.by_pages bytes l.group rows) l.fields ≡ map (λ array. Some (column_of array)) l.arrays.items ++ map (given_column l.by_pages bytes l.group rows) (drop l.field-index l.fields));
+      lent : IfSome (source.told l.fn.source) (λ bytes. l.steps + lent_of_group l.by_pages (drop l.field-index l.fields) bytes (l.group, rows) ≤ l.fn.steps + lent_of_group l.by_pages l.fields bytes (l.group, rows));
+      taken : IfSome (source.told l.fn.source) (λ bytes.
+          source.taken l.source + columns_taken l.by_pages (drop l.field-index l.fields) bytes (l.group, rows) ≤ source.taken l.fn.source + columns_taken l.by_pages l.fields bytes (l.group, rows));
       count : length l.arrays.items ≡ l.field-index;
       lengths : All (λ array. length (cells array) ≡ length rows) l.arrays.items;
       ticks : l.fn.steps ≤ l.steps;

@@ -3,8 +3,9 @@ use Rattle.parquet_meta.specs.declared.metadata.RowGroupMetaData.{RowGroupMetaDa
 use Rattle.std.proofs.lemmas.List.{drop_all}
 use Rattle.std.proofs.lemmas.Result.{err_from_is_err_and}
 use Rattle.parquet_scan.specs.declared.scanning.GroupKept.{GroupKept}
-use Rattle.parquet_scan.specs.Counting.{causes_if_read, causes_of_groups, is_shaped, rows_of_groups}
+use Rattle.parquet_scan.specs.Counting.{causes_if_read, causes_of_groups, is_shaped, lent_if_read, rows_of_groups, taken_if_read}
 use Rattle.parquet_scan.specs.Scan.{FailsBy}
+use Rattle.parquet_scan.proofs.CostLemmas.{rises_pairs}
 use Rattle.parquet_scan.proofs.PairLemmas.{pair_passes}
 use Rattle.parquet_scan.proofs.ScanLemmas.{fails_more, in_pair}
 use Rattle.parquet_scan.proofs.reading.read_groups.Goals as goal
@@ -32,3 +33,11 @@ none_left by_pages groups kept i h = ap (λ left. rows_of_groups by_pages left (
 
 pub returns-clause-rows : goal.returns-clause-rows
 returns-clause-rows g c = omega (arith, c.loop-i.invariant.rows, c.loop-i.invariant.fits, none_left c.args.by_pages c.args.groups.now c.args.kept.now c.loop-i.i (omega arith))
+
+pub returns-clause-lent : goal.returns-clause-lent
+returns-clause-lent g c =
+    rises_pairs (g.S.Source.told c.args.source.now) (lent_if_read c.args.by_pages c.args.fields.now) c.args.groups.now c.args.kept.now c.loop-i.i c.args.steps.now c.loop-i.steps (omega arith) c.loop-i.invariant.lent
+
+pub returns-clause-taken : goal.returns-clause-taken
+returns-clause-taken g c =
+    rises_pairs (g.S.Source.told c.args.source.now) (taken_if_read c.args.by_pages c.args.fields.now) c.args.groups.now c.args.kept.now c.loop-i.i (g.S.Source.taken c.args.source.now) (g.S.Source.taken c.loop-i.source) (omega arith) c.loop-i.invariant.taken

@@ -1,6 +1,7 @@
 use Rattle.std.proofs.Common.{◌≡◌, ◌≤◌, ◌<◌, ◌-◌, ◌+◌, ◌^◌, ◌++◌, drop}
 use Rattle.std.specs.Prelude.{IfSome, min}
-use Rattle.parquet_scan.specs.Counting.{causes_of_groups, chunks_of_groups, rows_of_groups, shown}
+use Rattle.parquet_scan.specs.Counting.{causes_of_groups, chunks_of_groups, lent_of_groups, rows_of_groups, shown, taken_of_groups}
+use Rattle.parquet_scan.specs.Scan.{rows_in}
 use Rattle.parquet_scan.proofs.reading.read_groups.Given as goal
 
 -- what is wrong with all groups is what is wrong with those that are left
@@ -15,7 +16,12 @@ invariant-loop-i g l =
           causes_of_groups l.by_pages l.fields bytes l.groups l.kept ≡ causes_of_groups l.by_pages l.fields bytes (drop l.i l.groups) (drop l.i l.kept));
       chunks : IfSome (source.told l.fn.source) (λ bytes.
           shown l.fn.read.chunks.items ++ chunks_of_groups l.by_pages l.fields bytes l.groups l.kept ≡ shown l.read.chunks.items ++ chunks_of_groups l.by_pages l.fields bytes (drop l.i l.groups) (drop l.i l.kept));
+      lent : IfSome (source.told l.fn.source) (λ bytes.
+          l.steps + lent_of_groups l.by_pages l.fields bytes (drop l.i l.groups) (drop l.i l.kept) ≤ l.fn.steps + lent_of_groups l.by_pages l.fields bytes l.groups l.kept);
+      taken : IfSome (source.told l.fn.source) (λ bytes.
+          source.taken l.source + taken_of_groups l.by_pages l.fields bytes (drop l.i l.groups) (drop l.i l.kept) ≤ source.taken l.fn.source + taken_of_groups l.by_pages l.fields bytes l.groups l.kept);
       rows : min (l.fn.read.rows + rows_of_groups l.by_pages l.groups l.kept) (2 ^ 64 - 1) ≡ min (l.read.rows + rows_of_groups l.by_pages (drop l.i l.groups) (drop l.i l.kept)) (2 ^ 64 - 1);
+      own_rows : l.fn.read.rows ≡ rows_in l.fn.read.chunks.items → l.read.rows ≡ rows_in l.read.chunks.items;
       fits : l.read.rows < 2 ^ 64;
       ticks : l.fn.steps ≤ l.steps;
       pages : l.read.pages ≡ min (l.fn.read.pages + (l.steps - l.fn.steps)) (2 ^ 64 - 1);

@@ -1,4 +1,4 @@
-use Rattle.std.proofs.Common.{◌≡◌, ℤ, List, Some, length, map, sym, ap, ◌∙◌, subst, false}
+use Rattle.std.proofs.Common.{◌≡◌, ◌+◌, ℤ, List, Some, length, map, sym, ap, ◌∙◌, subst, false}
 use Rattle.std.specs.Prelude.{IfSome}
 use Rattle.columns_core.specs.declared.cell.Cell.{Int}
 use Rattle.std.proofs.lemmas.Result.{err_from_is_err_and}
@@ -8,6 +8,7 @@ use Rattle.parquet_scan.specs.Cells.{walked_item}
 use Rattle.parquet_scan.specs.Counting.{every_row}
 use Rattle.parquet_scan.proofs.CauseLemmas.{TellsOf}
 use Rattle.parquet_scan.proofs.CellLemmas.{numbers_of_rows, read_numbers, told_items}
+use Rattle.parquet_scan.proofs.CostLemmas.{lent_walked}
 use Rattle.parquet_scan.proofs.ScanLemmas.{chunk_causes_are, fails_telling}
 use Rattle.parquet_scan.proofs.reading.read_whole.Goals as goal
 
@@ -39,3 +40,11 @@ returns-clause-numbers g c =
     (sym (read_numbers _ (chunk_opened column chunk) _ _ c.in_ok-reader.ensures.lends c.new-numbers.ensures.items c.in_ok-pages.ensures.numbers))
     (told_items (g.S.Source.told c.args.source.now) c.args.group.now column chunk
     c.in_ok-bytes.ensures.chunk c.in_ok-bytes.ensures.counted (sym (ap opened_causes c.in_ok-reader.ensures.lends) ∙ c.in_ok-pages.ensures.ok))
+
+pub returns-clause-lent : goal.returns-clause-lent
+returns-clause-lent g c =
+    let column = c.args.column.now in
+    let chunk = c.in_ok-bytes.bytes.items in
+    lent_walked (g.S.Source.told c.args.source.now) c.args.group.now column chunk c.args.steps.now c.decode_pages.new.steps
+    c.in_ok-bytes.ensures.chunk c.in_ok-bytes.ensures.counted (sym (ap opened_causes c.in_ok-reader.ensures.lends) ∙ c.in_ok-pages.ensures.ok)
+    (c.in_ok-pages.ensures.lent ∙ ap (λ (lent : Lent). c.args.steps.now + length lent.pages) c.in_ok-reader.ensures.lends)

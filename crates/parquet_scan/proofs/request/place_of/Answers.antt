@@ -1,6 +1,4 @@
-use Rattle.std.proofs.Common.{◌≡◌, ◌∙◌, ap, sym, arith}
-use Rattle.std.specs.Str.{bytes_eq}
-use Rattle.columns_core.specs.declared.data_type.Field.{Field}
+use Rattle.std.proofs.Common.{arith}
 use Rattle.parquet_scan.proofs.PruningLemmas.{field_there}
 use Rattle.parquet_scan.proofs.request.place_of.Goals as goal
 

@@ -1,15 +1,16 @@
-use Rattle.std.proofs.Common.{◌≡◌, ◌-◌, ◌^◌, ◌∙◌, [], ap, sym, subst, List, ℕ}
+use Rattle.std.proofs.Common.{◌≡◌, ◌-◌, ◌^◌, ◌∙◌, [], ap, map, sym, subst, List, ℕ}
 use Rattle.std.specs.Prelude.{Option, IfSome, IfOk, IfErr, IsTrue, OnOk, min}
 use Rattle.std.proofs.lemmas.Result.{err_from_is_err_and}
 use Rattle.parquet_base.specs.Failures.{MayFail}
 use Rattle.columns_core.specs.declared.data_type.Field.{Field}
 use Rattle.parquet_meta.specs.File.{footer}
 use Rattle.parquet_meta.specs.declared.metadata.RowGroupMetaData.{RowGroupMetaData}
-use Rattle.parquet_scan.specs.Counting.{are_pruned, chunks_of_groups, kept_of_groups, rows_of_groups, scan_causes, shown}
+use Rattle.parquet_scan.specs.Counting.{are_pruned, chunks_of_groups, kept_of_groups, lent_of_groups, rows_of_groups, scan_causes, scan_taken, shown}
 use Rattle.std.specs.List.{list_all}
 use Rattle.parquet_scan.specs.Request.{is_legal, is_legal_bound_of}
-use Rattle.parquet_scan.specs.Scan.{FailsBy, request_of}
+use Rattle.parquet_scan.specs.Scan.{FailsBy, RisesBy, kept_of, request_of}
 use Rattle.parquet_scan.specs.declared.scanning.Scan.{Scan}
+use Rattle.parquet_scan.proofs.FileCosts.{all_taken, most_lent, scan_sound}
 use Rattle.parquet_scan.proofs.FileLemmas.{meta_cause, meta_complete, is_valid, is_kept, is_complete, has_cause}
 use Rattle.columns_core.specs.Causes.{cause_of}
 use Rattle.parquet_scan.proofs.LegalLemmas.{asks_legally, each_error, no_file}
@@ -118,3 +119,31 @@ pub returns-clause-legal_first : goal.returns-clause-legal_first
 returns-clause-legal_first g c =
     let request = request_of c.args.schema.now c.args.bounds.now c.args.chunk_size c.args.limit in
     each_error c.scan_groups.result (λ e. asks_legally request (g.S.Source.told c.args.source.now) c.in_ok-metadata.metadata (cause_of e) c.in_ok-metadata.ensures.footer (sym c.is_legal.ensures ∙ c.if-not-is_legal.false))
+
+pub returns-clause-sound : goal.returns-clause-sound
+returns-clause-sound g c =
+    let request = request_of c.args.schema.now c.args.bounds.now c.args.chunk_size c.args.limit in
+    scan_sound request c.in_ok-metadata.metadata c.scan_groups.result (g.S.Source.told c.args.source.now) (λ (scan : Scan). map kept_of scan.kept) c.in_ok-metadata.ensures.footer
+    (sym c.is_legal.ensures ∙ c.if-not-is_legal.false) (returns-clause-valid g c) (returns-clause-kept g c)
+
+pub returns-clause-most_pages : goal.returns-clause-most_pages
+returns-clause-most_pages g c =
+    let request = request_of c.args.schema.now c.args.bounds.now c.args.chunk_size c.args.limit in
+    let metadata = c.in_ok-metadata.metadata in
+    let counts = c.deref.result.now in
+    let lent = moved (λ fields groups told. OnOk c.scan_groups.result (RisesBy told c.args.steps.now c.scan_groups.new.steps (λ bytes.
+    lent_of_groups (are_pruned request.bounds fields groups counts) fields bytes groups (kept_of_groups (are_pruned request.bounds fields groups counts) request.bounds bytes groups counts))))
+    c.as_slice-2.result.now request.fields c.as_slice.result.now metadata.row_groups (g.S.Source.told c.read_metadata.new.source) (g.S.Source.told c.args.source.now) c.as_slice-2.ensures c.as_slice.ensures c.in_ok-metadata.ensures.same c.scan_groups.ensures.lent in
+    most_lent request metadata counts c.in_ok-counts.ensures.ok (c.deref.ensures.value ∙ c.in_ok-counts.ensures.counts) c.scan_groups.result (g.S.Source.told c.args.source.now) c.args.steps.now c.scan_groups.new.steps c.in_ok-metadata.ensures.footer lent
+
+pub returns-clause-taken : goal.returns-clause-taken
+returns-clause-taken g c =
+    let request = request_of c.args.schema.now c.args.bounds.now c.args.chunk_size c.args.limit in
+    let metadata = c.in_ok-metadata.metadata in
+    let counts = c.deref.result.now in
+    let mid = g.S.Source.taken c.read_metadata.new.source in
+    let now = g.S.Source.taken c.scan_groups.new.source in
+    let taken = moved (λ fields groups told. OnOk c.scan_groups.result (RisesBy told mid now (λ bytes. scan_taken (are_pruned request.bounds fields groups counts) fields request.bounds bytes groups counts)))
+    c.as_slice-2.result.now request.fields c.as_slice.result.now metadata.row_groups (g.S.Source.told c.read_metadata.new.source) (g.S.Source.told c.args.source.now) c.as_slice-2.ensures c.as_slice.ensures c.in_ok-metadata.ensures.same c.scan_groups.ensures.taken in
+    all_taken request metadata counts c.in_ok-counts.ensures.ok (c.deref.ensures.value ∙ c.in_ok-counts.ensures.counts) c.scan_groups.result (g.S.Source.told c.args.source.now) (g.S.Source.taken c.args.source.now) mid now
+    c.in_ok-metadata.ensures.footer c.in_ok-metadata.ensures.taken taken

@@ -1,0 +1,281 @@
+-- How many pages are lent of a chunk and how many bytes are read of it, at most.
+use Rattle.std.proofs.Common.{◌≡◌, ℕ, zero, suc, get_or, ◌+◌, ◌-◌, ◌<◌, ◌≤◌, Bool, true, false, not, cond, List, [], ◌∷◌, length, map, drop, Option, Some, None, refl, sym, subst, ◌∙◌, ap, arith, inl, inr}
+use Rattle.std.specs.Prelude.{filter, zip, sum_by, unwrap_or, option_map, ◌==◌, ◌&&◌, ◌||◌, max, min, IfSome, if◌then◌else◌}
+use Rattle.std.specs.List.{list_any, range_with_len}
+use Rattle.std.specs.Option.{option_map_or}
+use Rattle.std.proofs.lemmas.Bool.{cases_lt, eq-eqb, lt-ltb}
+use Rattle.std.proofs.lemmas.List.{drop_all, drop_more, length-map}
+use Rattle.std.proofs.lemmas.List.Sums.{sum_by-cons}
+use Rattle.columns_core.specs.declared.data_type.Field.{Field}
+use Rattle.parquet_base.specs.Intervals.{holds, interval}
+use Rattle.parquet_base.specs.Intervals.{rows_of as rows_in}
+use Rattle.parquet_base.specs.declared.interval.Interval.{Interval}
+use Rattle.parquet_meta.specs.Chunks.{chunk_causes, chunk_range, has_range}
+use Rattle.parquet_meta.specs.Indexes.{length_of, offset_index_length}
+use Rattle.parquet_meta.specs.Places.{bytes_at}
+use Rattle.parquet_meta.specs.declared.metadata.ColumnChunkMetaData.{ColumnChunkMetaData}
+use Rattle.parquet_meta.specs.declared.metadata.PageLocation.{PageLocation}
+use Rattle.parquet_meta.specs.declared.metadata.Place.{Place}
+use Rattle.parquet_meta.specs.declared.metadata.PrimitiveType.{PrimitiveType}
+use Rattle.parquet_meta.specs.declared.metadata.RowGroupMetaData.{RowGroupMetaData}
+use Rattle.columns_core.specs.Causes.{is_empty, unless, ExternalFormat, NotYetImplemented}
+use Rattle.parquet_page.specs.Chunk.{ChunkPage, Dictionary, NoDictionary, Undefined, Defined, PlacedPage, Walk, chunk_dictionary, chunk_pages, dictionary_size, pages_of_chunk, placed_pages}
+use Rattle.parquet_page.specs.Content.{header_values}
+use Rattle.parquet_page.specs.Lent.{behind_dictionary, chunk_lent, data_of, dictionary_of, first_start, if_there, in_front, is_wanted, lent_data, lent_parts, located_lent, wanted_page}
+use Rattle.parquet_page.specs.Locations.{part_of}
+use Rattle.parquet_page.specs.Spelling.{has_plain_entries}
+use Rattle.parquet_page.specs.declared.page.FilteredPage.{FilteredPage}
+use Rattle.parquet_encoding.proofs.StepLemmas.{given_some}
+use Rattle.parquet_page.proofs.RowSums.{page_values as values_of, walk_sum, is_whole}
+use Rattle.parquet_scan.specs.Causes.{chunk_opened, first_location, opened_causes}
+use Rattle.parquet_scan.specs.Cells.{chunk_of}
+use Rattle.parquet_scan.specs.Costs.{is_walked, lent_of_chunk, lent_of_column, located_bytes, location_length, names_some, offset_index_of, opened_locations, taken_of_chunk, taken_of_column}
+use Rattle.parquet_scan.specs.Counting.{column_taken, every_row}
+use Rattle.parquet_scan.specs.Located.{entry_place}
+use Rattle.parquet_scan.specs.Pages.{locations, rows_at}
+use Rattle.parquet_scan.specs.Rows.{column_named}
+use Rattle.parquet_scan.specs.Scan.{RisesBy}
+use Rattle.parquet_scan.proofs.CellLemmas.{rest_none, some_dictionary, walked}
+use Rattle.parquet_scan.proofs.LocatedLemmas.{AreEntries, any_row, holds_some}
+use Rattle.parquet_scan.proofs.LocationLemmas.{HaveRows, have_rows}
+use Rattle.parquet_scan.proofs.OpenedLemmas.{IsSelected, rows_of_selected}
+use Rattle.parquet_scan.proofs.PairLemmas.{pair_at}
+
+-- ---- counts that rise
+
+pub rises_as : (told : Option (List ℕ)) (before now : ℕ) (most whole : List ℕ → ℕ) → IfSome told (λ bytes. most bytes ≤ whole bytes) → RisesBy told before now most → RisesBy told before now whole
+rises_as None before now most whole less h = tt
+rises_as (Some bytes) before now most whole less h = omega (arith, less, h)
+
+-- what is left of a sum at a place
+pub sum_left : {X : Type 0} (f : X → ℕ) (xs : List X) (i : ℕ) (x : X) → i < length xs → x ≡ get_or xs i x → sum_by f (drop i xs) ≡ f x + sum_by f (drop (i + 1) xs)
+sum_left f xs i x h at =
+    ap (sum_by f) (drop_more xs i x h ∙ ap (λ first. first ∷ drop (i + 1) xs) (sym at)) ∙ sum_by-cons f x (drop (i + 1) xs)
+
+pub none_left : {X : Type 0} (f : X → ℕ) (xs : List X) (i : ℕ) → length xs ≤ i → sum_by f (drop i xs) ≡ 0
+none_left f xs i h = ap (sum_by f) (drop_all i xs h)
+
+-- of two lists side by side
+pub pair_left : {X Y : Type 0} (f : X × Y → ℕ) (xs : List X) (ys : List Y) (i : ℕ) (x : X) (y d : Y) → i < length xs → i < length ys → x ≡ get_or xs i x → y ≡ get_or ys i d
+    → sum_by f (zip (drop i xs) (drop i ys)) ≡ f (x, y) + sum_by f (zip (drop (i + 1) xs) (drop (i + 1) ys))
+pair_left f xs ys i x y d h k at beside =
+    let rest = zip (drop (i + 1) xs) (drop (i + 1) ys) in
+    ap (sum_by f) (pair_at xs ys i x d h k) ∙ sum_by-cons f (get_or xs i x, get_or ys i d) rest ∙ (λ j. f (sym at j, sym beside j) + sum_by f rest)
+
+pub no_pair_left : {X Y : Type 0} (f : X × Y → ℕ) (xs : List X) (ys : List Y) (i : ℕ) → length xs ≤ i → sum_by f (zip (drop i xs) (drop i ys)) ≡ 0
+no_pair_left f xs ys i h = ap (λ left. sum_by f (zip left (drop i ys))) (drop_all i xs h)
+
+-- one more item of a list
+pub rises_more : {X : Type 0} (told : Option (List ℕ)) (cost : List ℕ → X → ℕ) (xs : List X) (i : ℕ) (x : X) (start mid now : ℕ) → i < length xs → x ≡ get_or xs i x
+    → IfSome told (λ bytes. mid + sum_by (cost bytes) (drop i xs) ≤ start + sum_by (cost bytes) xs) → RisesBy told mid now (λ bytes. cost bytes x)
+    → IfSome told (λ bytes. now + sum_by (cost bytes) (drop (i + 1) xs) ≤ start + sum_by (cost bytes) xs)
+rises_more None cost xs i x start mid now h at so_far own = tt
+rises_more (Some bytes) cost xs i x start mid now h at so_far own = omega (arith, so_far, own, sum_left (cost bytes) xs i x h at)
+
+-- all items
+pub rises_all : {X : Type 0} (told : Option (List ℕ)) (cost : List ℕ → X → ℕ) (xs : List X) (i : ℕ) (start now : ℕ) → length xs ≤ i
+    → IfSome told (λ bytes. now + sum_by (cost bytes) (drop i xs) ≤ start + sum_by (cost bytes) xs) → RisesBy told start now (λ bytes. sum_by (cost bytes) xs)
+rises_all None cost xs i start now h so_far = tt
+rises_all (Some bytes) cost xs i start now h so_far = omega (arith, so_far, none_left (cost bytes) xs i h)
+
+-- all pairs
+pub rises_pairs : {X Y : Type 0} (told : Option (List ℕ)) (cost : List ℕ → X × Y → ℕ) (xs : List X) (ys : List Y) (i : ℕ) (start now : ℕ) → length xs ≤ i
+    → IfSome told (λ bytes. now + sum_by (cost bytes) (zip (drop i xs) (drop i ys)) ≤ start + sum_by (cost bytes) (zip xs ys)) → RisesBy told start now (λ bytes. sum_by (cost bytes) (zip xs ys))
+rises_pairs None cost xs ys i start now h so_far = tt
+rises_pairs (Some bytes) cost xs ys i start now h so_far = omega (arith, so_far, no_pair_left (cost bytes) xs ys i h)
+
+-- ---- pages that are lent
+
+-- there is at most one page in each part
+few_parts : (type : PrimitiveType) (parts : List (FilteredPage × List ℕ)) → length (lent_parts type parts).pages ≤ length parts
+unfolding lent_parts
+few_parts type [] = omega arith
+few_parts type (wanted ∷ others) = by (wanted_page wanted.0 wanted.1) (few_parts type others) where
+  by : (o : Option ChunkPage) → length (lent_parts type others).pages ≤ length others → length (if_there type wanted.0 o (lent_parts type others)).pages ≤ length (wanted ∷ others)
+  by None few = omega arith
+  by (Some page) few = omega (arith, few)
+
+-- and one dictionary before them
+pub few_located : (type : PrimitiveType) (before : Dictionary) (parts : List (FilteredPage × List ℕ)) → length (located_lent type before parts).pages ≤ length parts + 1
+unfolding located_lent
+few_located type before [] = omega arith
+few_located type NoDictionary (wanted ∷ others) = omega (arith, few_parts type (wanted ∷ others))
+few_located type Undefined (wanted ∷ others) = omega arith
+few_located type (Defined page) (wanted ∷ others) = by (has_plain_entries page.encoding) where
+  by : (b : Bool) → length (if b then in_front (dictionary_of page) (lent_parts type (wanted ∷ others)) else record { pages = []; causes = NotYetImplemented ∷ [] }).pages ≤ length (wanted ∷ others) + 1
+  by true = omega (arith, few_parts type (wanted ∷ others))
+  by false = omega arith
+
+-- ---- pages of a chunk that are walked over
+
+-- a page that begins among so many rows holds one of them, or has none
+is_walked_over : (n start row : ℕ) (page : ChunkPage) → row + header_values page.header ≤ n → is_walked (range_with_len 0 n) (record { start = start; first_row = row; page = page }) ≡ true
+is_walked_over n start row page fits = elim (cases_lt 0 (header_values page.header)) [
+  | inl more ↦ or_second (header_values page.header == 0) (list_any (holds (interval row (header_values page.header))) (range_with_len 0 n))
+      (any_row (interval row (header_values page.header)) 0 n ∙ lt-ltb (max row 0) (min (row + header_values page.header) (0 + n)) (omega (arith, more, fits)))
+  | inr none ↦ ap (λ b. b || list_any (holds (interval row (header_values page.header))) (range_with_len 0 n)) (eq-eqb (header_values page.header) 0 (omega (arith, none)))
+] where
+  or_second : (a b : Bool) → b ≡ true → (a || b) ≡ true
+  or_second true b e = refl
+  or_second false b e = e
+
+all_walked : (n start row : ℕ) (pages : List ChunkPage) → row + sum_by values_of pages ≤ n → length (filter (is_walked (range_with_len 0 n)) (placed_pages start row pages)) ≡ length pages
+all_walked n start row [] fits = refl
+all_walked n start row (page ∷ pages) fits =
+    let sum = sum_by-cons values_of page pages in
+    let others = placed_pages (start + page.size) (row + header_values page.header) pages in
+    let placed : PlacedPage = record { start = start; first_row = row; page = page } in
+    ap (λ b. length (cond b (placed ∷ filter (is_walked (range_with_len 0 n)) others) (filter (is_walked (range_with_len 0 n)) others))) (is_walked_over n start row page (omega (arith, fits, sum)))
+    ∙ (let rest = all_walked n (start + page.size) (row + header_values page.header) pages (omega (arith, fits, sum)) in omega (arith, rest))
+
+data_walked : (type : PrimitiveType) (walk : Walk) (start n : ℕ) → (walk.is_whole ≡ true → sum_by values_of walk.pages ≡ n) → opened_causes (lent_data type walk) ≡ []
+    → length (lent_data type walk).pages ≤ length (filter (is_walked (range_with_len 0 n)) (placed_pages start 0 walk.pages)) + 1
+data_walked type walk start n sum none =
+    let whole = is_whole walk.is_whole (rest_none _ (unless walk.is_whole ExternalFormat) none) in
+    omega (arith, length-map walk.pages (data_of type None), all_walked n start 0 walk.pages (omega (arith, sum whole)))
+
+behind_walked : (type : PrimitiveType) (dictionary : Dictionary) (walk : Walk) (start n : ℕ) → (walk.is_whole ≡ true → sum_by values_of walk.pages ≡ n) → opened_causes (behind_dictionary dictionary (lent_data type walk)) ≡ []
+    → length (behind_dictionary dictionary (lent_data type walk)).pages ≤ length (filter (is_walked (range_with_len 0 n)) (placed_pages start 0 walk.pages)) + 1
+behind_walked type NoDictionary walk start n sum none = data_walked type walk start n sum none
+behind_walked type Undefined walk start n sum none = absurd cc
+behind_walked type (Defined page) walk start n sum none = absurd (some_dictionary type page walk (has_plain_entries page.encoding) none)
+
+chunk_walked : (type : PrimitiveType) (n : ℕ) (chunk : List ℕ) → opened_causes (chunk_lent type n chunk) ≡ []
+    → length (chunk_lent type n chunk).pages ≤ length (filter (is_walked (range_with_len 0 n)) (pages_of_chunk n chunk)) + 1
+unfolding chunk_lent chunk_pages
+chunk_walked type zero chunk none = omega arith
+chunk_walked type (suc more) chunk none =
+    behind_walked type (chunk_dictionary chunk) (chunk_pages (suc more) chunk) (dictionary_size chunk) (suc more) (walk_sum (length chunk) (suc more) (drop (dictionary_size chunk) chunk)) none
+
+-- what is lent of a chunk that was read
+pub lent_walked : (told : Option (List ℕ)) (group : RowGroupMetaData) (column : ColumnChunkMetaData) (chunk : List ℕ) (before now : ℕ)
+    → IfSome told (λ bytes. option_map (bytes_at bytes) (chunk_of bytes group column) ≡ Some chunk) → column.num_values ≡ group.num_rows → opened_causes (chunk_opened column chunk) ≡ []
+    → now ≡ before + length (chunk_opened column chunk).pages → RisesBy told before now (λ bytes. lent_of_chunk false bytes group (every_row group) column)
+lent_walked None group column chunk before now found counted none e = tt
+lent_walked (Some bytes) group column chunk before now found counted none e =
+    let few = chunk_walked column.descriptor.primitive_type column.num_values chunk none in
+    let rows : every_row group ≡ range_with_len 0 column.num_values = ap (range_with_len 0) (sym counted) in
+    let same : lent_of_chunk false bytes group (every_row group) column ≡ length (filter (is_walked (range_with_len 0 column.num_values)) (pages_of_chunk column.num_values chunk)) + 1
+    = λ i. length (filter (is_walked (rows i)) (walked bytes column (chunk_of bytes group column) chunk found i)) + 1 in
+    omega (arith, e, few, same)
+
+-- ---- pages of a chunk that are located
+
+-- as many locations as entries, and as long ones
+pub record AreAsLong (named : List PageLocation) (entries : List FilteredPage) : Type 0 where
+  pub count : length named ≡ length entries
+  pub bytes : sum_by location_length named ≡ sum_by (λ (entry : FilteredPage). entry.length) entries
+
+abbrev locations_in : List (Interval × PageLocation) → List PageLocation
+locations_in named = map (λ (named : Interval × PageLocation). named.1) named
+
+one_as_long : (b : Bool) (rows : Interval) (location : PageLocation) (entry : FilteredPage) (named : List (Interval × PageLocation)) (entries : List FilteredPage) → part_of location ≡ Some (entry_place entry)
+    → AreAsLong (locations_in named) entries → AreAsLong (locations_in (cond b ((rows, location) ∷ named) named)) (cond b (entry ∷ entries) entries)
+one_as_long false rows location entry named entries part are = are
+one_as_long true rows location entry named entries part are = record {
+  count = omega (arith, are.count);
+  bytes =
+      let own : location_length location ≡ entry.length = ap length_of part in
+      omega (arith, own, are.bytes, sum_by-cons location_length location (locations_in named), sum_by-cons (λ (entry : FilteredPage). entry.length) entry entries);
+}
+
+-- the locations that name a row of intervals are those of the entries that are wanted
+wanted_as_long : (intervals : List Interval) (locations : List PageLocation) (rows : List Interval) (entries : List FilteredPage) → AreEntries intervals locations rows entries
+    → AreAsLong (locations_in (filter (names_some (rows_in intervals)) (zip rows locations))) (filter is_wanted entries)
+wanted_as_long intervals [] [] [] are = record { count = refl; bytes = refl }
+wanted_as_long intervals [] [] (entry ∷ entries) are = absurd are
+wanted_as_long intervals [] (rows ∷ others) [] are = absurd are
+wanted_as_long intervals [] (rows ∷ others) (entry ∷ entries) are = absurd are
+wanted_as_long intervals (location ∷ locations) [] [] are = absurd are
+wanted_as_long intervals (location ∷ locations) [] (entry ∷ entries) are = absurd are
+wanted_as_long intervals (location ∷ locations) (rows ∷ others) [] are = absurd are
+wanted_as_long intervals (location ∷ locations) (rows ∷ others) (entry ∷ entries) are =
+    let same : list_any (holds rows) (rows_in intervals) ≡ is_wanted entry = holds_some rows intervals ∙ ap (λ runs. not (length runs == 0)) (sym are.0.selected) in
+    let named = filter (names_some (rows_in intervals)) (zip others locations) in
+    subst (λ b. AreAsLong (locations_in (cond b ((rows, location) ∷ named) named)) (cond (is_wanted entry) (entry ∷ filter is_wanted entries) (filter is_wanted entries))) (sym same)
+    (one_as_long (is_wanted entry) rows location entry named (filter is_wanted entries) are.0.part (wanted_as_long intervals locations others entries are.1))
+
+-- what stands before the first page
+before_first : (intervals : List Interval) (locations : List PageLocation) (rows : Interval) (others : List Interval) (entries : List FilteredPage) (start : ℕ) → AreEntries intervals locations (rows ∷ others) entries
+    → unwrap_or (first_location start locations) 0 ≡ first_start entries - start
+before_first intervals [] rows others [] start are = absurd are
+before_first intervals [] rows others (entry ∷ entries) start are = absurd are
+before_first intervals (location ∷ locations) rows others [] start are = absurd are
+before_first intervals (location ∷ locations) rows others (entry ∷ entries) start are = ap (λ o. unwrap_or (option_map (λ (part : Place). part.offset - start) o) 0) are.0.part
+
+-- what is read of opened pages and before them, if it is
+read_before_pages : (b : Bool) (size : ℕ) (before : Option ℕ) (opened : List PageLocation) → unwrap_or before 0 ≡ size → (b ≡ true → 0 < length opened)
+    → (if b then size else 0) + sum_by location_length opened ≤ located_bytes before opened
+read_before_pages true size before [] is some = absurd (omega (arith, some refl))
+read_before_pages true size before (location ∷ opened) is some = omega (arith, is)
+read_before_pages false size before [] is some = omega arith
+read_before_pages false size before (location ∷ opened) is some = omega arith
+
+chunk_is : (bytes : List ℕ) (group : RowGroupMetaData) (column : ColumnChunkMetaData) (chunk : Place) → chunk_of bytes group column ≡ Some chunk → chunk_range column ≡ chunk
+chunk_is bytes group column chunk e = by (is_empty (chunk_causes column) && has_range (length bytes) group.num_rows column) e where
+  by : (b : Bool) → (if b then Some (chunk_range column) else None) ≡ Some chunk → chunk_range column ≡ chunk
+  by true e = (given_some true (chunk_range column) chunk e).1
+  by false e = absurd cc
+
+module _ (group : RowGroupMetaData) (column : ColumnChunkMetaData) (intervals : List Interval) (given_locations : List PageLocation) (entries : List FilteredPage) (selected : IsSelected group intervals given_locations entries) where
+  abbrev have : HaveRows given_locations group.num_rows
+  have = have_rows given_locations group.num_rows selected.shape
+
+  opened_at : (bytes : List ℕ) → locations bytes column ≡ given_locations
+      → opened_locations bytes group (rows_in intervals) column ≡ locations_in (filter (names_some (rows_in intervals)) (zip (have.first ∷ have.others) given_locations))
+  opened_at bytes told =
+      ap (λ found. locations_in (filter (names_some (rows_in intervals)) (zip (rows_at found group.num_rows) found))) told
+      ∙ ap (λ rows. locations_in (filter (names_some (rows_in intervals)) (zip rows given_locations))) (ap (λ o. unwrap_or o []) have.are)
+
+  as_long : (bytes : List ℕ) → locations bytes column ≡ given_locations → AreAsLong (opened_locations bytes group (rows_in intervals) column) (filter is_wanted entries)
+  as_long bytes told =
+      subst (λ named. AreAsLong named (filter is_wanted entries)) (sym (opened_at bytes told))
+      (wanted_as_long intervals given_locations (have.first ∷ have.others) entries (rows_of_selected group intervals given_locations entries selected))
+
+  pub lent_located : (told : Option (List ℕ)) (before now : ℕ) → IfSome told (λ bytes. locations bytes column ≡ given_locations) → now ≤ before + (length (filter is_wanted entries) + 1)
+      → RisesBy told before now (λ bytes. lent_of_chunk true bytes group (rows_in intervals) column)
+  lent_located None before now told e = tt
+  lent_located (Some bytes) before now told e = omega (arith, e, (as_long bytes told).count)
+
+  located_taken : (bytes : List ℕ) (chunk : Place) (b : Bool) → chunk_of bytes group column ≡ Some chunk → locations bytes column ≡ given_locations → (b ≡ true → 0 < length (filter is_wanted entries))
+      → (if b then first_start entries - chunk.offset else 0) + sum_by (λ (entry : FilteredPage). entry.length) (filter is_wanted entries) ≤ taken_of_chunk true bytes group (rows_in intervals) column
+  located_taken bytes chunk b placed told some =
+      let long = as_long bytes told in
+      let start : (chunk_range column).offset ≡ chunk.offset = ap (λ (place : Place). place.offset) (chunk_is bytes group column chunk placed) in
+      let before : unwrap_or (first_location (chunk_range column).offset (locations bytes column)) 0 ≡ first_start entries - chunk.offset
+      = (λ i. unwrap_or (first_location (start i) (told i)) 0) ∙ before_first intervals given_locations have.first have.others entries chunk.offset (rows_of_selected group intervals given_locations entries selected) in
+      let most = read_before_pages b (first_start entries - chunk.offset) (first_location (chunk_range column).offset (locations bytes column)) (opened_locations bytes group (rows_in intervals) column) before
+      (λ yes. omega (arith, some yes, long.count)) in
+      omega (arith, most, long.bytes)
+
+  -- what is taken of a chunk: its offset index, the pages that are wanted and, if one is, the part before the first
+  pub taken_located : (told : Option (List ℕ)) (chunk : Place) (b : Bool) (index before now : ℕ) → IfSome told (λ bytes. chunk_of bytes group column ≡ Some chunk) → IfSome told (λ bytes. locations bytes column ≡ given_locations)
+      → (b ≡ true → 0 < length (filter is_wanted entries))
+      → now ≤ before + index + sum_by (λ (entry : FilteredPage). entry.length) (filter is_wanted entries) + (if b then first_start entries - chunk.offset else 0)
+      → RisesBy told before now (λ bytes. index + taken_of_chunk true bytes group (rows_in intervals) column)
+  taken_located None chunk b index before now placed told some e = tt
+  taken_located (Some bytes) chunk b index before now placed told some e = omega (arith, e, located_taken bytes chunk b placed told some)
+
+-- ---- the column of a name
+
+pub lent_named : (told : Option (List ℕ)) (by_pages : Bool) (group : RowGroupMetaData) (rows : List ℕ) (field : Field) (column : ColumnChunkMetaData) → column_named group field.name ≡ Some column
+    → IfSome told (λ bytes. lent_of_chunk by_pages bytes group rows column ≤ lent_of_column by_pages bytes group rows field)
+lent_named None by_pages group rows field column named = tt
+lent_named (Some bytes) by_pages group rows field column named = omega (arith, ap (λ o. option_map_or (lent_of_chunk by_pages bytes group rows) o 0) named)
+
+pub taken_named : (told : Option (List ℕ)) (by_pages : Bool) (group : RowGroupMetaData) (rows : List ℕ) (field : Field) (column : ColumnChunkMetaData) → column_named group field.name ≡ Some column
+    → IfSome told (λ bytes. (if by_pages then offset_index_length column else 0) + taken_of_chunk by_pages bytes group rows column ≤ column_taken by_pages bytes group rows field)
+taken_named None by_pages group rows field column named = tt
+taken_named (Some bytes) by_pages group rows field column named =
+    let index : offset_index_of group field ≡ offset_index_length column = ap (λ o. option_map_or offset_index_length o 0) named in
+    let own : taken_of_column by_pages bytes group rows field ≡ taken_of_chunk by_pages bytes group rows column = ap (λ o. option_map_or (taken_of_chunk by_pages bytes group rows) o 0) named in
+    by by_pages index own where
+      by : (b : Bool) → offset_index_of group field ≡ offset_index_length column → taken_of_column by_pages bytes group rows field ≡ taken_of_chunk by_pages bytes group rows column
+          → (if b then offset_index_length column else 0) + taken_of_chunk by_pages bytes group rows column ≤ (if b then offset_index_of group field else 0) + taken_of_column by_pages bytes group rows field
+      by true index own = omega (arith, index, own)
+      by false index own = omega (arith, own)
+
+pub whole_taken : (told : Option (List ℕ)) (group : RowGroupMetaData) (rows : List ℕ) (field : Field) (column : ColumnChunkMetaData) (before now : ℕ) → column_named group field.name ≡ Some column
+    → now ≤ before + (chunk_range column).length → RisesBy told before now (λ bytes. column_taken false bytes group rows field)
+whole_taken None group rows field column before now named h = tt
+whole_taken (Some bytes) group rows field column before now named h = omega (arith, h, ap (λ o. option_map_or (taken_of_chunk false bytes group rows) o 0) named)

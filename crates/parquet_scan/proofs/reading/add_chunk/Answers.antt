@@ -1,0 +1,15 @@
+use Rattle.std.proofs.Common.{ap, arith}
+use Rattle.std.specs.Prelude.{sum_by}
+use Rattle.std.proofs.lemmas.List.Sums.{sum_by_push}
+use Rattle.columns_core.specs.Chunk.{rows_of}
+use Rattle.parquet_scan.proofs.reading.add_chunk.Goals as goal
+
+pub returns-clause-own_rows : goal.returns-clause-own_rows
+returns-clause-own_rows c e = omega (
+  arith,
+  e,
+  c.saturating_add-read.ensures,
+  c.len.ensures,
+  ap (sum_by rows_of) c.in_ok-push.ensures.items,
+  sum_by_push rows_of c.args.read.now.chunks.items c.in_ok-chunk.chunk,
+)
