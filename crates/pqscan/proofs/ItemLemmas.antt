@@ -1,7 +1,7 @@
 -- Items of a command line one after another.
-use Rattle.std.proofs.Common.{◌≡◌, ℕ, zero, suc, ◌+◌, ◌-◌, ◌<◌, ◌≤◌, Bool, true, false, List, [], ◌∷◌, ◌++◌, length, map, take, drop, get_or, refl, sym, ◌∙◌, ap, arith, drop-cons, append_assoc}
-use Rattle.std.specs.Prelude.{Option, Some, None, option_map, option_and_then, is_some, All, ◌&&◌, ◌||◌, not, if◌then◌else◌, ◌==◌, nat_lt, filter_map, codes}
-use Rattle.std.specs.List.{list_all, list_any}
+use Rattle.std.proofs.Common.{◌≡◌, ℕ, zero, suc, ◌<◌, ◌≤◌, Bool, true, false, List, [], ◌∷◌, ◌++◌, length, map, take, drop, refl, sym, ◌∙◌, ap, arith, append_assoc}
+use Rattle.std.specs.Prelude.{Option, Some, None, option_map, option_and_then, is_some, All, ◌&&◌, ◌||◌, not, if◌then◌else◌, ◌==◌, nat_lt, codes}
+use Rattle.std.specs.List.{list_all}
 use Rattle.std.specs.Option.{option_map_or, option_zip, option_or}
 use Rattle.std.proofs.lemmas.Bool.{true≢false, lt-ltb, eqb-true}
 use Rattle.std.proofs.lemmas.List.{append-nil, drop_all}
@@ -10,7 +10,7 @@ use Rattle.std.proofs.lemmas.List.Folds.{list_all-map}
 use Rattle.std.specs.Prelude.{String, string_bytes}
 use Rattle.std.specs.declared.alloc.Global.{Global}
 use Rattle.std.specs.Str.{bytes_eq}
-use Rattle.columns_core.specs.declared.data_type.DataType.{DataType, Int32}
+use Rattle.columns_core.specs.declared.data_type.DataType.{Int32}
 use Rattle.columns_core.specs.declared.data_type.Field.{Field}
 use Rattle.pqscan.specs.Spelled.{spelled_type}
 use Rattle.parquet_scan.specs.declared.bound.Scalar.{Scalar}
@@ -18,7 +18,7 @@ use Rattle.parquet_scan.specs.declared.bound.Bound.{Bound}
 use Rattle.std.specs.Cmp.{first_so, second_so}
 use Rattle.pqscan.specs.Spelled.{number}
 use Rattle.pqscan.specs.Parsed.{fields_behind, bounds_behind, AreInt32}
-use Rattle.pqscan.specs.Words.{at_most_one, joined, Chunk, Limit, Summary, all_bounds, all_fields, both_ends, bounds_of, begins_with_dash, chunk_sizes, entries, Entry, field_of, has_name, limits, named_field, one_word, read_words, split_bound, split_field, summaries, two_words, value_for, values_for, with_bound, Command, Word, spelled_command, command_of}
+use Rattle.pqscan.specs.Words.{at_most_one, joined, Chunk, Limit, Summary, all_bounds, all_fields, both_ends, bounds_of, begins_with_dash, chunk_sizes, entries, Entry, field_of, has_name, limits, named_field, one_word, read_words, split_bound, split_field, summaries, two_words, with_bound, Command, spelled_command, command_of}
 use Rattle.pqscan.specs.NotBuilt.{built_command, is_built_field, is_built_word}
 
 -- ---- fields

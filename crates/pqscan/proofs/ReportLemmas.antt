@@ -9,9 +9,15 @@ pub if_none : {P : Type 0} {X : Type 0} (o : Option X) → P → IfNone o P
 if_none None p = p
 if_none (Some x) p = tt
 
-range_more : (from n : ℕ) → range_with_len from (suc n) ≡ range_with_len from n ++ (from + n) ∷ []
-range_more from zero = ap (λ k. k ∷ []) (omega arith)
-range_more from (suc n) = ap (λ rest. from ∷ rest) (range_more (from + 1) n ∙ ap (λ k. range_with_len (from + 1) n ++ k ∷ []) (omega arith))
+range_parts : (from n k : ℕ) → range_with_len from (n + k) ≡ range_with_len from n ++ range_with_len (from + n) k
+range_parts from zero k =
+    let all : 0 + k ≡ k = omega arith in
+    let same : from ≡ from + 0 = omega arith in
+    ap (range_with_len from) all ∙ ap (λ m. range_with_len m k) same
+range_parts from (suc n) k =
+    let all : suc n + k ≡ suc (n + k) = omega arith in
+    let same : from + 1 + n ≡ from + suc n = omega arith in
+    ap (range_with_len from) all ∙ ap (λ rest. from ∷ rest) (range_parts (from + 1) n k ∙ ap (λ m. range_with_len (from + 1) n ++ range_with_len m k) same)
 
 enumerated_more : {X : Type 0} (n : ℕ) (xs : List X) (x : X) → enumerate_from n (xs ++ x ∷ []) ≡ enumerate_from n xs ++ (n + length xs, x) ∷ []
 enumerated_more n [] x = ap (λ k. (k, x) ∷ []) (omega arith)
@@ -26,13 +32,19 @@ line_more f old before now xs x begun more =
     ∙ ap (λ last. old ++ (flat_map f xs ++ last)) (sym (append-nil (f x)))
     ∙ ap (λ text. old ++ text) (sym (flat_map-append f xs (x ∷ [])))
 
+-- the lines of the rows before, and then those of so many more
+pub rows_written : (f : ℕ → List ℕ) (old before now : List ℕ) (n count : ℕ)
+    → before ≡ old ++ flat_map f (range_with_len 0 n) → now ≡ before ++ flat_map f (range_with_len n count) → now ≡ old ++ flat_map f (range_with_len 0 (n + count))
+rows_written f old before now n count begun more =
+    let from : 0 + n ≡ n = omega arith in
+    more ∙ ap (λ front. front ++ flat_map f (range_with_len n count)) begun
+    ∙ append_assoc old (flat_map f (range_with_len 0 n)) (flat_map f (range_with_len n count))
+    ∙ ap (λ text. old ++ text) (sym (flat_map-append f (range_with_len 0 n) (range_with_len n count))
+    ∙ ap (flat_map f) (ap (λ m. range_with_len 0 n ++ range_with_len m count) (sym from) ∙ sym (range_parts 0 n count)))
+
 pub row_written : (f : ℕ → List ℕ) (old before now : List ℕ) (n : ℕ)
     → before ≡ old ++ flat_map f (range_with_len 0 n) → now ≡ before ++ f n → now ≡ old ++ flat_map f (range_with_len 0 (n + 1))
-row_written f old before now n begun more =
-    let on : n + 1 ≡ suc n = omega arith in
-    let next : range_with_len 0 (n + 1) ≡ range_with_len 0 n ++ n ∷ [] =
-    ap (range_with_len 0) on ∙ range_more 0 n ∙ ap (λ k. range_with_len 0 n ++ k ∷ []) (omega arith) in
-    line_more f old before now (range_with_len 0 n) n begun more ∙ ap (λ rows. old ++ flat_map f rows) (sym next)
+row_written f old before now n begun more = rows_written f old before now n 1 begun (more ∙ ap (λ last. before ++ last) (sym (append-nil (f n))))
 
 pub numbered_written : {X Y : Type 0} (f : ℕ × Y → List ℕ) (view : X → Y) (old before now : List ℕ) (xs : List X) (i : ℕ) (x : X)
     → i < length xs → x ≡ get_or xs i x → before ≡ old ++ flat_map f (enumerate_from 0 (map view (take i xs))) → now ≡ before ++ f (i, view x)

@@ -1,15 +1,20 @@
 -- From what a scan answers to what is reported.
-use Rattle.std.proofs.Common.{◌≡◌, ℕ, List, refl, sym, subst, ◌∙◌, ap}
-use Rattle.std.specs.Prelude.{Option, Some, None, option_map, option_and_then, IfNone, IfSome, IsSomeAnd}
+use Rattle.std.proofs.Common.{◌≡◌, ℕ, ◌+◌, ◌-◌, ◌^◌, All, List, [], ◌∷◌, map, min, refl, sym, subst, ◌∙◌, ap}
+use Rattle.std.specs.Prelude.{Option, Some, None, option_map, option_and_then, IfNone, IfOk, IfSome, IsSomeAnd, Result, Ok, Err, sum_by}
+use Rattle.std.proofs.lemmas.List.Elements.{All-map}
+use Rattle.std.proofs.lemmas.List.Sums.{sum_by-cons}
 use Rattle.parquet_base.specs.declared.interval.Interval.{Interval}
+use Rattle.columns_core.specs.Chunk.{rows_of}
+use Rattle.columns_core.specs.declared.array.Array.{Array}
 use Rattle.columns_core.specs.declared.cell.Cell.{Cell}
 use Rattle.columns_core.specs.declared.data_type.DataType.{DataType}
 use Rattle.parquet_scan.specs.Causes.{IsValid}
-use Rattle.parquet_scan.specs.Cells.{given_chunks}
+use Rattle.parquet_scan.specs.Cells.{columns_of, given_chunks}
 use Rattle.parquet_scan.specs.Rows.{File, file_of, given_count}
-use Rattle.parquet_scan.specs.Scan.{OnFile, kept_groups}
-use Rattle.pqscan.specs.Program.{IsLegal, IsReportOf, IsReported, OnCommand, report_on}
-use Rattle.pqscan.specs.Report.{report}
+use Rattle.parquet_scan.specs.Scan.{IsApart, OnFile, kept_groups, kept_of}
+use Rattle.parquet_scan.specs.declared.scanning.GroupKept.{GroupKept}
+use Rattle.pqscan.specs.Program.{IsApartIn, IsLegal, IsReportOf, IsReported, OnCommand, report_on}
+use Rattle.pqscan.specs.Report.{report, rows_in}
 use Rattle.pqscan.specs.Words.{Command}
 
 some_file : (command : Command) (bytes : List ℕ) (o : Option File) → file_of bytes ≡ o → IsValid command.request bytes → (o ≡ None → ⊥)
@@ -62,12 +67,42 @@ of_text command bytes pages text Q h reported = record {
   report = some_and (option_and_then (report_on command pages) (file_of bytes)) (λ found. found ≡ text) Q reported.report (λ found e. subst Q (sym e) h);
 }
 
+-- ---- whatever the source tells
+
+same_rows : (arrays : List Array) → rows_in (columns_of arrays) ≡ rows_of arrays
+same_rows [] = refl
+same_rows (array ∷ arrays) = refl
+
+all_rows : (chunks : List (List Array)) → sum_by rows_in (map columns_of chunks) ≡ sum_by rows_of chunks
+all_rows [] = refl
+all_rows (chunk ∷ chunks) =
+    sum_by-cons rows_in (columns_of chunk) (map columns_of chunks) ∙ (λ i. same_rows chunk i + all_rows chunks i) ∙ sym (sum_by-cons rows_of chunk chunks)
+
 -- the text of a scan is the report on it
-pub is_report_of : (command : Command) (pages count : ℕ) (kept : List (ℕ × List Interval)) (chunks : List (List (DataType × List Cell))) (rows : ℕ) (text : List ℕ)
-    → text ≡ report command.summary kept chunks rows count → count ≡ pages → IsReportOf command pages (λ found. found ≡ text)
-is_report_of command pages count kept chunks rows text e same =
-    record { kept = kept; chunks = chunks; rows = rows; holds = ap (report command.summary kept chunks rows) (sym same) ∙ sym e }
+pub is_report_of : (command : Command) (pages count rows : ℕ) (kept : List GroupKept) (chunks : List (List Array)) (text : List ℕ)
+    → All IsApart kept → rows ≡ min (sum_by rows_of chunks) (2 ^ 64 - 1) → text ≡ report command.summary (map kept_of kept) (map columns_of chunks) rows count → count ≡ pages
+    → IsReportOf command pages (λ found. found ≡ text)
+is_report_of command pages count rows kept chunks text apart own e same = record {
+  kept = map kept_of kept;
+  chunks = map columns_of chunks;
+  rows = rows;
+  apart = All-map IsApartIn kept_of kept apart;
+  own_rows = own ∙ ap (λ n. min n (2 ^ 64 - 1)) (sym (all_rows chunks));
+  holds = ap (report command.summary (map kept_of kept) (map columns_of chunks) rows) (sym same) ∙ sym e;
+}
 
 pub of_report : (o : Option Command) (pages : ℕ) (text : List ℕ) (Q : List ℕ → Type 0) → Q text → IfSome o (λ command. IsReportOf command pages (λ found. found ≡ text)) → IfSome o (λ command. IsReportOf command pages Q)
 of_report None pages text Q h found = tt
-of_report (Some command) pages text Q h found = record { kept = found.kept; chunks = found.chunks; rows = found.rows; holds = subst Q (sym found.holds) h }
+of_report (Some command) pages text Q h found = record {
+  kept = found.kept;
+  chunks = found.chunks;
+  rows = found.rows;
+  apart = found.apart;
+  own_rows = found.own_rows;
+  holds = subst Q (sym found.holds) h;
+}
+
+-- a fact that does not speak of the result
+pub whatever_ok : {T E P : Type 0} (r : Result T E) → P → IfOk r (λ _. P)
+whatever_ok (Ok x) h = h
+whatever_ok (Err e) h = tt

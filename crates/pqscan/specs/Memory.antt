@@ -1,5 +1,5 @@
 -- Sinks in memory: what they were given, and which of their calls fail.
-use Rattle.std.specs.Prelude.{ℕ, ◌+◌, ◌-◌, ◌^◌, min, Bool, ◌&&◌, ◌||◌, ◌==◌, nat_lt, List, ◌++◌, length, take}
+use Rattle.std.specs.Prelude.{ℕ, ◌+◌, ◌-◌, ◌^◌, min, Bool, ◌&&◌, ◌==◌, nat_lt, List, ◌++◌, length, take}
 use Rattle.std.specs.List.{list_any}
 
 -- what it was given, how much it can take in all, and how often it could take nothing

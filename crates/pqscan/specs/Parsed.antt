@@ -1,5 +1,5 @@
 -- What the words of a command line are read into.
-use Rattle.std.specs.Prelude.{ℕ, Bool, List, Option, None}
+use Rattle.std.specs.Prelude.{ℕ, Bool, List, Option}
 use Rattle.pqscan.specs.declared.command.Asked.{Asked}
 use Rattle.pqscan.specs.declared.command.End.{End}
 use Rattle.std.specs.Prelude.{◌≡◌, ◌++◌, All, option_map}

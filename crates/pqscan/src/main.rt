@@ -1,6 +1,7 @@
 //! `pqscan`: rows of a Parquet file as text, without the row groups in which no row can meet the bounds.
 #![tactic(auto)]
 
+mod column;
 mod command;
 mod number;
 mod program;

@@ -1,10 +1,10 @@
 //! Numbers in texts: read, and written in place.
-ghost use Rattle.std.specs.Prelude.{◌≡◌, ◌++◌, ◌^◌, decimal, pos, ℤ, nat_lt, int_le, neg_ℤ, Some, None, Option, option_and_then, if◌then◌else◌, OnOk};
+ghost use Rattle.std.specs.Prelude.{◌≡◌, ◌+◌, ◌≤◌, ◌++◌, ◌^◌, decimal, drop, length, pos, nat_lt, Some, None, Option, option_and_then, if◌then◌else◌, OnOk};
 ghost use Rattle.std.specs.Fmt.{signed_decimal};
 ghost use Rattle.pqscan.specs.Spelled.{digits_at_most, signed_number as spelled_number};
 ghost use Rattle.pqscan.specs.Numbers.{fits_i128, with_digit as with_digit_by};
 
-use itoa::Buffer;
+use itoa::{Buffer, write_digits};
 use std::alloc::AllocError;
 
 /// The most digits of a value.
@@ -68,15 +68,6 @@ pub(crate) fn push_signed(text: &mut Vec<u8>, number: i128) -> Result<(), AllocE
     Ok(())
 }
 
-/// Writes a number of 32 bits at the end.
-pub(crate) fn push_i32(text: &mut Vec<u8>, number: i32) -> Result<(), AllocError>
-    ensures { OnOk result (text.new.items ≡ text.old.items ++ signed_decimal number) }
-{
-    let mut buffer = Buffer::new();
-    text.extend_from_slice(buffer.format(number).as_bytes())?;
-    Ok(())
-}
-
 /// Writes a count at the end.
 pub(crate) fn push_unsigned(text: &mut Vec<u8>, number: usize) -> Result<(), AllocError>
     ensures { OnOk result (text.new.items ≡ text.old.items ++ decimal number) }
@@ -84,4 +75,18 @@ pub(crate) fn push_unsigned(text: &mut Vec<u8>, number: usize) -> Result<(), All
     let mut buffer = Buffer::new();
     text.extend_from_slice(buffer.format(number).as_bytes())?;
     Ok(())
+}
+
+/// Writes a number of 32 bits before a place, and says where it begins.
+pub(crate) fn write_i32(block: &mut [u8], end: usize, number: i32) -> usize
+    requires { (11 ≤ end) × (end ≤ length block.old) }
+    ensures start { (result ≤ end) × (end ≤ result + 11) }
+    ensures written { drop result block.new ≡ signed_decimal number ++ drop end block.old }
+{
+    let start = write_digits(number.unsigned_abs() as u64, block, end);
+    if number >= 0 {
+        return start;
+    }
+    block[start - 1] = b'-';
+    start - 1
 }

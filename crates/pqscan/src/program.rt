@@ -1,13 +1,14 @@
 //! Runs of the program.
-ghost use Rattle.std.specs.Prelude.{◌≡◌, ◌≢◌, ◌⊎◌, ◌-◌, ◌^◌, ◌≤◌, min, Contains, IfErr, IfNone, IfOk, IfSome, IsFalse, IsTrue, None, Some};
+ghost use Rattle.std.specs.Prelude.{◌≡◌, ◌≢◌, ◌⊎◌, ◌+◌, ◌-◌, ◌^◌, ◌≤◌, min, Contains, IfErr, IfNone, IfOk, IfSome, IsFalse, IsTrue, None, Some};
 ghost use Rattle.columns_core.specs.Causes.{cause_of, is_invalid_argument};
 ghost use Rattle.parquet_base.specs.Failures.{MayFail};
 ghost use Rattle.parquet_meta.specs.File.{footer};
 ghost use Rattle.parquet_scan.specs.Causes.{causes, IsValid};
+ghost use Rattle.parquet_scan.specs.Costs.{most_bytes, most_pages};
 ghost use Rattle.parquet_scan.specs.Request.{is_legal};
-ghost use Rattle.parquet_scan.specs.Scan.{OnFile};
+ghost use Rattle.parquet_scan.specs.Scan.{IsSound, OnFile, kept_groups};
 ghost use Rattle.pqscan.specs.Parsed.{command_of};
-ghost use Rattle.pqscan.specs.Program.{cause_of_status, command_in, status_of_error, EndsBy, IsLegal, IsReportOf, IsReported, OnCommand};
+ghost use Rattle.pqscan.specs.Program.{cause_of_status, command_in, has_scanned, status_of_error, EndsBy, IsLegal, IsReportOf, IsReported, OnCommand, OnFileOf};
 ghost use Rattle.pqscan.specs.Written.{IsAppended, IsFrontAppended};
 
 use crate::command::{Asked, read_words};
@@ -51,6 +52,13 @@ pub fn run<S: Source, K: Sink, L: Ledger>(
     ensures scanned_front { result ≡ Status.Writing → IfSome (command_in words.now) (λ command.
         IsReportOf command (min (steps.new - steps.old) (2 ^ 64 - 1)) (IsFrontAppended (K.written out.old) (K.written out.new))) }
 
+    // Where statistics are true, no row that meets all bounds lies outside the runs in that report.
+    ensures sound { IsTrue (has_scanned result) → OnFileOf (command_in words.now) (S.told source.old) (λ command file. IsSound command.request file (kept_groups command.request file)) }
+
+    // What it costs.
+    ensures most_pages { IsTrue (has_scanned result) → OnFileOf (command_in words.now) (S.told source.old) (λ command file. steps.new ≤ steps.old + most_pages command.request file) }
+    ensures taken { IsTrue (has_scanned result) → OnFileOf (command_in words.now) (S.told source.old) (λ command file. S.taken source.new ≤ S.taken source.old + most_bytes command.request file) }
+
     // A run ends otherwise only where its cause is among those of the file; memory may run out at any time.
     ensures argument { result ≡ Status.Argument → OnCommand (command_in words.now) (S.told source.old) (λ command bytes. IsFalse (is_legal command.request (footer bytes))) }
     ensures cause { IfSome (cause_of_status result) (λ cause. OnCommand (command_in words.now) (S.told source.old) (λ command bytes. Contains (causes command.request bytes) cause)) }
@@ -92,6 +100,9 @@ fn text_for<S: Source, L: Ledger>(
         IsReported command bytes (min (steps.new - steps.old) (2 ^ 64 - 1)) (λ found. found ≡ text.items))) }
     ensures report { IfOk result (λ text. IfSome (command_in words.now) (λ command.
         IsReportOf command (min (steps.new - steps.old) (2 ^ 64 - 1)) (λ found. found ≡ text.items))) }
+    ensures sound { IfOk result (λ _. OnFileOf (command_in words.now) (S.told source.old) (λ command file. IsSound command.request file (kept_groups command.request file))) }
+    ensures most_pages { IfOk result (λ _. OnFileOf (command_in words.now) (S.told source.old) (λ command file. steps.new ≤ steps.old + most_pages command.request file)) }
+    ensures taken { IfOk result (λ _. OnFileOf (command_in words.now) (S.told source.old) (λ command file. S.taken source.new ≤ S.taken source.old + most_bytes command.request file)) }
     ensures argument { IfErr result (λ status. status ≡ Status.Argument → OnCommand (command_in words.now) (S.told source.old) (λ command bytes. IsFalse (is_legal command.request (footer bytes)))) }
     ensures cause { IfErr result (λ status. IfSome (cause_of_status status) (λ cause. OnCommand (command_in words.now) (S.told source.old) (λ command bytes. Contains (causes command.request bytes) cause))) }
     ensures legal_first { IfErr result (λ status. IfSome (cause_of_status status) (λ _. IfSome (command_in words.now) (λ command. OnFile (S.told source.old) (λ file. IsTrue (is_legal command.request (Some file.metadata)))))) }
@@ -122,6 +133,9 @@ fn scan_text<S: Source, L: Ledger>(
     ensures text { IfOk result (λ text. IfSome (S.told source.old) (λ bytes.
         IsReported (command_of asked.now) bytes (min (steps.new - steps.old) (2 ^ 64 - 1)) (λ found. found ≡ text.items))) }
     ensures report { IfOk result (λ text. IsReportOf (command_of asked.now) (min (steps.new - steps.old) (2 ^ 64 - 1)) (λ found. found ≡ text.items)) }
+    ensures sound { IfOk result (λ _. OnFile (S.told source.old) (λ file. IsSound (command_of asked.now).request file (kept_groups (command_of asked.now).request file))) }
+    ensures most_pages { IfOk result (λ _. OnFile (S.told source.old) (λ file. steps.new ≤ steps.old + most_pages (command_of asked.now).request file)) }
+    ensures taken { IfOk result (λ _. OnFile (S.told source.old) (λ file. S.taken source.new ≤ S.taken source.old + most_bytes (command_of asked.now).request file)) }
     ensures argument { IfErr result (λ e. IsTrue (is_invalid_argument e) → IfSome (S.told source.old) (λ bytes. IsFalse (is_legal (command_of asked.now).request (footer bytes)))) }
     ensures cause { IfErr result (λ e. IfSome (cause_of e) (λ cause. IfSome (S.told source.old) (λ bytes. Contains (causes (command_of asked.now).request bytes) cause))) }
     ensures io { IfErr result (λ e. e ≡ Error.Io → MayFail (S.faults source.old) (S.faults source.new)) }

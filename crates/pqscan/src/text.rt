@@ -1,45 +1,22 @@
 //! The program's text, written straight into one buffer.
-ghost use Rattle.std.specs.Prelude.{◌≡◌, ◌++◌, map, codes, flat_map, [], ◌∷◌, IfErr, IfOk, OnOk, slice_get};
+ghost use Rattle.std.specs.Prelude.{◌≡◌, ◌++◌, map, codes, flat_map, [], ◌∷◌, IfErr, IfOk, OnOk};
 ghost use Rattle.std.specs.Fmt.{signed_decimal};
 ghost use Rattle.std.specs.List.{enumerate_from, join_by, range_with_len};
-ghost use Rattle.std.specs.Option.{option_map_or};
 ghost use Rattle.columns_core.specs.Array.{column_of};
 ghost use Rattle.columns_core.specs.Causes.{IsWantOfMemory};
-ghost use Rattle.columns_core.specs.Column.{cell_of};
-ghost use Rattle.columns_core.specs.declared.cell.Cell.{Int};
 ghost use Rattle.parquet_scan.specs.Cells.{columns_of};
 ghost use Rattle.parquet_scan.specs.Scan.{kept_of};
 ghost use Rattle.pqscan.specs.CellText.{cell_text, hexadecimal, quoted_byte};
 ghost use Rattle.pqscan.specs.Report.{cell_at, chunk_lines, group_line, interval_text, intervals_text, report as report_by, row_line, summary_lines};
 
-use crate::number::{push_i32, push_signed, push_unsigned};
-use columns_core::{Array, Cell, Chunk, Error, PrimitiveArray};
+use crate::column::{push_lines, push_number};
+use crate::number::{push_signed, push_unsigned};
+use columns_core::{Array, Cell, Chunk, Error};
 use parquet_base::Interval;
 use parquet_scan::{GroupKept, Scan};
 use std::alloc::{AllocError, Global};
 
 const DIGITS: [u8; 16] = *b"0123456789abcdef";
-
-/// Writes a number of 32 bits or null at the end.
-fn push_number(
-    text: &mut Vec<u8>,
-    array: &PrimitiveArray<i32>,
-    row: usize,
-) -> Result<(), AllocError>
-    ensures { OnOk result (text.new.items ≡ text.old.items ++ option_map_or cell_text (slice_get (map (cell_of Int) array.now.items) row) []) }
-{
-    // A row behind the last has no cell.
-    if row >= array.len() {
-        return Ok(());
-    }
-    match array.get(row) {
-        None => {
-            text.extend_from_slice(b"null")?;
-            Ok(())
-        }
-        Some(value) => push_i32(text, value),
-    }
-}
 
 /// Writes the cell of a column in a row at the end.
 fn push_cell(alloc: Global, text: &mut Vec<u8>, array: &Array, row: usize) -> Result<(), Error>
@@ -224,7 +201,13 @@ fn push_chunk(alloc: Global, text: &mut Vec<u8>, chunk: &Chunk) -> Result<(), Er
     text.extend_from_slice(b"chunk ")?;
     push_unsigned(text, chunk.len())?;
     text.push(b'\n')?;
-    push_rows(alloc, text, chunk.arrays(), chunk.len())
+    match chunk.arrays() {
+        [Array::Int32(numbers)] => {
+            push_lines(text, numbers)?;
+            Ok(())
+        }
+        arrays => push_rows(alloc, text, arrays, chunk.len()),
+    }
 }
 
 fn push_rows(alloc: Global, text: &mut Vec<u8>, arrays: &[Array], rows: usize) -> Result<(), Error>

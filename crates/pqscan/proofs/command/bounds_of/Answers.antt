@@ -1,4 +1,4 @@
-use Rattle.std.proofs.Common.{◌≡◌, ap, sym, ◌∙◌, [], map, arith}
+use Rattle.std.proofs.Common.{ap, sym, ◌∙◌, [], map, arith}
 use Rattle.std.specs.Prelude.{string_bytes, None, if◌then◌else◌}
 use Rattle.std.proofs.lemmas.List.Folds.{list_all-map}
 use Rattle.pqscan.specs.Words.{all_bounds, names_field}

@@ -1,8 +1,8 @@
 use Rattle.std.proofs.Common.{◌≡◌, sym, ◌∙◌, ap, rules}
-use Rattle.std.specs.Prelude.{Some, None, option_and_then, if◌then◌else◌}
+use Rattle.std.specs.Prelude.{Some, None, if◌then◌else◌}
 use Rattle.columns_core.specs.declared.cell.Cell.{Int}
 use Rattle.pqscan.specs.Spelled.{signed_number}
-use Rattle.pqscan.specs.Numbers.{fits_i128, is_int32}
+use Rattle.pqscan.specs.Numbers.{is_int32}
 use Rattle.pqscan.proofs.NumberLemmas.{int32_fits, int32_spelled, int32_in}
 use Rattle.pqscan.proofs.command.int32_value.Goals as goal
 use mir.Val.{to_z, of_z}

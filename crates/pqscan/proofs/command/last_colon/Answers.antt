@@ -1,5 +1,4 @@
 use Rattle.std.proofs.Common.{◌≡◌, ◌-◌, ◌+◌, arith, sym, ◌∙◌, ap, drop}
-use Rattle.std.specs.Prelude.{None}
 use Rattle.std.proofs.Common.{eq-eqb}
 use Rattle.pqscan.specs.Words.{split_field}
 use Rattle.pqscan.proofs.SplitLemmas.{colon_at}

@@ -1,6 +1,5 @@
 use Rattle.std.proofs.Common.{inl, inr, refl, subst}
 use Rattle.std.specs.Prelude.{List, ℕ}
-use Rattle.parquet_base.specs.Failures.{MayFail}
 use Rattle.pqscan.specs.Program.{command_in}
 use Rattle.pqscan.specs.Written.{IsAppended, IsFrontAppended}
 use Rattle.pqscan.proofs.ScanLemmas.{always, no_command, of_report, of_text, passed_up}

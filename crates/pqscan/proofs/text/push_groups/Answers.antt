@@ -1,4 +1,3 @@
-use Rattle.std.proofs.Common.{arith}
 use Rattle.parquet_scan.specs.Scan.{kept_of}
 use Rattle.pqscan.specs.Report.{group_line}
 use Rattle.pqscan.proofs.ReportLemmas.{numbered_written}

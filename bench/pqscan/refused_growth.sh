@@ -1,0 +1,44 @@
+#!/bin/sh
+# Runs pqscan with each of its allocations refused in turn, on a file of 5 rows, on one of 45,000 in three groups and on the same with page
+# indexes. Each run must end for want of memory and write nothing, or, where a smaller block was enough, write the whole text. Proves and
+# builds pqscan first where that is not done yet. Usage: bench/pqscan/refused_growth.sh [FOLDER]
+set -eu
+here=$(cd "$(dirname "$0")" && pwd)
+top=$(cd "$here/../.." && pwd)
+work=${1:-$(mktemp -d)}
+mkdir -p "$work"
+pqscan=$top/crates/pqscan/out/pqscan
+five=$top/crates/pqscan/data/f1.parquet
+python3 "$here/inputs.py" "$work/plain.parquet" 45000
+python3 "$here/inputs.py" "$work/indexed.parquet" 45000 indexed
+${CC:-cc} -O1 -shared -fPIC "$here/refuse.c" -o "$work/refuse.so" -ldl
+"$top/pqscan" "$five" a:Int32 >/dev/null
+
+OUT_OF_MEMORY=10
+
+# refuse_each WORD..: one run of the words for each allocation that they take.
+refuse_each() {
+    COUNT=$work/count LD_PRELOAD=$work/refuse.so "$pqscan" "$@" >"$work/whole"
+    count=$(cat "$work/count")
+    ended=0
+    went_on=0
+    number=1
+    while [ "$number" -le "$count" ]; do
+        status=0
+        REFUSE=$number LD_PRELOAD=$work/refuse.so "$pqscan" "$@" >"$work/written" 2>/dev/null || status=$?
+        if [ "$status" -eq "$OUT_OF_MEMORY" ] && [ ! -s "$work/written" ]; then
+            ended=$((ended + 1))
+        elif [ "$status" -eq 0 ] && cmp -s "$work/written" "$work/whole"; then
+            went_on=$((went_on + 1))
+        else
+            echo "allocation $number of $count refused: status $status, $(wc -c <"$work/written") bytes: $*" >&2
+            exit 1
+        fi
+        number=$((number + 1))
+    done
+    echo "$count allocations: $ended ended the run with nothing written, $went_on did without: $*"
+}
+
+refuse_each "$five" a:Int32 'a>=12' 'a<=18'
+refuse_each "$work/plain.parquet" a:Int32
+refuse_each "$work/indexed.parquet" a:Int32 'a>=30000' 'a<=33000'
