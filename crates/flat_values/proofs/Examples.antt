@@ -1,9 +1,16 @@
 -- Values and pairs, computed.
-use Rattle.std.specs.Prelude.{◌≡◌, pos, negsuc, true, false, [], ◌∷◌, Option, Some, None, is_some, refl, option_map}
+use Rattle.std.specs.Prelude.{◌≡◌, ℕ, List, pos, negsuc, true, false, [], ◌∷◌, Option, Some, None, is_some, refl, option_map}
 use Rattle.std.specs.Int.{int_wrap}
 use denote.Hole.Carrier
 use Rattle.parquet_base.specs.Bytes.{little_endian}
-use Rattle.columns_core.specs.declared.cell.Cell.{Int, DaysMs}
+use Rattle.parquet_base.specs.Intervals.{interval}
+use Rattle.parquet_base.specs.Varint.{varint, varint_within}
+use Rattle.parquet_base.specs.declared.interval.Interval.{Interval}
+use Rattle.parquet_encoding.specs.Bits.{packed}
+use Rattle.parquet_encoding.specs.Hybrid.{hybrid, runs, first_run}
+use Rattle.parquet_encoding.specs.Plain.{first_string, plain_fixed}
+use Rattle.columns_core.specs.Causes.{OutOfSpec}
+use Rattle.columns_core.specs.declared.cell.Cell.{Int, DaysMs, Null}
 use Rattle.columns_core.specs.declared.data_type.DataType as type
 use Rattle.columns_core.specs.declared.data_type.IntegerType.TheVariants as key
 use Rattle.columns_core.specs.declared.data_type.TimeUnit.TheVariants.{Second, Nanosecond}
@@ -14,9 +21,17 @@ use Rattle.parquet_meta.specs.declared.metadata.PrimitiveType.{PrimitiveType}
 use Rattle.parquet_meta.specs.declared.metadata.PrimitiveLogicalType.{PrimitiveLogicalType}
 use Rattle.parquet_meta.specs.declared.metadata.PrimitiveLogicalType.TheVariants.{Timestamp}
 use Rattle.parquet_meta.specs.declared.metadata.ParquetTimeUnit.TheVariants.{Milliseconds, Nanoseconds}
-use Rattle.parquet_meta.specs.declared.metadata.Repetition.TheVariants.{Required, Repeated}
+use Rattle.parquet_meta.specs.declared.metadata.Repetition.TheVariants.{Required, Optional, Repeated}
+use Rattle.parquet_meta.specs.declared.page_header.DataPageHeader.TheVariants.{V1}
+use Rattle.parquet_page.specs.Content.{DataContent}
+use Rattle.parquet_page.specs.Levels.{prefixed_parts, presence}
+use Rattle.parquet_page.specs.Opened.{page_causes}
+use Rattle.parquet_page.specs.Spelling.{page_keys, places_and_values, spelled}
 use Rattle.parquet_page.specs.Stored.{Stored, Number, Words, Octets}
+use Rattle.parquet_page.specs.Values.{dictionary_keys, plain_values}
+use Rattle.column_values.specs.Outcome.{Given, Refused}
 use Rattle.flat_values.specs.Conversion.{Item, Value, NotInRange, Keep, convert}
+use Rattle.flat_values.specs.Outcomes.{place_outcomes, selected_outcomes, value_outcomes}
 use Rattle.flat_values.specs.Pairs.{entry_from_physical, conversion}
 use Rattle.flat_values.specs.Units.{unit_factor}
 
@@ -103,3 +118,38 @@ repeated_nulls = refl
 dictionary_of_dictionaries : entry_from_physical Int32 None (type.out-DataType (type.Dictionary key.UInt8 type.Int32 false)) ≡ None
 unfolding type.out-DataType denote.Hole.Carrier.out
 dictionary_of_dictionaries = refl
+
+-- ---- places of a page
+
+-- a page of the first form of an optional INT32, of four values, with these rows selected
+abbrev optional_page : ℕ → List ℕ → Option (List Interval) → DataContent
+optional_page encoding body selected = record {
+  header = V1 4 (pos encoding) (pos 3);
+  body = body;
+  type = record { physical_type = Int32; logical_type = None; repetition = Optional };
+  selected = selected;
+}
+
+abbrev plain_body : List ℕ
+plain_body = 2 ∷ 0 ∷ 0 ∷ 0 ∷ 0x03 ∷ 0x0D ∷ 7 ∷ 0 ∷ 0 ∷ 0 ∷ 8 ∷ 0 ∷ 0 ∷ 0 ∷ 9 ∷ 0 ∷ 0 ∷ 0 ∷ []
+
+whole_page : selected_outcomes Keep None (optional_page 0 plain_body None) ≡ Given (Int (pos 7)) ∷ Given Null ∷ Given (Int (pos 8)) ∷ Given (Int (pos 9)) ∷ []
+unfolding selected_outcomes place_outcomes value_outcomes page_causes spelled places_and_values prefixed_parts presence first_string plain_values plain_fixed hybrid runs first_run varint varint_within packed little_endian
+whole_page = refl
+
+second_and_third : selected_outcomes Keep None (optional_page 0 plain_body (Some (interval 1 2 ∷ []))) ≡ Given Null ∷ Given (Int (pos 8)) ∷ []
+unfolding selected_outcomes place_outcomes value_outcomes page_causes spelled places_and_values prefixed_parts presence first_string plain_values plain_fixed hybrid runs first_run varint varint_within packed little_endian
+second_and_third = refl
+
+-- keys of two bits: 1, 0 and 1
+abbrev key_body : List ℕ
+key_body = 2 ∷ 0 ∷ 0 ∷ 0 ∷ 0x03 ∷ 0x0D ∷ 2 ∷ 3 ∷ 0x11 ∷ 0 ∷ []
+
+named_entries : selected_outcomes Keep (Some (Int (pos 5) ∷ Int (pos 6) ∷ [])) (optional_page 8 key_body None) ≡ Given (Int (pos 6)) ∷ Given Null ∷ Given (Int (pos 5)) ∷ Given (Int (pos 6)) ∷ []
+unfolding selected_outcomes place_outcomes value_outcomes page_causes page_keys places_and_values prefixed_parts presence first_string dictionary_keys hybrid runs first_run varint varint_within packed little_endian
+named_entries = refl
+
+-- where the dictionary has one entry alone, the key 1 is past it, whatever rows are selected
+past_entries : selected_outcomes Keep (Some (Int (pos 5) ∷ [])) (optional_page 8 key_body (Some (interval 2 1 ∷ []))) ≡ Refused (OutOfSpec ∷ []) ∷ []
+unfolding selected_outcomes place_outcomes value_outcomes page_causes page_keys places_and_values prefixed_parts presence first_string dictionary_keys hybrid runs first_run varint varint_within packed little_endian
+past_entries = refl

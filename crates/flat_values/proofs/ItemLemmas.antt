@@ -10,7 +10,7 @@ use Rattle.std.proofs.lemmas.List.FromFn.{fill_by_all}
 use Rattle.columns_core.specs.Fixed.{pieces}
 use Rattle.flat_values.specs.FixedItems.{FixedItems}
 
-length-chunks : (size n : ℕ) (bytes : List ℕ) → length (first_chunks size n bytes) ≡ n
+pub length-chunks : (size n : ℕ) (bytes : List ℕ) → length (first_chunks size n bytes) ≡ n
 length-chunks size zero bytes = refl
 length-chunks size (suc n) bytes = ap suc (length-chunks size n (drop size bytes))
 
@@ -22,7 +22,7 @@ chunk_at size (suc n) (suc k) bytes lt =
     chunk_at size n k (drop size bytes) (omega (arith, lt)) ∙ ap (take size) (drop-drop (k * size) size bytes ∙ ap (λ m. drop m bytes) place)
 
 -- pieces, one behind the other
-pieces-chunks : (size : ℕ) (bytes : List ℕ) → pieces size bytes ≡ first_chunks size (length bytes / size) bytes
+pub pieces-chunks : (size : ℕ) (bytes : List ℕ) → pieces size bytes ≡ first_chunks size (length bytes / size) bytes
 pieces-chunks size bytes =
     let count = length bytes / size in
     sym (fill_by_all (λ i. take size (drop (i * size) bytes)) (first_chunks size count bytes) count [] (length-chunks size count bytes) (λ k lt. chunk_at size count k bytes lt))

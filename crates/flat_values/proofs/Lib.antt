@@ -3,7 +3,21 @@ mod OrderLemmas
 mod ExtendLemmas
 mod NumberLemmas
 mod ItemLemmas
+mod CountLemmas
+pub mod DecodedLemmas
+pub mod OutcomeLemmas
+pub mod TruthLemmas
+pub mod NullLemmas
+pub mod KeyLemmas
+pub mod AddedLemmas
+pub mod TakeLemmas
+pub mod PlainTakes
+pub mod NumberPlaces
+pub mod FixedPlaceLemmas
+mod FlatLemmas
+pub mod AgreementLemmas
 pub mod PageLemmas
 pub mod PlainLemmas
 pub mod EndLemmas
 pub mod Examples
+pub mod ReaderLemmas

@@ -1,26 +1,16 @@
 -- Plain numbers by their own bytes.
-use Rattle.std.proofs.Common.{◌≡◌, ℕ, suc, ◌+◌, ◌*◌, ◌/◌, ◌<◌, ◌≤◌, List, length, take, drop, map, get_or, sym, ap, subst, ◌∙◌, arith}
-use Rattle.std.specs.Prelude.{◌==◌, Some, option_map, Contains}
-use Rattle.std.specs.Int.{w64, from_le_bytes}
+use Rattle.std.proofs.Common.{◌≡◌, ℕ, ℤ, ◌*◌, ◌/◌, ◌<◌, true, List, [], length, map, refl, sym, ap, ◌∙◌, arith}
+use Rattle.std.specs.Prelude.{◌==◌, Option, Some, None, Result, Ok, Err, IfOk, is_ok, is_some, option_map, unwrap_or}
 use Rattle.std.specs.Simd.{first_chunks}
 use Rattle.std.proofs.Math.Nat.{mul-div_cancel}
-use Rattle.std.proofs.lemmas.Bool.{eqb-true}
-use Rattle.std.proofs.lemmas.List.{drop_all, get_or-map, length-map, take_all}
-use Rattle.std.proofs.lemmas.Simd.{map-map}
-use Rattle.parquet_base.specs.Bytes.{little_endian}
-use Rattle.parquet_base.proofs.BytesLemmas.{little_endian-none, little_endian-step}
+use Rattle.std.proofs.lemmas.Bool.{eqb-true, true≢false}
 use Rattle.parquet_encoding.proofs.StepLemmas.{given_some}
+use Rattle.parquet_encoding.specs.DeltaBinary.{delta_binary}
+use Rattle.parquet_encoding.specs.DeltaLeft.{delta_left, numbers}
 use Rattle.parquet_encoding.specs.Plain.{plain_fixed}
+use Rattle.parquet_encoding.specs.declared.delta_binary.DeltaBinary.{DeltaBinary}
 use Rattle.parquet_page.specs.Stored.{Stored}
-use Rattle.flat_values.specs.Conversion.{Item, NotInRange}
 use Rattle.flat_values.proofs.PageLemmas.{mapped}
-
--- eight bytes as the machine reads them
-pub eight_bytes : (bytes : List ℕ) → length bytes ≡ 8 → from_le_bytes w64 bytes ≡ little_endian bytes
-eight_bytes bytes long =
-    let s : (n : ℕ) → little_endian (drop n bytes) ≡ get_or bytes n 0 + 256 * little_endian (drop (suc n) bytes) = little_endian-step bytes in
-    let rest : little_endian (drop 8 bytes) ≡ 0 = ap little_endian (drop_all 8 bytes (omega arith)) ∙ little_endian-none in
-    omega (arith, s 0, s 1, s 2, s 3, s 4, s 5, s 6, s 7)
 
 -- the pieces of plain values of one size spell them
 pub pieces_spell : (size : ℕ) → 0 < size → (f : List ℕ → Stored) (bytes : List ℕ) (count : ℕ) (values : List Stored) → option_map (map f) (plain_fixed size bytes count) ≡ Some values →
@@ -32,17 +22,17 @@ pieces_spell size pos f bytes count values e =
     let number : length bytes / size ≡ count = ap (λ n. n / size) (eqb-true (length bytes) (count * size) test.0) ∙ mul-div_cancel count pos in
     ap (λ n. map f (first_chunks size n bytes)) number ∙ ap (map f) test.1 ∙ q)
 
--- ---- one piece after another
+-- ---- whether there are values
 
-module _ {B : Type 0} (rule : Stored → Item) (plain : B → Stored) (pieces : List B) (stored : List Stored) (all : map plain pieces ≡ stored) where
-  -- behind the last piece all values are converted
-  pub all_converted : (i : ℕ) → length pieces ≤ i → map (λ b. rule (plain b)) (take i pieces) ≡ map rule stored
-  all_converted i enough = ap (map (λ b. rule (plain b))) (take_all i pieces enough) ∙ sym (map-map rule plain pieces) ∙ ap (map rule) all
+pub is_some-map : {A B : Type 0} (f : A → B) (o : Option A) → is_some (option_map f o) ≡ is_some o
+is_some-map f None = refl
+is_some-map f (Some x) = refl
 
-  -- a piece that is not in range is one of the values
-  pub one_refused : (i : ℕ) (piece : B) (x : Stored) → i < length pieces → piece ≡ get_or pieces i piece → x ≡ plain piece → rule x ≡ NotInRange → Contains (map rule stored) NotInRange
-  one_refused i piece x lt here is refused =
-      let inner : i < length (map plain pieces) = subst (λ n. i < n) (sym (length-map pieces plain)) lt in
-      let outer : i < length (map rule (map plain pieces)) = subst (λ n. i < n) (sym (length-map (map plain pieces) rule)) inner in
-      let own : get_or (map plain pieces) i (plain piece) ≡ x = get_or-map plain pieces i piece (plain piece) lt ∙ ap plain (sym here) ∙ sym is in
-      subst (λ l. Contains (map rule l) NotInRange) all (i, outer, get_or-map rule (map plain pieces) i (plain piece) NotInRange inner ∙ ap rule own ∙ refused)
+-- what packed deltas spell, where there are any
+pub deltas_open : {E : Type 0} (f : ℤ → Stored) (result : Result DeltaBinary E) (bytes : List ℕ) (count : ℕ) → is_ok result ≡ is_some (delta_binary count bytes)
+    → IfOk result (λ deltas. delta_left deltas bytes ≡ option_map (λ read. read.0) (delta_binary count bytes)) → IfOk result (λ deltas. option_map (λ read. map f read.0) (delta_binary count bytes) ≡ Some (map f (numbers deltas bytes)))
+deltas_open f (Err e) bytes count exact left = tt
+deltas_open f (Ok deltas) bytes count exact left = go (delta_binary count bytes) exact left where
+  go : (o : Option (List ℤ × List ℕ)) → true ≡ is_some o → delta_left deltas bytes ≡ option_map (λ read. read.0) o → option_map (λ read. map f read.0) o ≡ Some (map f (numbers deltas bytes))
+  go None e left = absurd (true≢false e)
+  go (Some read) e left = ap (λ o. Some (map f (unwrap_or o []))) (sym left)

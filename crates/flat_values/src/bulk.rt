@@ -1,9 +1,10 @@
 //! Many values at once.
-ghost use Rattle.std.specs.Prelude.{◌≡◌, ◌⊎◌, ℕ, List, ◌++◌, map, Some, Contains, IfErr, OnOk};
-ghost use Rattle.columns_core.specs.Causes.{IsWantOfMemory};
-ghost use Rattle.parquet_page.specs.Stored.{Stored};
-ghost use Rattle.parquet_page.specs.Values.{plain_values};
-ghost use Rattle.flat_values.specs.Conversion.{Value, NotInRange, convert};
+ghost use Rattle.std.specs.Prelude.{◌≡◌, ◌++◌, map, OnOk};
+ghost use Rattle.columns_core.specs.Causes.{ComesOf};
+ghost use Rattle.column_values.specs.Outcome.{causes_in};
+ghost use Rattle.flat_values.specs.Added.{Adds};
+ghost use Rattle.flat_values.specs.Conversion.{Value, convert};
+ghost use Rattle.flat_values.specs.Outcomes.{stored_outcome};
 
 use crate::{Convert, ConvertAll, ParquetNativeType};
 use columns_core::{Error, NativeType};
@@ -20,34 +21,64 @@ pub fn extend_converted<P: ParquetNativeType, T: NativeType, C: ConvertAll<P, T>
     values.extend(stored.iter().map(move |x| rule.apply(*x)))
 }
 
-/// Plain values converted, behind those that are there. Nothing is said where the bytes are no plain values.
+/// Plain values converted, behind the numbers that are there.
 pub fn extend_plain<P: ParquetNativeType, T: NativeType, C: ConvertAll<P, T>>(
     values: &mut Vec<T>,
     rule: C,
-    bytes: &[u8],
+    pieces: &[P::Bytes],
 ) -> Result<(), AllocError>
-    ensures { (count : ℕ) (stored : List Stored) → plain_values P.physical bytes.now count ≡ Some stored → OnOk result (map (λ y. Value (T.cell y)) values.new.items ≡ map (λ y. Value (T.cell y)) values.old.items ++ map (convert (C.rule rule)) stored) }
+    ensures { OnOk result (Adds T.cell values.old.items values.new.items (map (λ piece. stored_outcome (C.rule rule) (P.plain piece)) pieces.now)) }
 {
     values.extend(
-        P::plain_pieces(bytes)
+        pieces
             .iter()
             .map(move |piece| rule.apply(P::from_plain(*piece))),
     )
 }
 
-/// Plain values converted, behind those that are there, by any conversion. After a refusal some of them may be there.
+/// Values by packed deltas converted, behind the numbers that are there.
+pub fn extend_deltas<P: ParquetNativeType, T: NativeType, C: ConvertAll<P, T>>(
+    values: &mut Vec<T>,
+    rule: C,
+    numbers: &[i64],
+) -> Result<(), AllocError>
+    ensures { OnOk result (Adds T.cell values.old.items values.new.items (map (λ number. stored_outcome (C.rule rule) (P.delta number)) numbers.now)) }
+{
+    values.extend(
+        numbers
+            .iter()
+            .map(move |number| rule.apply(P::from_delta(*number))),
+    )
+}
+
+/// Plain values converted by any conversion, behind the numbers that are there. After a refusal some of them may be there.
 pub fn try_extend_plain<P: ParquetNativeType, T: NativeType, C: Convert<P, T>>(
     values: &mut Vec<T>,
     rule: C,
-    bytes: &[u8],
+    pieces: &[P::Bytes],
 ) -> Result<(), Error>
-    ensures ok { (count : ℕ) (stored : List Stored) → plain_values P.physical bytes.now count ≡ Some stored → OnOk result (map (λ y. Value (T.cell y)) values.new.items ≡ map (λ y. Value (T.cell y)) values.old.items ++ map (convert (C.rule rule)) stored) }
-    ensures err { (count : ℕ) (stored : List Stored) → plain_values P.physical bytes.now count ≡ Some stored → IfErr result (λ e. IsWantOfMemory e ⊎ ((e ≡ Error.Overflow) × Contains (map (convert (C.rule rule)) stored) NotInRange)) }
+    ensures added { OnOk result (Adds T.cell values.old.items values.new.items (map (λ piece. stored_outcome (C.rule rule) (P.plain piece)) pieces.now)) }
+    ensures cause { ComesOf result (causes_in (map (λ piece. stored_outcome (C.rule rule) (P.plain piece)) pieces.now)) }
 {
-    let pieces = P::plain_pieces(bytes);
     values.reserve(pieces.len())?;
     for piece in pieces {
         values.push(rule.convert(P::from_plain(*piece))?)?;
+    }
+    Ok(())
+}
+
+/// Values by packed deltas converted by any conversion, behind the numbers that are there. After a refusal some of them may be there.
+pub fn try_extend_deltas<P: ParquetNativeType, T: NativeType, C: Convert<P, T>>(
+    values: &mut Vec<T>,
+    rule: C,
+    numbers: &[i64],
+) -> Result<(), Error>
+    ensures added { OnOk result (Adds T.cell values.old.items values.new.items (map (λ number. stored_outcome (C.rule rule) (P.delta number)) numbers.now)) }
+    ensures cause { ComesOf result (causes_in (map (λ number. stored_outcome (C.rule rule) (P.delta number)) numbers.now)) }
+{
+    values.reserve(numbers.len())?;
+    for number in numbers {
+        values.push(rule.convert(P::from_delta(*number))?)?;
     }
     Ok(())
 }

@@ -1,10 +1,16 @@
 //! Byte strings of one size, in one vector that grows.
-ghost use Rattle.std.specs.Prelude.{◌≡◌, ◌<◌, ◌+◌, ◌*◌, ◌%◌, ◌^◌, ◌++◌, [], ◌∷◌, length, replicate, IfOk, IfErr, OnOk};
+ghost use Rattle.std.specs.Prelude.{◌≡◌, ◌<◌, ◌+◌, ◌*◌, ◌%◌, ◌≤◌, ◌^◌, ◌++◌, IsTrue, [], ◌∷◌, None, length, take, drop, replicate, slice_get, option_copied, IfOk, IfErr, IfSome, OnOk};
 ghost use Rattle.std.specs.List.{concat};
-ghost use Rattle.columns_core.specs.Causes.{IsWantOfMemory};
+ghost use Rattle.columns_core.specs.Causes.{IsWantOfMemory, is_invalid_argument};
+ghost use Rattle.columns_core.specs.ElementType.{fixed_size};
 ghost use Rattle.columns_core.specs.Fixed.{pieces};
+ghost use Rattle.column_values.specs.Column.{DataPagesAre};
+ghost use Rattle.column_values.specs.Queue.{IsChunkSize};
+ghost use Rattle.parquet_meta.specs.declared.metadata.PhysicalType.TheVariants.{FixedLenByteArray};
 
-use columns_core::Error;
+use crate::{ArrayIter, FixedValues};
+use columns_core::{DataType, Error, Part};
+use parquet_page::Pages;
 use std::alloc::Global;
 use std::marker::Model;
 
@@ -50,9 +56,20 @@ impl FixedSizeBinary {
         self.values.as_slice()
     }
 
+    /// The bytes of all items, joined.
+    pub fn into_values(self) -> Vec<u8>
+        ensures items { pieces self.size result.items ≡ self.items }
+        ensures whole { length result.items % self.size ≡ 0 }
+        ensures size { 0 < self.size }
+    {
+        let FixedSizeBinary { values, size: _ } = self;
+        values
+    }
+
     /// How many bytes each item has.
     pub fn size(&self) -> usize
-        ensures { result ≡ self.now.size }
+        ensures size { result ≡ self.now.size }
+        ensures some { 0 < result }
     {
         self.size
     }
@@ -62,6 +79,18 @@ impl FixedSizeBinary {
         ensures { result ≡ length self.now.items }
     {
         self.values.len() / self.size
+    }
+
+    /// The item at a place, if there is one.
+    pub fn get(&self, i: usize) -> Option<&[u8]>
+        ensures item { option_copied result ≡ slice_get self.now.items i }
+        ensures size { IfSome result (λ item. length item.now ≡ self.now.size) }
+    {
+        if i < self.len() {
+            Some(item_at(self.values.as_slice(), self.size, i))
+        } else {
+            None
+        }
     }
 
     pub fn push(&mut self, value: &[u8]) -> Result<(), Error>
@@ -102,6 +131,13 @@ impl FixedSizeBinary {
     }
 }
 
+fn item_at(bytes: &[u8], size: usize, i: usize) -> &[u8]
+    requires { i * size + size ≤ length bytes.now }
+    ensures { result.now ≡ take size (drop (i * size) bytes.now) }
+{
+    &bytes[i * size..][..size]
+}
+
 /// The number of bytes with so many items more. Bytes that no memory can hold are told of as want of memory.
 fn length_with(bytes: usize, additional: usize, size: usize) -> Result<usize, Error>
     ensures ok { IfOk result (λ sum. sum ≡ bytes + additional * size) }
@@ -113,5 +149,38 @@ fn length_with(bytes: usize, additional: usize, size: usize) -> Result<usize, Er
             None => Err(Error::OutOfMemory),
             Some(sum) => Ok(sum),
         },
+    }
+}
+
+/// Arrays of byte strings of one size.
+pub type Iter<I> = ArrayIter<I, FixedValues>;
+
+impl<I: Pages> ArrayIter<I, FixedValues> {
+    /// The rows of these pages, at most so many.
+    pub fn new(
+        alloc: Global,
+        iter: I,
+        data_type: DataType,
+        num_rows: usize,
+        chunk_size: Option<usize>,
+    ) -> Result<Self, Error>
+        requires takes { DataPagesAre (λ page. page.type.physical_type ≡ FixedLenByteArray (fixed_size data_type)) (I.to_come iter) }
+        ensures ok { IfOk result (λ _. IsChunkSize chunk_size × (0 < fixed_size data_type)) }
+        ensures err { IfErr result (λ e. IsTrue (is_invalid_argument e) × (IsChunkSize chunk_size → 0 < fixed_size data_type → ⊥)) }
+        ensures values { IfOk result (λ arrays. arrays.chunks.decoder.values.size ≡ fixed_size data_type) }
+        ensures iter { IfOk result (λ arrays. arrays ≡ record { data_type = data_type; chunks = record { pages = iter; decoder = arrays.chunks.decoder; size = chunk_size; waiting = []; remaining = num_rows; dictionary = None } }) }
+    {
+        let size = match &data_type {
+            DataType::FixedSizeBinary(size) if *size > 0 => *size,
+            _ => return Err(Error::InvalidArgumentError(Part::Request)),
+        };
+        Self::of_values(
+            alloc,
+            iter,
+            FixedValues::new(size),
+            data_type,
+            num_rows,
+            chunk_size,
+        )
     }
 }

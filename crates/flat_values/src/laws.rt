@@ -1,6 +1,7 @@
 //! Laws of the definitions.
 ghost use Rattle.flat_values.specs.Sound.{ConvertsToType, EndsAreStored, PageHasType};
 ghost use Rattle.flat_values.specs.Order.{KeepsOrder};
+ghost use Rattle.flat_values.specs.Agreement.{PlacesGiveItems};
 
 /// A converted item is null or a value of the type that is asked for.
 pub fn items_are_of_the_type()
@@ -20,4 +21,9 @@ pub fn ends_are_stored_values()
 /// Of two timestamps that have values in a unit, the later one has no earlier value.
 pub fn timestamps_keep_their_order()
     ensures { KeepsOrder }
+{}
+
+/// Where nothing is wrong with a page, its places give what its items are.
+pub fn places_give_items()
+    ensures { PlacesGiveItems }
 {}

@@ -103,7 +103,7 @@ impl Convert<i64, u32> for Narrow {
 
 impl ConvertAll<i64, u32> for Narrow {
     fn apply(&self, x: i64) -> u32 {
-        (x & 0xffff_ffff) as u32
+        low_word(x)
     }
 }
 
@@ -133,4 +133,10 @@ fn low_half(x: i32) -> u16
     ensures { pos result ≡ low_bits 16 x }
 {
     (x & 0xffff) as u16
+}
+
+pub(crate) fn low_word(x: i64) -> u32
+    ensures { pos result ≡ low_bits 32 x }
+{
+    (x & 0xffff_ffff) as u32
 }

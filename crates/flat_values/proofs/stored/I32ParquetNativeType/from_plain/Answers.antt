@@ -1,7 +1,7 @@
 use Rattle.std.proofs.Common.{◌∙◌, ap, arith}
 use Rattle.std.specs.Int.{cast_signed, w32}
 use Rattle.std.proofs.lemmas.Int.{to_z-of_z}
-use Rattle.parquet_encoding.proofs.BitsLemmas.{four_bytes}
+use Rattle.parquet_base.proofs.BytesLemmas.{four_bytes}
 use Rattle.parquet_page.specs.Stored.{Number}
 use Rattle.flat_values.proofs.stored.I32ParquetNativeType.from_plain.Goals as goal
 

@@ -2,7 +2,7 @@ use Rattle.std.proofs.Common.{◌∙◌, ap, arith}
 use Rattle.std.specs.Int.{cast_signed, w64}
 use Rattle.std.proofs.lemmas.Int.{to_z-of_z}
 use Rattle.parquet_page.specs.Stored.{Number}
-use Rattle.flat_values.proofs.PlainLemmas.{eight_bytes}
+use Rattle.parquet_base.proofs.BytesLemmas.{eight_bytes}
 use Rattle.flat_values.proofs.stored.I64ParquetNativeType.from_plain.Goals as goal
 
 pub returns : goal.returns

@@ -1,0 +1,11 @@
+use Rattle.std.proofs.Common.{◌≡◌, ℕ, ap, sym, subst, ◌∙◌}
+use Rattle.columns_core.specs.ElementType.{fixed_size}
+use Rattle.column_values.specs.Column.{DataPagesAre}
+use Rattle.parquet_meta.specs.declared.metadata.PhysicalType.TheVariants.{FixedLenByteArray}
+use Rattle.flat_values.proofs.fixed_size_binary.ArrayIter+I+FixedValues.new.Goals as goal
+
+pub of_values-requires : goal.of_values-requires
+of_values-requires g c =
+    let same : fixed_size c.args.data_type ≡ c.new.result.size = ap fixed_size c.in-FixedSizeBinary.is ∙ sym c.new.ensures in
+    let P : ℕ → Type 0 = λ n. DataPagesAre (λ page. page.type.physical_type ≡ FixedLenByteArray n) (g.I.Pages.to_come c.args.iter) in
+    record { takes = subst P same c.requires.takes }

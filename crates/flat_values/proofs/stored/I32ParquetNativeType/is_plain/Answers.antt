@@ -1,0 +1,9 @@
+use Rattle.std.proofs.Common.{◌∙◌, sym, map}
+use Rattle.parquet_encoding.specs.Plain.{plain_fixed}
+use Rattle.parquet_page.specs.Values.{int32_of, plain_values}
+use Rattle.flat_values.proofs.PlainLemmas.{is_some-map}
+use Rattle.flat_values.proofs.stored.I32ParquetNativeType.is_plain.Goals as goal
+
+pub returns : goal.returns
+unfolding plain_values
+returns c = c.are_values.ensures ∙ sym (is_some-map (map int32_of) (plain_fixed 4 c.args.bytes.now c.args.count))

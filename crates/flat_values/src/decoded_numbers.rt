@@ -1,0 +1,80 @@
+//! Numbers that were decoded, and which of them are null.
+ghost use Rattle.std.specs.Prelude.{◌≡◌, ◌++◌, [], IsTrue, replicate, IfOk, IfErr, OnOk};
+ghost use Rattle.columns_core.specs.declared.cell.Cell.{Null};
+ghost use Rattle.columns_core.specs.Causes.{IsWantOfMemory, is_invalid_argument};
+ghost use Rattle.flat_values.specs.Decoded.{IsMaskFor, marked, marked_cells};
+
+use crate::validity::{freeze_mask, mark_nulls};
+use column_values::DecodedState;
+use columns_core::{
+    DataType, Error, MutableBitmap, MutablePrimitiveArray, NativeType, PrimitiveArray,
+};
+use std::alloc::Global;
+
+/// Decoded numbers. The mask is empty until the first null, which stands on 0.
+#[derive(Drop)]
+pub struct DecodedNumbers<T> {
+    pub(crate) values: Vec<T>,
+    pub(crate) validity: MutableBitmap,
+}
+
+impl<T: NativeType> DecodedState for DecodedNumbers<T> {
+    ghost shown = { λ decoded. marked_cells T.cell decoded.values.items decoded.validity };
+
+    fn len(&self) -> usize {
+        self.values.len()
+    }
+}
+
+impl<T: NativeType + Default> DecodedNumbers<T> {
+    /// No numbers, with memory for so many.
+    pub(crate) fn with_capacity(alloc: Global, capacity: usize) -> Result<Self, Error>
+        ensures values { IfOk result (λ decoded. decoded.values.items ≡ []) }
+        ensures validity { IfOk result (λ decoded. decoded.validity ≡ []) }
+        ensures memory { IfErr result IsWantOfMemory }
+    {
+        Ok(DecodedNumbers {
+            values: Vec::with_capacity(alloc, capacity)?,
+            validity: MutableBitmap::with_capacity(alloc, 0)?,
+        })
+    }
+
+    /// Appends so many nulls.
+    pub(crate) fn push_nulls(&mut self, count: usize) -> Result<(), Error>
+        requires own { IsMaskFor self.old.values.items self.old.validity }
+        ensures cells { OnOk result (marked_cells T.cell self.new.values.items self.new.validity ≡ marked_cells T.cell self.old.values.items self.old.validity ++ replicate count Null) }
+        ensures own { OnOk result (IsMaskFor self.new.values.items self.new.validity) }
+        ensures memory { IfErr result IsWantOfMemory }
+    {
+        let held = self.values.len();
+        let Some(all) = held.checked_add(count) else {
+            return Err(Error::OutOfMemory);
+        };
+        self.values.resize(all, T::default())?;
+        mark_nulls(&mut self.validity, held, count)
+    }
+}
+
+impl<T: NativeType> DecodedNumbers<T> {
+    /// The array of these numbers, where the type stores them.
+    pub fn into_array(self, data_type: DataType) -> Result<PrimitiveArray<T>, Error>
+        requires { IsMaskFor self.values.items self.validity }
+        ensures array { IfOk result (λ array. array ≡ record { data_type = data_type; items = marked self.values.items self.validity }) }
+        ensures ok { IfOk result (λ _. IsTrue (T.stores data_type)) }
+        ensures err { IfErr result (λ e. IsTrue (is_invalid_argument e) × (IsTrue (T.stores data_type) → ⊥)) }
+    {
+        let DecodedNumbers { values, validity } = self;
+        PrimitiveArray::try_new(data_type, values, freeze_mask(validity))
+    }
+
+    /// The array of these numbers, where the type stores them, still being made.
+    pub fn into_mutable(self, data_type: DataType) -> Result<MutablePrimitiveArray<T>, Error>
+        requires { IsMaskFor self.values.items self.validity }
+        ensures array { IfOk result (λ array. array ≡ record { data_type = data_type; items = marked self.values.items self.validity }) }
+        ensures ok { IfOk result (λ _. IsTrue (T.stores data_type)) }
+        ensures err { IfErr result (λ e. IsTrue (is_invalid_argument e) × (IsTrue (T.stores data_type) → ⊥)) }
+    {
+        let DecodedNumbers { values, validity } = self;
+        MutablePrimitiveArray::try_new(data_type, values, freeze_mask(validity))
+    }
+}

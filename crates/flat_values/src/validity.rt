@@ -1,0 +1,46 @@
+//! Which decoded values are there: a mask that is empty until the first null.
+ghost use Rattle.std.specs.Prelude.{◌≡◌, OnOk, IfErr};
+ghost use Rattle.columns_core.specs.Causes.{IsWantOfMemory};
+ghost use Rattle.flat_values.specs.Decoded.{found_mask, with_nulls, with_values};
+
+use columns_core::{Bitmap, Error, MutableBitmap};
+
+/// So many values more are there.
+pub(crate) fn mark_values(validity: &mut MutableBitmap, count: usize) -> Result<(), Error>
+    ensures ok { OnOk result (validity.new ≡ with_values count validity.old) }
+    ensures err { IfErr result IsWantOfMemory }
+{
+    if validity.len() == 0 {
+        return Ok(());
+    }
+    validity.extend_constant(count, true)
+}
+
+/// So many nulls stand behind `held` values.
+pub(crate) fn mark_nulls(
+    validity: &mut MutableBitmap,
+    held: usize,
+    count: usize,
+) -> Result<(), Error>
+    ensures ok { OnOk result (validity.new ≡ with_nulls held count validity.old) }
+    ensures err { IfErr result IsWantOfMemory }
+{
+    if count == 0 {
+        return Ok(());
+    }
+    if validity.len() == 0 {
+        validity.extend_constant(held, true)?;
+    }
+    validity.extend_constant(count, false)
+}
+
+/// The mask of an array.
+pub(crate) fn freeze_mask(validity: MutableBitmap) -> Option<Bitmap>
+    ensures { result ≡ found_mask validity }
+{
+    if validity.len() == 0 {
+        None
+    } else {
+        Some(validity.freeze())
+    }
+}
