@@ -1,30 +1,15 @@
 """Writes the inputs of the benchmark of the flat decoders into a folder, and their list: KIND COUNT FILE DICTIONARY NAME."""
+import os
 import random
 import sys
+
+sys.dont_write_bytecode = True
+sys.path.insert(0, os.path.join(os.path.dirname(os.path.abspath(__file__)), ".."))
+from formats import packed, varint, zigzag
 
 folder = sys.argv[1]
 COUNT = 100_000
 ENTRIES = 1000
-
-
-def varint(n):
-    out = bytearray()
-    while n >= 128:
-        out.append(n & 127 | 128)
-        n >>= 7
-    out.append(n)
-    return bytes(out)
-
-
-def zigzag(n):
-    return varint(n << 1 if n >= 0 else (-n << 1) - 1)
-
-
-def packed(values, width):
-    number = 0
-    for i, value in enumerate(values):
-        number |= value << (i * width)
-    return number.to_bytes((len(values) * width + 7) // 8, "little")
 
 
 def packed_runs(values, width):
