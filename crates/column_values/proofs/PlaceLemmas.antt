@@ -7,7 +7,6 @@ use Rattle.parquet_page.specs.Stretches.{BeginsOtherwise, BeginsWith}
 use Rattle.parquet_page.specs.ValidityLeft.{IsLongest}
 use Rattle.parquet_page.specs.declared.run.Run.{Run}
 use Rattle.parquet_page.specs.declared.run.Run.TheVariants.{Present, Null, Passed}
-use Rattle.parquet_page.proofs.LevelLemmas.{counted_as}
 use Rattle.parquet_page.proofs.PlanLemmas.{kept_as}
 use Rattle.parquet_page.proofs.ValidityLemmas.{plan-all}
 use Rattle.column_values.specs.FilteredLeft.{IsRunOf, tally_of}
@@ -69,18 +68,6 @@ pub run-of : (limit : ℕ) (old new : List Bool) (run : Run) → GivesRun limit 
 run-of limit old new (Present n) gives longest = record { kind = true; is = refl; some = gives.1; begins = kept-begins limit n true old new gives.0 gives.2 longest }
 run-of limit old new (Null n) gives longest = record { kind = false; is = refl; some = gives.1; begins = kept-begins limit n false old new gives.0 gives.2 longest }
 run-of limit old new (Passed n) gives longest = absurd (none-passed n old (plan None new) gives.1 (sym (plan-all 0 old) ∙ gives.0))
-
--- what is counted of a run
-pub record IsTallied (limit : ℕ) (old new : List Bool) (rows values : ℕ) : Type 0 where
-  pub kind : Bool
-  pub some : 0 < rows
-  pub begins : BeginsWith limit kind rows old new
-  pub values_are : values ≡ counted_as kind rows
-
-pub tallied : (limit : ℕ) (old new : List Bool) (run : Run) → GivesRun limit (plan None old) (plan None new) (Some run) → IsLongest limit (Some run) (plan None new) → IsTallied limit old new (tally_of run).0 (tally_of run).1
-tallied limit old new (Present n) gives longest = record { kind = true; some = gives.1; begins = kept-begins limit n true old new gives.0 gives.2 longest; values_are = refl }
-tallied limit old new (Null n) gives longest = record { kind = false; some = gives.1; begins = kept-begins limit n false old new gives.0 gives.2 longest; values_are = refl }
-tallied limit old new (Passed n) gives longest = absurd (none-passed n old (plan None new) gives.1 (sym (plan-all 0 old) ∙ gives.0))
 
 pub tally-rows : (run : Run) → (tally_of run).0 ≡ run_rows run
 tally-rows (Present n) = refl

@@ -24,26 +24,6 @@ fn tally(run: Run) -> (usize, usize)
     }
 }
 
-/// Passes over the next rows, at most so many, and tells how many of them have a value.
-fn pass_rows(places: &mut OptionalPageValidity, page: &DataPage<'_>, rows: usize) -> usize
-    requires { IsSome (optional_left places.old (data_content page.now)) }
-    ensures present { result ≡ present_count (take rows (places_left places.old (data_content page.now))) }
-    ensures left { places_left places.new (data_content page.now) ≡ drop rows (places_left places.old (data_content page.now)) }
-    ensures page { IsSome (optional_left places.new (data_content page.now)) }
-{
-    let mut left = rows;
-    let mut values = 0;
-    while left > 0 {
-        let Some(run) = places.next(page, left) else {
-            return values;
-        };
-        let (rows, present) = tally(run);
-        left -= rows;
-        values += present;
-    }
-    values
-}
-
 /// Walks the selected rows of a page, in runs of rows that have a value, rows that are null, and stored values that are passed over.
 /// It holds places, and the page is handed to each call.
 #[derive(Clone, Copy)]
@@ -111,7 +91,7 @@ impl FilteredOptionalPageValidity {
     {
         let mut places = self.places;
         let rows = places.len();
-        pass_rows(&mut places, page, rows)
+        places.pass(page, rows)
     }
 
     /// The next run over these intervals.
@@ -146,7 +126,7 @@ impl FilteredOptionalPageValidity {
         ensures rows { self.new.rows ≡ self.old.rows }
         ensures place { self.new.place ≡ self.old.place }
     {
-        let values = pass_rows(&mut self.places, page, rows);
+        let values = self.places.pass(page, rows);
         self.row += rows;
         if values > 0 {
             Some(Run::Passed(values))

@@ -152,7 +152,7 @@ unfolding places_of
 length-places head from [] = refl
 length-places head from (piece ∷ pieces) = ap suc (length-places head (from + head + length piece) pieces)
 
-length-plain : (bytes : List ℕ) (count : ℕ) (pieces : List (List ℕ)) → plain_bytes bytes count ≡ Some pieces → length pieces ≡ count
+pub length-plain : (bytes : List ℕ) (count : ℕ) (pieces : List (List ℕ)) → plain_bytes bytes count ≡ Some pieces → length pieces ≡ count
 unfolding plain_bytes
 length-plain bytes zero pieces e = ends bytes pieces e where
   ends : (bytes : List ℕ) (pieces : List (List ℕ)) → plain_bytes bytes 0 ≡ Some pieces → length pieces ≡ 0

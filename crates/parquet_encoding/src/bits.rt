@@ -39,6 +39,7 @@ fn field(word: u64, shift: usize, width: u32) -> u32
 }
 
 /// The number in the `width` bits from bit `bit` behind a place.
+#[inline(always)]
 pub(crate) fn value_at(bytes: &[u8], place: usize, bit: usize, width: u32) -> u32
     requires narrow { width ≤ 32 }
     requires within { 8 * place + (bit + width) ≤ 8 * length bytes.now }
@@ -131,6 +132,7 @@ pub(crate) fn wide_at(bytes: &[u8], place: usize, bit: usize, width: u32) -> u64
 }
 
 /// The eight numbers of up to 64 bits from bit `bit` behind a place on.
+#[inline(always)]
 pub(crate) fn eight_wide_at(bytes: &[u8], place: usize, bit: usize, width: u32) -> [u64; 8]
     requires wide { width ≤ 64 }
     requires low { bit < 8 }
@@ -165,6 +167,7 @@ fn eight_wide_in_words(bytes: &[u8], place: usize, bit: usize, width: u32) -> [u
 }
 
 /// The byte and the bit in it that lie `count` numbers further on.
+#[inline(always)]
 pub(crate) fn moved(place: usize, bit: usize, width: u32, count: usize) -> (usize, usize)
     requires low { bit < 8 }
     requires narrow { width ≤ 64 }

@@ -66,6 +66,7 @@ impl HybridRle {
     }
 
     /// The next numbers that lie in one run, at most `limit` of them. The bytes are those of `try_new`.
+    #[inline(always)]
     pub fn next_run(&mut self, bytes: &[u8], limit: usize) -> Option<HybridRun>
         requires spelled { IsSome (hybrid_left self.old bytes.now) }
         requires some { 0 < limit }
@@ -87,6 +88,7 @@ impl HybridRle {
     }
 
     /// Passes over `n` numbers, or over all that are left. The bytes are those of `try_new`.
+    #[inline(always)]
     pub fn skip(&mut self, bytes: &[u8], n: usize)
         requires { IsSome (hybrid_left self.old bytes.now) }
         ensures { hybrid_left self.new bytes.now ≡ Some (drop n (hybrid_values self.old bytes.now)) }
@@ -128,6 +130,7 @@ impl HybridRle {
     }
 
     /// Opens runs until one has a value or none is left.
+    #[inline(always)]
     fn open(&mut self, bytes: &[u8])
         requires { IsSome (hybrid_left self.old bytes.now) }
         ensures same { hybrid_left self.new bytes.now ≡ hybrid_left self.old bytes.now }
@@ -139,6 +142,7 @@ impl HybridRle {
     }
 
     /// Opens the next run.
+    #[inline(always)]
     fn open_next(&mut self, bytes: &[u8])
         requires spelled { IsSome (hybrid_left self.old bytes.now) }
         requires done { count_of self.old.run ≡ 0 }

@@ -19,6 +19,7 @@ impl PackedRun {
     ghost use Rattle.parquet_encoding.specs.PackedRun.{LiesIn, packed_values};
 
     /// The first number.
+    #[inline(always)]
     pub fn first(&self, bytes: &[u8]) -> u32
         requires some { 0 < self.now.count }
         requires lies { LiesIn bytes.now self.now }
@@ -48,6 +49,7 @@ impl PackedRun {
     }
 
     /// What is left behind the first `n` numbers.
+    #[inline(always)]
     pub(crate) fn behind(&self, n: usize) -> PackedRun
         requires enough { n ≤ self.now.count }
         requires lies { (bytes : List ℕ) × (length bytes < 2 ^ 64) × LiesIn bytes self.now }

@@ -26,6 +26,8 @@ pub(crate) struct OpenedRun {
 }
 
 /// The run whose header stands at a place, up to the values that are wanted.
+// It stays a call of its own, so that the places of a walk stay in registers.
+#[inline(never)]
 pub(crate) fn open_run(
     bytes: &[u8],
     place: usize,
@@ -109,6 +111,7 @@ fn open_repeated(
 
 impl HybridRun {
     /// How many values it has.
+    #[inline(always)]
     pub fn len(&self) -> usize
         ensures { result ≡ count_of self.now }
     {
@@ -119,6 +122,7 @@ impl HybridRun {
     }
 
     /// The first value.
+    #[inline(always)]
     pub fn first(&self, bytes: &[u8]) -> u32
         requires some { 0 < count_of self.now }
         requires lies { IsIn bytes.now self.now }
@@ -143,6 +147,7 @@ impl HybridRun {
     }
 
     /// The run of the first `n` values.
+    #[inline(always)]
     pub(crate) fn front(&self, n: usize) -> HybridRun
         requires { n ≤ count_of self.now }
         ensures values { (bytes : List ℕ) → run_values result bytes ≡ take n (run_values self.now bytes) }
@@ -164,6 +169,7 @@ impl HybridRun {
     }
 
     /// What is left behind the first `n` values.
+    #[inline(always)]
     pub(crate) fn behind(&self, n: usize) -> HybridRun
         requires enough { n ≤ count_of self.now }
         requires lies { (bytes : List ℕ) × (length bytes < 2 ^ 64) × IsIn bytes self.now }

@@ -29,7 +29,7 @@ length-hybrid width bytes count values e = go (eqb width 0) (ltb 32 width) e whe
   go false true e = absurd cc
   go false false e = length-runs (length bytes) width bytes count values e
 
-length-keys : (bytes : List ℕ) (count : ℕ) (keys : List ℕ) → dictionary_keys bytes count ≡ Some keys → length keys ≡ count
+pub length-keys : (bytes : List ℕ) (count : ℕ) (keys : List ℕ) → dictionary_keys bytes count ≡ Some keys → length keys ≡ count
 unfolding dictionary_keys
 length-keys [] count keys e = absurd cc
 length-keys (width ∷ bytes) count keys e = length-hybrid width bytes count keys e
@@ -46,7 +46,7 @@ present_suc places = let step : present_count (true ∷ places) ≡ 1 + present_
 pub absent_same : (places : List Bool) → present_count (false ∷ places) ≡ present_count places
 absent_same places = let step : present_count (false ∷ places) ≡ 0 + present_count places = sum_by-cons (λ (present : Bool). cond present 1 0) false places in omega (arith, step)
 
-are_placed : {A : Type 0} (places : List Bool) (values : List A) → length values ≡ present_count places → IsSome (placed places values)
+pub are_placed : {A : Type 0} (places : List Bool) (values : List A) → length values ≡ present_count places → IsSome (placed places values)
 are_placed [] [] e = refl
 are_placed [] (value ∷ values) e = absurd (omega (arith, e))
 are_placed (false ∷ places) values e =

@@ -6,7 +6,7 @@ use Rattle.parquet_base.specs.Reading.{◌>>=◌, given}
 use Rattle.parquet_base.specs.Intervals.{is_well_shaped, row_count}
 use Rattle.parquet_base.specs.declared.interval.Interval.{Interval}
 use Rattle.parquet_meta.specs.declared.metadata.PrimitiveType.{PrimitiveType}
-use Rattle.parquet_page.specs.Content.{Content, DataOf, DictOf}
+use Rattle.parquet_page.specs.Content.{Content, DataOf, DictContent, DictOf}
 use Rattle.parquet_page.specs.Chunk.{ChunkPage, DictionaryPage, Dictionary, NoDictionary, Undefined, Defined, Walk, chunk_dictionary, chunk_pages}
 use Rattle.parquet_page.specs.Located.{dictionary_in, located_dictionary, page_in}
 use Rattle.parquet_page.specs.Spelling.{has_plain_entries}
@@ -30,8 +30,11 @@ in_front page others = record { pages = page ∷ others.pages; causes = others.c
 abbrev pub data_of : PrimitiveType → Option (List Interval) → ChunkPage → Content
 data_of type selected page = DataOf (record { header = page.header; body = page.body; type = type; selected = selected })
 
+abbrev pub dictionary_content_of : DictionaryPage → DictContent
+dictionary_content_of page = record { body = page.body; num_values = page.num_values }
+
 abbrev pub dictionary_of : DictionaryPage → Content
-dictionary_of page = DictOf (record { body = page.body; num_values = page.num_values })
+dictionary_of page = DictOf (dictionary_content_of page)
 
 -- a dictionary, if there is one, in front of other pages
 abbrev pub behind_dictionary : Dictionary → Lent → Lent

@@ -1,13 +1,11 @@
--- What is wrong with a page that is opened, and with a dictionary page.
+-- What is wrong with a page that is opened.
 use Rattle.std.specs.Prelude.{ℕ, is_some, ◌&&◌, ◌||◌, not, Bool, false, List, [], ◌∷◌, ◌++◌, Option, None}
 use Rattle.std.specs.Option.{option_map_or}
-use Rattle.columns_core.specs.Causes.{Cause, NotYetImplemented, ExternalFormat, OutOfSpec, Overflow, and_then, unless}
+use Rattle.columns_core.specs.Causes.{Cause, NotYetImplemented, ExternalFormat, OutOfSpec, Overflow, unless}
 use Rattle.parquet_base.specs.Reading.{◌>>=◌, given}
-use Rattle.parquet_meta.specs.declared.metadata.PhysicalType.{PhysicalType}
-use Rattle.parquet_page.specs.Chunk.{DictionaryPage}
 use Rattle.parquet_page.specs.Content.{DataContent}
-use Rattle.parquet_page.specs.Spelling.{has_plain_entries, has_readable_levels, header_encoding, page_keys, spelled}
-use Rattle.parquet_page.specs.Values.{Encoding, Keys, encoding_of, goes_with, has_key_past, plain_values}
+use Rattle.parquet_page.specs.Spelling.{has_readable_levels, header_encoding, page_keys, spelled}
+use Rattle.parquet_page.specs.Values.{Encoding, Keys, encoding_of, goes_with, has_key_past}
 
 -- Keys are read where the column has a dictionary; a column that is read as a dictionary has pages of keys alone.
 abbrev pub goes_on_dictionary : Bool → Bool → Encoding → Bool
@@ -38,8 +36,3 @@ spelling_causes most entries page _ = unless (is_some (spelled page None)) Exter
 unfoldable pub page_causes : Option ℕ → Bool → Option ℕ → DataContent → List Cause
 page_causes most has_dictionary entries page =
     option_map_or (spelling_causes most entries page) (carried_encoding (is_some most) has_dictionary page) (NotYetImplemented ∷ [])
-
--- what is wrong with a dictionary page: its encoding, or its list of entries
-unfoldable pub dictionary_page_causes : PhysicalType → DictionaryPage → List Cause
-dictionary_page_causes type page =
-    and_then (unless (has_plain_entries page.encoding) NotYetImplemented) (unless (is_some (plain_values type page.body page.num_values)) ExternalFormat)

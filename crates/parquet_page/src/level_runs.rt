@@ -1,101 +1,193 @@
 //! Which places of a page have a value, in runs.
-ghost use Rattle.std.specs.Prelude.{◌≡◌, ◌+◌, ◌-◌, ◌^◌, ◌<◌, ◌≤◌, ◌++◌, ℕ, List, [], length, min, take, drop, replicate, slice_index, nat_le, is_some, IfOk, IfErr, IfNone, IfSome, IsSome, None, Some};
+ghost use Rattle.std.specs.Prelude.{◌≡◌, ◌≢◌, ◌==◌, ◌+◌, ◌*◌, ◌/◌, ◌%◌, ◌^◌, ◌<◌, ◌≤◌, ◌++◌, ℕ, List, true, false, [], length, take, drop, replicate, count_by, nat_le, IfOk, IfErr, IfNone, IfSome, IsSome, None, Some};
 ghost use Rattle.std.specs.List.{list_all};
 ghost use Rattle.columns_core.specs.Causes.{ExternalFormat, cause_of};
+ghost use Rattle.parquet_encoding.specs.Bits.{bits_at};
 ghost use Rattle.parquet_encoding.specs.HybridLeft.{hybrid_left, hybrid_values};
 ghost use Rattle.parquet_encoding.specs.HybridRun.{IsIn, count_of, run_values};
 ghost use Rattle.parquet_encoding.specs.PackedRun.{LiesIn, packed_values};
 ghost use Rattle.parquet_page.specs.Levels.{presence, present_count, top_level as top_level_of};
-ghost use Rattle.parquet_page.specs.Stretches.{BeginsWith};
+ghost use Rattle.parquet_page.specs.Stretches.{BeginsOtherwise, BeginsWith};
 
 use columns_core::{Error, Part};
 use parquet_encoding::{HybridRle, HybridRun, PackedRun};
 use parquet_meta::Repetition;
 
 /// How many packed levels are looked at together.
-const GROUP: usize = 8;
+const WORD: usize = 32;
 
-/// How many levels at the front are the same as the first.
-fn equal_count(levels: &[u32]) -> usize
-    requires { 0 < length levels.now }
-    ensures some { 0 < result }
-    ensures within { result ≤ length levels.now }
-    ensures same { (k : ℕ) → k < result → slice_index levels.now k ≡ slice_index levels.now 0 }
-{
-    for (i, level) in levels.iter().enumerate() {
-        if *level != levels[0] {
-            return i;
-        }
-    }
-    levels.len()
+/// Levels at the front of others that are the same.
+#[derive(Clone, Copy)]
+struct Stretch {
+    level: u32,
+    count: usize,
+    /// Whether another level is known to stand behind them.
+    ends: bool,
 }
 
-/// How many packed levels at the front are the same as the first, as far as they are looked at.
-fn equal_packed(run: &PackedRun, bytes: &[u8]) -> usize
+/// The levels of one bit at the front of a run, as the bits of one number, and how many they are.
+fn front_bits(run: &PackedRun, bytes: &[u8]) -> (u32, usize)
+    requires some { 0 < run.now.count }
+    requires one_bit { run.now.width ≡ 1 }
+    requires lies { LiesIn bytes.now run.now }
+    ensures some { 0 < result.1 }
+    ensures within { result.1 ≤ run.now.count }
+    ensures few { result.1 ≤ 32 }
+    ensures bits { result.0 ≡ bits_at bytes.now (8 * run.now.place + run.now.bit) result.1 }
+{
+    let count = run.count.min(WORD);
+    let front = PackedRun {
+        place: run.place,
+        bit: run.bit,
+        width: count as u32,
+        count: 1,
+    };
+    (front.first(bytes), count)
+}
+
+/// How many of the `count` lowest bits are the same as the lowest, before another one.
+fn equal_bits(bits: u64, count: usize) -> usize
+    requires some { 0 < count }
+    requires few { count ≤ 32 }
+    requires low { bits < 2 ^ 32 }
+    ensures some { 0 < result }
+    ensures within { result ≤ count }
+    ensures same { (k : ℕ) → k < result → bits / 2 ^ k % 2 ≡ bits % 2 }
+    ensures ends { result < count → bits / 2 ^ result % 2 ≢ bits % 2 }
+{
+    if bits % 2 == 1 {
+        (bits.trailing_ones() as usize).min(count)
+    } else {
+        (bits.trailing_zeros() as usize).min(count)
+    }
+}
+
+/// The levels at the front of a packed run that are the same as the first, as far as they are looked at.
+fn packed_front(run: &PackedRun, bytes: &[u8]) -> Stretch
     requires some { 0 < run.now.count }
     requires lies { LiesIn bytes.now run.now }
-    ensures some { 0 < result }
-    ensures within { result ≤ run.now.count }
-    ensures same { (k : ℕ) → k < result → slice_index (packed_values run.now bytes.now) k ≡ slice_index (packed_values run.now bytes.now) 0 }
+    ensures some { 0 < result.count }
+    ensures within { result.count ≤ run.now.count }
+    ensures same { take result.count (packed_values run.now bytes.now) ≡ replicate result.count result.level }
+    ensures ends { result.ends ≡ true → (result.count < run.now.count) × BeginsOtherwise result.level (drop result.count (packed_values run.now bytes.now)) }
 {
-    let mut group = [0u32; GROUP];
-    let front = &mut group[..run.count.min(GROUP)];
-    run.unpack(bytes, front);
-    equal_count(front)
+    if run.width != 1 {
+        return Stretch {
+            level: run.first(bytes),
+            count: 1,
+            ends: false,
+        };
+    }
+    let (bits, seen) = front_bits(run, bytes);
+    let count = equal_bits(u64::from(bits), seen);
+    Stretch {
+        level: bits % 2,
+        count,
+        ends: count < seen,
+    }
 }
 
-/// How many levels at the front of a run are the same as the first, as far as they are looked at.
-fn equal_front(run: &HybridRun, bytes: &[u8]) -> usize
+/// The levels at the front of a run that are the same as the first, as far as they are looked at.
+fn run_front(run: &HybridRun, bytes: &[u8]) -> Stretch
     requires some { 0 < count_of run.now }
     requires lies { IsIn bytes.now run.now }
-    ensures some { 0 < result }
-    ensures within { result ≤ count_of run.now }
-    ensures same { (k : ℕ) → k < result → slice_index (run_values run.now bytes.now) k ≡ slice_index (run_values run.now bytes.now) 0 }
+    ensures some { 0 < result.count }
+    ensures within { result.count ≤ count_of run.now }
+    ensures same { take result.count (run_values run.now bytes.now) ≡ replicate result.count result.level }
+    ensures ends { result.ends ≡ true → (result.count < count_of run.now) × BeginsOtherwise result.level (drop result.count (run_values run.now bytes.now)) }
 {
     match run {
-        HybridRun::Packed(run) => equal_packed(run, bytes),
-        HybridRun::Repeated { count, .. } => *count,
+        HybridRun::Packed(run) => packed_front(run, bytes),
+        HybridRun::Repeated { value, count } => Stretch {
+            level: *value,
+            count: *count,
+            ends: false,
+        },
     }
 }
 
-/// Some of the next levels that are the same, at most `limit`: the level, and how many they are.
-fn next_same(levels: &mut HybridRle, bytes: &[u8], limit: usize) -> Option<(u32, usize)>
-    requires spelled { IsSome (hybrid_left levels.old bytes.now) }
+/// The next levels that lie in one run, at most `limit`.
+fn next_run(levels: &HybridRle, bytes: &[u8], limit: usize) -> Option<HybridRun>
+    requires spelled { IsSome (hybrid_left levels.now bytes.now) }
     requires some { 0 < limit }
-    ensures ended { IfNone result (hybrid_values levels.old bytes.now ≡ []) }
-    ensures same { IfSome result (λ same. hybrid_values levels.old bytes.now ≡ replicate same.1 same.0 ++ hybrid_values levels.new bytes.now) }
-    ensures some { IfSome result (λ same. 0 < same.1) }
-    ensures most { IfSome result (λ same. same.1 ≤ limit) }
-    ensures kept { IfNone result (levels.new ≡ levels.old) }
-    ensures spelled { IsSome (hybrid_left levels.new bytes.now) }
+    ensures ended { IfNone result (hybrid_values levels.now bytes.now ≡ []) }
+    ensures values { IfSome result (λ run. run_values run bytes.now ≡ take (count_of run) (hybrid_values levels.now bytes.now)) }
+    ensures lies { IfSome result (IsIn bytes.now) }
+    ensures some { IfSome result (λ run. 0 < count_of run) }
+    ensures most { IfSome result (λ run. count_of run ≤ limit) }
 {
     let mut ahead = *levels;
-    let run = ahead.next_run(bytes, limit)?;
-    let level = run.first(bytes);
-    let count = equal_front(&run, bytes);
-    levels.skip(bytes, count);
-    Some((level, count))
+    ahead.next_run(bytes, limit)
 }
 
-/// Passes over the next levels that are this one, at most `limit`, and tells how many they are.
-fn skip_same(levels: &mut HybridRle, bytes: &[u8], level: u32, limit: usize) -> usize
-    requires { IsSome (hybrid_left levels.old bytes.now) }
-    ensures begins { BeginsWith limit level result (hybrid_values levels.old bytes.now) (hybrid_values levels.new bytes.now) }
-    ensures spelled { IsSome (hybrid_left levels.new bytes.now) }
+/// Some of the next levels that are the same, at most `limit`.
+fn next_same(levels: &HybridRle, bytes: &[u8], limit: usize) -> Option<Stretch>
+    requires spelled { IsSome (hybrid_left levels.now bytes.now) }
+    requires some { 0 < limit }
+    ensures ended { IfNone result (hybrid_values levels.now bytes.now ≡ []) }
+    ensures some { IfSome result (λ same. 0 < same.count) }
+    ensures most { IfSome result (λ same. same.count ≤ limit) }
+    ensures same { IfSome result (λ same. hybrid_values levels.now bytes.now ≡ replicate same.count same.level ++ drop same.count (hybrid_values levels.now bytes.now)) }
+    ensures ends { IfSome result (λ same. same.ends ≡ true → BeginsOtherwise same.level (drop same.count (hybrid_values levels.now bytes.now))) }
 {
-    let mut count = 0;
+    let run = next_run(levels, bytes, limit)?;
+    Some(run_front(&run, bytes))
+}
+
+/// Passes over the next levels that are those of `first`, at most `limit`, and tells how many they are.
+fn skip_same(levels: &mut HybridRle, bytes: &[u8], first: Stretch, limit: usize) -> usize
+    requires spelled { IsSome (hybrid_left levels.old bytes.now) }
+    requires most { first.count ≤ limit }
+    requires same { hybrid_values levels.old bytes.now ≡ replicate first.count first.level ++ drop first.count (hybrid_values levels.old bytes.now) }
+    requires ends { first.ends ≡ true → BeginsOtherwise first.level (drop first.count (hybrid_values levels.old bytes.now)) }
+    ensures begins { BeginsWith limit first.level result (hybrid_values levels.old bytes.now) (hybrid_values levels.new bytes.now) }
+    ensures spelled { IsSome (hybrid_left levels.new bytes.now) }
+    ensures some { first.count ≤ result }
+{
+    levels.skip(bytes, first.count);
+    if first.ends {
+        return first.count;
+    }
+    let mut count = first.count;
     while count < limit {
-        let mut ahead = *levels;
-        let Some((next, more)) = next_same(&mut ahead, bytes, limit - count) else {
+        let Some(more) = next_same(levels, bytes, limit - count) else {
             return count;
         };
-        if next != level {
+        if more.level != first.level {
             return count;
         }
-        *levels = ahead;
-        count += more;
+        levels.skip(bytes, more.count);
+        count += more.count;
     }
     count
+}
+
+/// How many levels at the front of a packed run are not above the top one, as far as they are looked at. One bit is never above 1.
+fn low_packed(run: &PackedRun, bytes: &[u8], top: u32) -> usize
+    requires some { 0 < run.now.count }
+    requires lies { LiesIn bytes.now run.now }
+    ensures within { result ≤ run.now.count }
+    ensures low { list_all (λ level. nat_le level top) (take result (packed_values run.now bytes.now)) ≡ true }
+    ensures high { result ≡ 0 → list_all (λ level. nat_le level top) (packed_values run.now bytes.now) ≡ false }
+{
+    if run.width == 1 && top > 0 {
+        return run.count;
+    }
+    if run.first(bytes) <= top { 1 } else { 0 }
+}
+
+/// How many levels at the front of a run are not above the top one, as far as they are looked at.
+fn low_front(run: &HybridRun, bytes: &[u8], top: u32) -> usize
+    requires some { 0 < count_of run.now }
+    requires lies { IsIn bytes.now run.now }
+    ensures within { result ≤ count_of run.now }
+    ensures low { list_all (λ level. nat_le level top) (take result (run_values run.now bytes.now)) ≡ true }
+    ensures high { result ≡ 0 → list_all (λ level. nat_le level top) (run_values run.now bytes.now) ≡ false }
+{
+    match run {
+        HybridRun::Packed(run) => low_packed(run, bytes, top),
+        HybridRun::Repeated { value, count } => { if *value <= top { *count } else { 0 } }
+    }
 }
 
 /// Whether no level is above the top one.
@@ -103,13 +195,47 @@ fn are_at_most(levels: &HybridRle, bytes: &[u8], top: u32) -> bool
     requires { IsSome (hybrid_left levels.now bytes.now) }
     ensures { result ≡ list_all (λ level. nat_le level top) (hybrid_values levels.now bytes.now) }
 {
-    let mut levels = *levels;
-    while let Some((level, _)) = next_same(&mut levels, bytes, usize::MAX) {
-        if level > top {
+    let mut behind = *levels;
+    while let Some(run) = next_run(&behind, bytes, usize::MAX) {
+        let low = low_front(&run, bytes, top);
+        if low == 0 {
             return false;
         }
+        behind.skip(bytes, low);
     }
     true
+}
+
+/// How many of the levels at the front of a packed run are looked at, and how many of those are the top one.
+fn packed_tops(run: &PackedRun, bytes: &[u8], top: u32) -> (usize, usize)
+    requires some { 0 < run.now.count }
+    requires lies { LiesIn bytes.now run.now }
+    ensures some { 0 < result.0 }
+    ensures within { result.0 ≤ run.now.count }
+    ensures tops { result.1 ≡ count_by (λ level. level == top) (take result.0 (packed_values run.now bytes.now)) }
+{
+    if run.width == 1 && top == 1 {
+        let (bits, seen) = front_bits(run, bytes);
+        return (seen, bits.count_ones() as usize);
+    }
+    (1, usize::from(run.first(bytes) == top))
+}
+
+/// How many of the next levels are looked at, at most `limit`, and how many of those are the top one.
+fn next_tops(levels: &HybridRle, bytes: &[u8], top: u32, limit: usize) -> Option<(usize, usize)>
+    requires spelled { IsSome (hybrid_left levels.now bytes.now) }
+    requires some { 0 < limit }
+    ensures ended { IfNone result (hybrid_values levels.now bytes.now ≡ []) }
+    ensures some { IfSome result (λ seen. 0 < seen.0) }
+    ensures most { IfSome result (λ seen. seen.0 ≤ limit) }
+    ensures tops { IfSome result (λ seen. seen.1 ≡ count_by (λ level. level == top) (take seen.0 (hybrid_values levels.now bytes.now))) }
+{
+    match next_run(levels, bytes, limit)? {
+        HybridRun::Packed(run) => Some(packed_tops(&run, bytes, top)),
+        HybridRun::Repeated { value, count } => {
+            Some((count, if value == top { count } else { 0 }))
+        }
+    }
 }
 
 /// The level of a place that has a value.
@@ -168,9 +294,9 @@ impl LevelRuns {
         ensures kept { IfNone result (self.new ≡ self.old) }
         ensures spelled { IsSome (places_left self.new levels.now) }
     {
-        let (level, first) = next_same(&mut self.levels, levels, limit)?;
-        let more = skip_same(&mut self.levels, levels, level, limit - first);
-        Some((level == self.top, first + more))
+        let first = next_same(&self.levels, levels, limit)?;
+        let count = skip_same(&mut self.levels, levels, first, limit);
+        Some((first.level == self.top, count))
     }
 
     /// Passes over the next places, at most so many, and tells how many of them have a value.
@@ -183,13 +309,12 @@ impl LevelRuns {
         let mut left = count;
         let mut present = 0;
         while left > 0 {
-            let Some((has_value, places)) = self.next(levels, left) else {
+            let Some((passed, places)) = next_tops(&self.levels, levels, self.top, left) else {
                 return present;
             };
-            if has_value {
-                present += places;
-            }
-            left -= places;
+            self.levels.skip(levels, passed);
+            present += places;
+            left -= passed;
         }
         present
     }

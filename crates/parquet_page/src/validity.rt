@@ -1,7 +1,8 @@
 //! Which rows of a page have a value.
-ghost use Rattle.std.specs.Prelude.{◌≡◌, ◌<◌, [], length, IfOk, IfErr, IsSome, if◌then◌else◌};
+ghost use Rattle.std.specs.Prelude.{◌≡◌, ◌<◌, [], length, take, drop, unwrap_or, IfOk, IfErr, IsSome, if◌then◌else◌};
 ghost use Rattle.columns_core.specs.Causes.{IsOneOf, cause_of};
 ghost use Rattle.parquet_page.specs.Content.{DataContent, data_content};
+ghost use Rattle.parquet_page.specs.Levels.{present_count};
 ghost use Rattle.parquet_page.specs.Runs.{GivesRun};
 ghost use Rattle.parquet_page.specs.Spelling.{has_readable_levels as has_readable_levels_by};
 ghost use Rattle.parquet_page.specs.ValidityLeft.{levels_causes, page_left, page_places};
@@ -81,6 +82,19 @@ impl OptionalPageValidity {
         };
         let (present, rows) = self.runs.next(levels, limit)?;
         Some(kept_run(present, rows))
+    }
+
+    /// Passes over the next rows, at most so many, and tells how many of them have a value. The page is that of `try_new`.
+    pub fn pass(&mut self, page: &DataPage<'_>, rows: usize) -> usize
+        requires { IsSome (optional_left self.old (data_content page.now)) }
+        ensures present { result ≡ present_count (take rows (unwrap_or (optional_left self.old (data_content page.now)) [])) }
+        ensures left { unwrap_or (optional_left self.new (data_content page.now)) [] ≡ drop rows (unwrap_or (optional_left self.old (data_content page.now)) []) }
+        ensures page { IsSome (optional_left self.new (data_content page.now)) }
+    {
+        let Ok((_, levels, _)) = split_buffer(page) else {
+            unreachable!()
+        };
+        self.runs.pass(levels, rows)
     }
 
     /// How many rows are left.

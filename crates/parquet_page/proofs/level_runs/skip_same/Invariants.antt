@@ -6,8 +6,9 @@ use Rattle.parquet_page.proofs.level_runs.skip_same.Given as goal
 abbrev pub invariant-loop-count : goal.invariant-loop-count
 invariant-loop-count l = record {
   spelled : IsSome (hybrid_left l.levels l.bytes);
-  same : hybrid_values l.initial.levels l.bytes ≡ replicate l.count l.level ++ hybrid_values l.levels l.bytes;
+  same : hybrid_values l.fn.levels l.bytes ≡ replicate l.count l.first.level ++ hybrid_values l.levels l.bytes;
   most : l.count ≤ l.limit;
+  some : l.first.count ≤ l.count;
 }
 
 abbrev pub decreases-loop-count : goal.decreases-loop-count

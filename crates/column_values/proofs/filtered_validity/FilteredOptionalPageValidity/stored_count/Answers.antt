@@ -13,4 +13,4 @@ returns c =
     let page = data_content c.args.page.now in
     let places = places_left self.places page in
     let rows : c.len-rows.result ≡ length places = c.len-rows.ensures page c.requires.page.levels ∙ length-all places in
-    c.pass_rows.ensures.present ∙ ap (λ n. present_count (take n places)) rows ∙ ap present_count (take-length places) ∙ sym (stored-plan page.selected self.row places)
+    c.pass.ensures.present ∙ ap (λ n. present_count (take n places)) rows ∙ ap present_count (take-length places) ∙ sym (stored-plan page.selected self.row places)

@@ -1,3 +1,4 @@
+use Rattle.std.proofs.Common.{◌<◌, arith}
 use Rattle.parquet_encoding.specs.HybridLeft.{hybrid_left}
 use Rattle.parquet_page.proofs.LevelLemmas.{run_of_places}
 use Rattle.parquet_page.proofs.level_runs.LevelRuns.next.Goals as goal
@@ -6,12 +7,14 @@ pub returns-clause-begins : goal.returns-clause-begins
 returns-clause-begins c =
     let bytes = c.args.levels.now in
     let self = c.args.self.now in
-    (run_of_places self.top c.args.limit c.in_ok-level.level c.in_ok-level.first c.skip_same-more.result (hybrid_left self.levels bytes) (hybrid_left c.next_same.new.levels bytes) (hybrid_left c.skip_same-more.new.levels bytes) self.low c.requires.spelled c.skip_same-more.ensures.spelled
-    c.in_ok-level.ensures.same c.in_ok-level.ensures.some c.in_ok-level.ensures.most c.skip_same-more.ensures.begins).begins
+    let some : 0 < c.skip_same-count.result = omega (arith, c.in_ok-first.ensures.some, c.skip_same-count.ensures.some) in
+    (run_of_places self.top c.args.limit c.in_ok-first.first.level c.skip_same-count.result (hybrid_left self.levels bytes) (hybrid_left c.skip_same-count.new.levels bytes) self.low c.requires.spelled c.skip_same-count.ensures.spelled
+    some c.skip_same-count.ensures.begins).begins
 
 pub returns-clause-spelled : goal.returns-clause-spelled
 returns-clause-spelled c =
     let bytes = c.args.levels.now in
     let self = c.args.self.now in
-    (run_of_places self.top c.args.limit c.in_ok-level.level c.in_ok-level.first c.skip_same-more.result (hybrid_left self.levels bytes) (hybrid_left c.next_same.new.levels bytes) (hybrid_left c.skip_same-more.new.levels bytes) self.low c.requires.spelled c.skip_same-more.ensures.spelled
-    c.in_ok-level.ensures.same c.in_ok-level.ensures.some c.in_ok-level.ensures.most c.skip_same-more.ensures.begins).spelled
+    let some : 0 < c.skip_same-count.result = omega (arith, c.in_ok-first.ensures.some, c.skip_same-count.ensures.some) in
+    (run_of_places self.top c.args.limit c.in_ok-first.first.level c.skip_same-count.result (hybrid_left self.levels bytes) (hybrid_left c.skip_same-count.new.levels bytes) self.low c.requires.spelled c.skip_same-count.ensures.spelled
+    some c.skip_same-count.ensures.begins).spelled
