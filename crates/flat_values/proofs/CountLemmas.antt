@@ -1,5 +1,5 @@
 -- How many values the encodings give.
-use Rattle.std.proofs.Common.{◌≡◌, ℕ, zero, suc, ◌+◌, ◌-◌, ◌*◌, ◌/◌, eqb, leb, ℤ, Bool, List, [], ◌∷◌, length, take, drop, map, refl, sym, ap, ◌∙◌, arith}
+use Rattle.std.proofs.Common.{◌≡◌, ℕ, suc, ◌+◌, ◌-◌, ◌*◌, ◌/◌, eqb, leb, ℤ, Bool, List, [], ◌∷◌, length, take, drop, map, sym, ap, ◌∙◌, arith}
 use Rattle.std.specs.Prelude.{Option, Some, None, option_map, min}
 use Rattle.std.specs.Simd.{first_chunks}
 use Rattle.std.proofs.lemmas.List.{length-map, length-take}
@@ -9,40 +9,22 @@ use Rattle.parquet_base.specs.Varint.{varint, zigzag}
 use Rattle.parquet_encoding.specs.Bits.{packed}
 use Rattle.parquet_encoding.specs.DeltaBinary.{blocks, delta_binary, running_sums, shape_at}
 use Rattle.parquet_encoding.specs.DeltaLength.{delta_length, length_of, strings_of}
-use Rattle.parquet_encoding.specs.Plain.{first_string, plain_bits, plain_bytes, plain_fixed, truth}
+use Rattle.parquet_encoding.specs.Plain.{plain_bits, plain_bytes, plain_fixed, truth}
 use Rattle.parquet_encoding.proofs.BitsLemmas.{length-packed}
 use Rattle.parquet_encoding.proofs.DeltaWalkLemmas.{length-blocks}
 use Rattle.parquet_encoding.proofs.RunningLemmas.{length-running}
 use Rattle.parquet_encoding.proofs.StepLemmas.{bind_some, given_some, some_is}
-use Rattle.parquet_encoding.proofs.StringLemmas.{plain_step}
+use Rattle.parquet_encoding.proofs.StringLemmas.{length-plain}
 use Rattle.parquet_meta.specs.declared.metadata.PhysicalType.{PhysicalType}
 use Rattle.parquet_meta.specs.declared.metadata.PhysicalType.TheVariants as physical
 use Rattle.parquet_page.specs.Stored.{Stored}
 use Rattle.parquet_page.specs.Values.{Encoding, Plain, Keys, DeltaPacked, DeltaLengths, delta_length_values, delta_values, dictionary_keys, plain_values, values_in}
-use Rattle.parquet_page.proofs.SpelledLemmas.{length-hybrid}
+use Rattle.parquet_page.proofs.SpelledLemmas.{length-keys}
 use Rattle.column_values.specs.Outcome.{Outcome}
 use Rattle.flat_values.specs.Conversion.{Conversion}
 use Rattle.flat_values.specs.Outcomes.{entry_outcome, stored_outcome, value_outcomes}
 use Rattle.flat_values.proofs.ItemLemmas.{length-chunks}
 use Rattle.flat_values.proofs.PageLemmas.{mapped}
-
-length-plain : (bytes : List ℕ) (count : ℕ) (pieces : List (List ℕ)) → plain_bytes bytes count ≡ Some pieces → length pieces ≡ count
-unfolding plain_bytes
-length-plain bytes zero pieces e = ends bytes pieces e where
-  ends : (bytes : List ℕ) (pieces : List (List ℕ)) → plain_bytes bytes 0 ≡ Some pieces → length pieces ≡ 0
-  ends [] [] e = refl
-  ends [] (piece ∷ pieces) e = absurd cc
-  ends (byte ∷ bytes) pieces e = absurd cc
-length-plain bytes (suc count) pieces e =
-    let first = bind_some (first_string bytes) (λ first. plain_bytes first.1 count >>= λ others. Some (first.0 ∷ others)) pieces (sym (plain_step bytes count) ∙ e) in
-    let others = bind_some (plain_bytes first.0.1 count) (λ others. Some (first.0.0 ∷ others)) pieces first.2 in
-    let same : first.0.0 ∷ others.0 ≡ pieces = cc in
-    ap length (sym same) ∙ ap suc (length-plain first.0.1 count others.0 others.1)
-
-length-keys : (bytes : List ℕ) (count : ℕ) (keys : List ℕ) → dictionary_keys bytes count ≡ Some keys → length keys ≡ count
-unfolding dictionary_keys
-length-keys [] count keys e = absurd cc
-length-keys (width ∷ bytes) count keys e = length-hybrid width bytes count keys e
 
 length-mapped : {A B : Type 0} (f : A → B) (count : ℕ) (o : Option (List A)) (values : List B) → ((xs : List A) → o ≡ Some xs → length xs ≡ count) → option_map (map f) o ≡ Some values → length values ≡ count
 length-mapped f count o values long e = mapped o (map f) values e (λ xs is same. ap length (sym same) ∙ length-map xs f ∙ long xs is)

@@ -24,14 +24,15 @@ use Rattle.parquet_page.specs.Values as encoding
 use Rattle.parquet_page.specs.Values.{dictionary_keys, plain_values}
 use Rattle.column_values.specs.Outcome.{Given, causes_in, refusal_of}
 use Rattle.flat_values.specs.Added.{Adds}
-use Rattle.flat_values.specs.Conversion.{Keep}
+use Rattle.flat_values.specs.Conversion.{Conversion, Keep}
 use Rattle.flat_values.specs.FixedLeft.{fixed_outcomes}
 use Rattle.flat_values.specs.KeysLeft.{keys}
 use Rattle.flat_values.specs.Outcomes.{dictionary_cells, entry_outcome, stored_outcome, value_causes, value_outcomes}
 use Rattle.flat_values.specs.declared.fixed.FixedPlace.{FixedPlace}
 use Rattle.flat_values.specs.declared.fixed.FixedPlace.TheVariants.{Plain, Keys}
 use Rattle.flat_values.specs.declared.keys.KeyPlace.{KeyPlace}
-use Rattle.flat_values.proofs.OutcomeLemmas.{all_entries, behind, is_some-mapped, no_entries}
+use Rattle.flat_values.proofs.OutcomeLemmas.{behind, is_some-mapped, no_entries}
+use Rattle.flat_values.proofs.NumberPlaces.{dictionary_read}
 use Rattle.flat_values.proofs.ItemLemmas.{pieces-chunks}
 
 some_of : {A : Type 0} (o : Option A) → true ≡ is_some o → (x : A) × (o ≡ Some x)
@@ -58,30 +59,46 @@ cut_part size own count part values some same long is =
 
 -- ---- what is left
 
-module _ (entries : Option (List Cell)) (bytes : List ℕ) (place : FixedPlace) where
+module _ (rule : Conversion) (entries : Option (List Cell)) (bytes : List ℕ) (place : FixedPlace) where
   pub plain_rest : (own : PlainFixed) (left : Option (List (ℕ × ℕ))) (count : ℕ) → place ≡ Plain own → left ≡ Some (drop count (fixed_values own bytes))
-      → map (λ piece. Given (Bytes (bytes_in bytes piece))) (unwrap_or left []) ≡ drop count (fixed_outcomes entries bytes place)
-  plain_rest own left count is rest = behind (λ piece. Given (Bytes (bytes_in bytes piece))) left (fixed_values own bytes) count rest ∙ ap (λ p. drop count (fixed_outcomes entries bytes p)) (sym is)
+      → map (λ piece. stored_outcome rule (Octets (bytes_in bytes piece))) (unwrap_or left []) ≡ drop count (fixed_outcomes rule entries bytes place)
+  plain_rest own left count is rest = behind (λ piece. stored_outcome rule (Octets (bytes_in bytes piece))) left (fixed_values own bytes) count rest ∙ ap (λ p. drop count (fixed_outcomes rule entries bytes p)) (sym is)
 
-  pub keys_rest : (own : KeyPlace) (left : List ℕ) (count : ℕ) → place ≡ Keys own → left ≡ drop count (keys own bytes) → map (entry_outcome entries) left ≡ drop count (fixed_outcomes entries bytes place)
-  keys_rest own left count is rest = ap (map (entry_outcome entries)) rest ∙ sym (drop-map (entry_outcome entries) count (keys own bytes)) ∙ ap (λ p. drop count (fixed_outcomes entries bytes p)) (sym is)
+  pub keys_rest : (own : KeyPlace) (left : List ℕ) (count : ℕ) → place ≡ Keys own → left ≡ drop count (keys own bytes) → map (entry_outcome entries) left ≡ drop count (fixed_outcomes rule entries bytes place)
+  keys_rest own left count is rest = ap (map (entry_outcome entries)) rest ∙ sym (drop-map (entry_outcome entries) count (keys own bytes)) ∙ ap (λ p. drop count (fixed_outcomes rule entries bytes p)) (sym is)
 
-  pub plain_added : (own : PlainFixed) (old new : List (List ℕ)) (count : ℕ) → place ≡ Plain own → new ≡ old ++ map (bytes_in bytes) (take count (fixed_values own bytes)) → Adds Bytes old new (take count (fixed_outcomes entries bytes place))
-  plain_added own old new count is added =
-      let item = λ (value : List ℕ). Given (Bytes value) in
-      let values = fixed_values own bytes in
-      ap (map item) added ∙ map-append item old (map (bytes_in bytes) (take count values))
-      ∙ ap (λ more. map item old ++ more) (map-map item (bytes_in bytes) (take count values) ∙ sym (take-map (λ piece. item (bytes_in bytes piece)) count values) ∙ ap (λ p. take count (fixed_outcomes entries bytes p)) (sym is))
+  -- what the next plain values give
+  pub plain_taken : (own : PlainFixed) (count : ℕ) → place ≡ Plain own → map (λ value. stored_outcome rule (Octets value)) (map (bytes_in bytes) (take count (fixed_values own bytes))) ≡ take count (fixed_outcomes rule entries bytes place)
+  plain_taken own count is =
+      map-map (λ value. stored_outcome rule (Octets value)) (bytes_in bytes) (take count (fixed_values own bytes))
+      ∙ sym (take-map (λ piece. stored_outcome rule (Octets (bytes_in bytes piece))) count (fixed_values own bytes)) ∙ ap (λ p. take count (fixed_outcomes rule entries bytes p)) (sym is)
+
+-- plain values that are added as they are
+pub plain_added : (entries : Option (List Cell)) (bytes : List ℕ) (place : FixedPlace) (own : PlainFixed) (old new : List (List ℕ)) (count : ℕ) → place ≡ Plain own → new ≡ old ++ map (bytes_in bytes) (take count (fixed_values own bytes))
+    → Adds Bytes old new (take count (fixed_outcomes Keep entries bytes place))
+plain_added entries bytes place own old new count is added =
+    let item = λ (value : List ℕ). Given (Bytes value) in
+    ap (map item) added ∙ map-append item old (map (bytes_in bytes) (take count (fixed_values own bytes)))
+    ∙ ap (λ more. map item old ++ more) (plain_taken Keep entries bytes place own count is)
+
+-- the entries as a list that may be empty, or none
+pub fixed_alike : {D T : Type 0} (cell : T → Cell) (dict : Option D) (items : D → List T) (entries : List T) (rule : Conversion) (bytes : List ℕ) (p : FixedPlace) → entries ≡ option_map_or items dict []
+    → fixed_outcomes rule (Some (map cell entries)) bytes p ≡ fixed_outcomes rule (option_map (λ v. map cell (items v)) dict) bytes p
+fixed_alike {D = D} cell dict items entries rule bytes p e = ap (λ l. fixed_outcomes rule (Some (map cell l)) bytes p) e ∙ same dict p where
+  same : (o : Option D) (p : FixedPlace) → fixed_outcomes rule (Some (map cell (option_map_or items o []))) bytes p ≡ fixed_outcomes rule (option_map (λ v. map cell (items v)) o) bytes p
+  same None (Plain q) = refl
+  same None (Keys q) = refl
+  same (Some v) p = refl
 
 -- ---- what is opened
 
 module _ (size : ℕ) (bytes : List ℕ) (count : ℕ) where
-  pub plain_outcomes : (entries : Option (List Cell)) (places : List (ℕ × ℕ)) → plain_fixed size bytes count ≡ Some (map (bytes_in bytes) places)
-      → value_outcomes Keep (FixedLenByteArray size) entries encoding.Plain bytes count ≡ Some (map (λ piece. Given (Bytes (bytes_in bytes piece))) places)
+  pub plain_outcomes : (rule : Conversion) (entries : Option (List Cell)) (places : List (ℕ × ℕ)) → plain_fixed size bytes count ≡ Some (map (bytes_in bytes) places)
+      → value_outcomes rule (FixedLenByteArray size) entries encoding.Plain bytes count ≡ Some (map (λ piece. stored_outcome rule (Octets (bytes_in bytes piece))) places)
   unfolding value_outcomes plain_values
-  plain_outcomes entries places e =
-      ap (λ o. option_map (map (stored_outcome Keep)) (option_map (map Octets) o)) e
-      ∙ ap Some (map-map (stored_outcome Keep) Octets (map (bytes_in bytes) places) ∙ map-map (λ value. Given (Bytes value)) (bytes_in bytes) places)
+  plain_outcomes rule entries places e =
+      ap (λ o. option_map (map (stored_outcome rule)) (option_map (map Octets) o)) e
+      ∙ ap Some (map-map (stored_outcome rule) Octets (map (bytes_in bytes) places) ∙ map-map (λ value. stored_outcome rule (Octets value)) (bytes_in bytes) places)
 
   plain_causes : (entries : Option ℕ) → value_causes (FixedLenByteArray size) entries encoding.Plain bytes count ≡ unless (is_some (plain_fixed size bytes count)) ExternalFormat
   unfolding value_causes plain_values
@@ -94,9 +111,9 @@ module _ (size : ℕ) (bytes : List ℕ) (count : ℕ) where
       → IsOneOf (value_causes (FixedLenByteArray size) entries encoding.Plain bytes count) (cause_of error)
   one_plain_cause entries error h = rw (plain_causes entries, h.1, h.0) (0, omega arith, refl)
 
-  pub key_outcomes : (entries : Option (List Cell)) (keys : List ℕ) → dictionary_keys bytes count ≡ Some keys → value_outcomes Keep (FixedLenByteArray size) entries encoding.Keys bytes count ≡ Some (map (entry_outcome entries) keys)
+  pub key_outcomes : (rule : Conversion) (entries : Option (List Cell)) (keys : List ℕ) → dictionary_keys bytes count ≡ Some keys → value_outcomes rule (FixedLenByteArray size) entries encoding.Keys bytes count ≡ Some (map (entry_outcome entries) keys)
   unfolding value_outcomes
-  key_outcomes entries keys e = ap (option_map (map (entry_outcome entries))) e
+  key_outcomes rule entries keys e = ap (option_map (map (entry_outcome entries))) e
 
   pub no_key_cause : (entries own : Option ℕ) → own ≡ entries → option_map_or (key_causes None own) (dictionary_keys bytes count) (ExternalFormat ∷ []) ≡ [] → value_causes (FixedLenByteArray size) entries encoding.Keys bytes count ≡ []
   unfolding value_causes
@@ -108,13 +125,13 @@ module _ (size : ℕ) (bytes : List ℕ) (count : ℕ) where
   one_key_cause entries own error same told = let P : Option ℕ → Type 0 = λ e. IsOneOf (option_map_or (key_causes None e) (dictionary_keys bytes count) (ExternalFormat ∷ [])) (cause_of error) in subst P same told
 
   -- the entries of a dictionary
-  pub fixed_entries : (values : List (List ℕ)) → plain_fixed size bytes count ≡ Some values → dictionary_cells Keep (FixedLenByteArray size) (record { body = bytes; num_values = count }) ≡ Ok (map Bytes values)
+  pub fixed_entries : {T : Type 0} (cell : T → Cell) (rule : Conversion) (values : List (List ℕ)) (entries : List T) → plain_fixed size bytes count ≡ Some values → Adds cell [] entries (map (λ value. stored_outcome rule (Octets value)) values)
+      → dictionary_cells rule (FixedLenByteArray size) (record { body = bytes; num_values = count }) ≡ Ok (map cell entries)
   unfolding plain_values
-  fixed_entries values e =
-      all_entries Keep (FixedLenByteArray size) (record { body = bytes; num_values = count }) (map Octets values) (map Bytes values) (ap (option_map (map Octets)) e)
-      (map-map (stored_outcome Keep) Octets values ∙ sym (map-map Given Bytes values))
+  fixed_entries cell rule values entries e added =
+      dictionary_read cell rule (FixedLenByteArray size) (record { body = bytes; num_values = count }) (map Octets values) entries (ap (option_map (map Octets)) e) (added ∙ sym (map-map (stored_outcome rule) Octets values))
 
-  pub no_fixed_entries : (error : Error) → (cause_of error ≡ Some ExternalFormat) × (plain_fixed size bytes count ≡ None)
-      → IsOneOf (causes_in (refusal_of (dictionary_cells Keep (FixedLenByteArray size) (record { body = bytes; num_values = count })))) (cause_of error)
+  pub no_fixed_entries : (rule : Conversion) (error : Error) → (cause_of error ≡ Some ExternalFormat) × (plain_fixed size bytes count ≡ None)
+      → IsOneOf (causes_in (refusal_of (dictionary_cells rule (FixedLenByteArray size) (record { body = bytes; num_values = count })))) (cause_of error)
   unfolding plain_values
-  no_fixed_entries error h = no_entries Keep (FixedLenByteArray size) (record { body = bytes; num_values = count }) error (ap (option_map (map Octets)) h.1) h.0
+  no_fixed_entries rule error h = no_entries rule (FixedLenByteArray size) (record { body = bytes; num_values = count }) error (ap (option_map (map Octets)) h.1) h.0

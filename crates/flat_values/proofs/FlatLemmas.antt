@@ -1,6 +1,6 @@
 -- What flat pages give, by their walks and their values.
 use Rattle.std.proofs.Common.{Bor, ◌≡◌, ℕ, zero, suc, ◌+◌, ◌-◌, ◌<◌, ◌≤◌, Bool, true, false, List, [], ◌∷◌, ◌++◌, length, take, drop, map, refl, sym, ap, ◌∙◌, subst, arith, append_assoc, append-nil}
-use Rattle.std.specs.Prelude.{◌&&◌, ◌||◌, if◌then◌else◌, is_some, IsSome, replicate, unwrap_or, Option, Some, None, option_map, Result, Ok, Err, OnOk}
+use Rattle.std.specs.Prelude.{◌&&◌, ◌||◌, if◌then◌else◌, is_some, replicate, unwrap_or, Option, Some, None, option_map, Result, Ok, Err, OnOk}
 use Rattle.std.specs.Option.{option_copied, option_map_or}
 use Rattle.std.proofs.lemmas.Bool.{and_parts}
 use Rattle.std.proofs.lemmas.List.Elements.{Contains-push}
@@ -26,7 +26,7 @@ use Rattle.parquet_page.specs.ValidityLeft.{levels_causes, page_places}
 use Rattle.parquet_page.specs.declared.run.Run.{Run}
 use Rattle.parquet_page.specs.declared.run.Run.TheVariants as run
 use Rattle.parquet_page.proofs.PlanLemmas.{along-null, along-passed, along-plan, along-present}
-use Rattle.parquet_page.proofs.SpelledLemmas.{absent_same, present_suc}
+use Rattle.parquet_page.proofs.SpelledLemmas.{are_placed}
 use Rattle.column_values.proofs.FilteredLemmas.{stored-plan}
 use Rattle.column_values.proofs.RowLemmas.{caused-left, caused-right}
 use Rattle.column_values.specs.FilteredLeft.{stored_values}
@@ -35,17 +35,6 @@ use Rattle.flat_values.specs.Conversion.{Conversion}
 use Rattle.flat_values.specs.FlatLeft.{behind_run, causes_unless_none, given_along, read_encoding, run_outcomes, value_bytes}
 use Rattle.flat_values.specs.Outcomes.{place_outcomes, placed_outcome, selected_outcomes, value_causes, value_outcomes}
 use Rattle.flat_values.proofs.CountLemmas.{length-outcomes, length-values}
-
-are_placed : {A : Type 0} (places : List Bool) (values : List A) → length values ≡ present_count places → IsSome (placed places values)
-are_placed [] [] e = refl
-are_placed [] (value ∷ values) e = absurd (omega (arith, e))
-are_placed (false ∷ places) values e =
-    let others = is_something (placed places values) (are_placed places values (e ∙ absent_same places)) in
-    rw others.1 refl
-are_placed (true ∷ places) [] e = absurd (omega (arith, e, present_suc places))
-are_placed (true ∷ places) (value ∷ values) e =
-    let others = is_something (placed places values) (are_placed places values (omega (arith, e, present_suc places))) in
-    rw others.1 refl
 
 -- ---- nulls
 

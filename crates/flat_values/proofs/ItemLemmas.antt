@@ -38,7 +38,7 @@ chunks-append size (suc m) n (suc k) xs ys e long =
     ap₂ (λ x others. x ∷ others) (take-append-le size xs ys enough)
     (ap (first_chunks size k) (drop-append-le size xs ys enough) ∙ chunks-append size m n k (drop size xs) ys (omega (arith, e)) rest)
 
-one_chunk : (size : ℕ) (xs : List ℕ) → length xs ≡ size → first_chunks size 1 xs ≡ xs ∷ []
+pub one_chunk : (size : ℕ) (xs : List ℕ) → length xs ≡ size → first_chunks size 1 xs ≡ xs ∷ []
 one_chunk size xs long = ap (λ x. x ∷ []) (ap (λ n. take n xs) (sym long) ∙ take-length xs)
 
 chunks-replicate : (size n : ℕ) → first_chunks {X = ℕ} size n (replicate (n * size) 0) ≡ replicate n (replicate size 0)

@@ -1,9 +1,12 @@
 -- Keys past the entries of a dictionary.
-use Rattle.std.proofs.Common.{◌≡◌, ℕ, zero, suc, ◌<◌, ◌≤◌, Bool, true, false, List, [], ◌∷◌, ◌++◌, length, map, take, drop, get_or, refl, sym, ap, ◌∙◌, arith}
+use Rattle.std.proofs.Common.{◌≡◌, ℕ, zero, suc, ◌+◌, ◌<◌, ◌≤◌, Bool, true, false, List, [], ◌∷◌, ◌++◌, length, map, take, drop, get_or, refl, sym, ap, ◌∙◌, arith}
 use Rattle.std.specs.Option.{option_map_or}
 use Rattle.std.proofs.lemmas.Option.{slice_get-get_or, slice_get_past}
-use Rattle.columns_core.specs.Causes.{Cause, ExternalFormat, OutOfSpec}
-use Rattle.std.proofs.lemmas.Bool.{false≢true}
+use Rattle.columns_core.specs.Causes.{Cause, ExternalFormat, IsOneOf, OutOfSpec, cause_of}
+use Rattle.columns_core.specs.declared.error.Error.{Error}
+use Rattle.column_values.proofs.RowLemmas.{caused-right}
+use Rattle.flat_values.proofs.AddedLemmas.{refused_at}
+use Rattle.std.proofs.lemmas.Bool.{false≢true, le-leb, leb-false, leb-true, lt-leb, or_parts}
 use Rattle.parquet_base.specs.declared.varint.Unspelled.{Unspelled}
 use Rattle.parquet_encoding.specs.Hybrid.{hybrid}
 use Rattle.parquet_encoding.specs.HybridLeft.{hybrid_left, hybrid_values}
@@ -12,10 +15,10 @@ use Rattle.parquet_encoding.proofs.WalkLemmas.{passes_none}
 use Rattle.parquet_page.specs.Opened.{key_causes, passes}
 use Rattle.columns_core.specs.declared.cell.Cell.{Cell}
 use Rattle.parquet_encoding.proofs.StepLemmas.{something}
-use Rattle.column_values.specs.Outcome.{Given, Refused}
+use Rattle.column_values.specs.Outcome.{Given, IsCausedBy, Outcome, Refused}
 use Rattle.flat_values.specs.Outcomes.{entry_outcome}
-use Rattle.std.specs.Prelude.{◌||◌, nat_le, min, replicate, Contains, Option, Some, None, unwrap_or, Result, Err, is_ok, is_some}
-use Rattle.std.proofs.lemmas.List.{get_or-map, length-map, length-take, take-append-drop, take-append-le, take_all}
+use Rattle.std.specs.Prelude.{◌||◌, ◌==◌, nat_le, slice_get, max, min, replicate, Contains, Option, Some, None, unwrap_or, Result, Err, is_ok, is_some}
+use Rattle.std.proofs.lemmas.List.{get_or-map, get_or_default, take_more, length-map, length-take, take-append-drop, take-append-le, take_all}
 use Rattle.std.proofs.lemmas.List.Folds.{list_any-append}
 use Rattle.parquet_encoding.specs.HybridRun.{count_of, run_values}
 use Rattle.parquet_encoding.specs.declared.run.HybridRun.{HybridRun}
@@ -91,6 +94,68 @@ named cell entries key entry lt is =
 
 pub not_named : {T : Type 0} (cell : T → Cell) (entries : List T) (key : ℕ) → length entries ≤ key → entry_outcome (Some (map cell entries)) key ≡ Refused (OutOfSpec ∷ [])
 not_named cell entries key past = ap (λ o. option_map_or Given o (Refused (OutOfSpec ∷ []))) (slice_get_past (map cell entries) key (omega (arith, length-map entries cell, past)))
+
+-- keys that are not past the entries name what is found, whatever is found for others
+pub found_named : {T : Type 0} (cell : T → Cell) (entries : List T) (first : T) (keys : List ℕ) → has_key_past (length entries) keys ≡ false
+    → map (λ key. Given (cell (get_or entries key first))) keys ≡ map (entry_outcome (Some (map cell entries))) keys
+found_named cell entries first [] within = refl
+found_named cell entries first (key ∷ keys) within =
+    let parts = or_parts (nat_le (length entries) key) (has_key_past (length entries) keys) within in
+    let lt = leb-false (length entries) key parts.0 in
+    let entry = get_or entries key first in
+    ap (λ outcome. outcome ∷ map (λ key. Given (cell (get_or entries key first))) keys) (named cell entries key entry lt (get_or_default entries key first entry lt))
+    ∙ ap (λ outcomes. entry_outcome (Some (map cell entries)) key ∷ outcomes) (found_named cell entries first keys parts.1)
+
+-- a key that is past them is refused
+pub past_refused : {T : Type 0} (cell : T → Cell) (entries : List T) (keys : List ℕ) (error : Error) → cause_of error ≡ Some OutOfSpec → has_key_past (length entries) keys ≡ true → IsCausedBy (map (entry_outcome (Some (map cell entries))) keys) error
+past_refused cell entries [] error is past = absurd cc
+past_refused cell entries (key ∷ keys) error is past = go (nat_le (length entries) key) refl past (past_refused cell entries keys error is) where
+  outcome : ℕ → Outcome
+  outcome = entry_outcome (Some (map cell entries))
+
+  go : (b : Bool) → nat_le (length entries) key ≡ b → (b || has_key_past (length entries) keys) ≡ true → (has_key_past (length entries) keys ≡ true → IsCausedBy (map outcome keys) error) → IsCausedBy (map outcome (key ∷ keys)) error
+  go true e past later =
+      let told : IsOneOf (OutOfSpec ∷ []) (cause_of error) = rw is (0, omega arith, refl) in
+      refused_at outcome (key ∷ keys) 0 0 key (OutOfSpec ∷ []) error (omega arith) refl (not_named cell entries key (leb-true (length entries) key e)) told
+  go false e past later = caused-right (outcome key ∷ []) (map outcome keys) error (later past)
+
+-- of no entries every key is past
+first-past : (key : ℕ) (keys : List ℕ) → has_key_past 0 (key ∷ keys) ≡ true
+first-past key keys = ap (λ b. b || has_key_past 0 keys) (le-leb 0 key (omega arith))
+
+pub no_keys : {T : Type 0} (entries : List T) (keys : List ℕ) → None ≡ slice_get entries 0 → has_key_past (length entries) keys ≡ false → keys ≡ []
+no_keys [] [] none within = refl
+no_keys [] (key ∷ keys) none within = absurd (false≢true (sym within ∙ first-past key keys))
+no_keys (entry ∷ entries) keys none within = absurd cc
+
+-- ---- the greatest key
+
+le-max : (entries a b : ℕ) → nat_le entries (max a b) ≡ (nat_le entries a || nat_le entries b)
+le-max entries a b = go (nat_le entries a) (nat_le entries b) refl refl where
+  go : (x y : Bool) → nat_le entries a ≡ x → nat_le entries b ≡ y → nat_le entries (max a b) ≡ (x || y)
+  go true y p q = le-leb entries (max a b) (omega (arith, leb-true entries a p))
+  go false true p q = le-leb entries (max a b) (omega (arith, leb-true entries b q))
+  go false false p q = lt-leb entries (max a b) (omega (arith, leb-false entries a p, leb-false entries b q))
+
+or-assoc : (a b c : Bool) → ((a || b) || c) ≡ (a || (b || c))
+or-assoc true b c = refl
+or-assoc false b c = refl
+
+pub none_greater : (entries : ℕ) → nat_le entries 0 ≡ (nat_le entries 0 || has_key_past entries [])
+none_greater entries = sym (once (nat_le entries 0))
+
+pub one_greater : (entries most key i : ℕ) (keys : List ℕ) → i < length keys → key ≡ get_or keys i 0 → nat_le entries most ≡ (nat_le entries 0 || has_key_past entries (take i keys))
+    → nat_le entries (max most key) ≡ (nat_le entries 0 || has_key_past entries (take (i + 1) keys))
+one_greater entries most key i keys lt is before =
+    let front = has_key_past entries (take i keys) in
+    let more : has_key_past entries (take (i + 1) keys) ≡ (front || nat_le entries key) =
+    ap (has_key_past entries) (take_more keys i 0 lt) ∙ list_any-append (λ key. nat_le entries key) (take i keys) (get_or keys i 0 ∷ []) ∙ ap (λ b. front || b) (once (nat_le entries (get_or keys i 0)) ∙ ap (nat_le entries) (sym is)) in
+    le-max entries most key ∙ ap (λ b. b || nat_le entries key) before ∙ or-assoc (nat_le entries 0) front (nat_le entries key) ∙ ap (λ b. nat_le entries 0 || b) (sym more)
+
+pub some_greater : (entries : ℕ) (keys : List ℕ) → (length keys == 0) ≡ false → (nat_le entries 0 || has_key_past entries keys) ≡ has_key_past entries keys
+some_greater entries [] some = absurd (false≢true (sym some))
+some_greater zero (key ∷ keys) some = sym (first-past key keys)
+some_greater (suc entries) (key ∷ keys) some = ap (λ b. b || has_key_past (suc entries) (key ∷ keys)) (lt-leb (suc entries) 0 (omega arith))
 
 -- ---- the keys behind their width
 

@@ -21,3 +21,5 @@ pub mod PlainLemmas
 pub mod EndLemmas
 pub mod Examples
 pub mod ReaderLemmas
+mod ArrayLemmas
+mod StringLemmas

@@ -21,3 +21,4 @@ pub mod Order
 pub mod Units
 pub mod FixedItems
 pub mod Arrays
+pub mod NextArray

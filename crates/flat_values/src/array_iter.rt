@@ -1,10 +1,11 @@
 //! The arrays of a column, one after another.
-ghost use Rattle.std.specs.Prelude.{◌≡◌, IsTrue, if◌then◌else◌, is_ok, [], None, IfOk, IfErr, IfNone};
+ghost use Rattle.std.specs.Prelude.{◌≡◌, ◌<◌, IsTrue, if◌then◌else◌, is_ok, [], None, IfOk, IfErr, IfNone};
 ghost use Rattle.columns_core.specs.Causes.{IsWantOfMemory, is_invalid_argument};
 ghost use Rattle.column_values.specs.Chunks.{GivesNext, IfGiven, Reads, ended, standing_of};
 ghost use Rattle.column_values.specs.Column.{DataPagesAre};
 ghost use Rattle.column_values.specs.Queue.{IsChunkSize};
 ghost use Rattle.column_values.specs.Standing.{NoneComes, still_wanted};
+ghost use Rattle.flat_values.specs.NextArray.{GivesArray};
 ghost use Rattle.flat_values.specs.Outcomes.{dictionary_cells, selected_outcomes};
 
 use crate::{FlatDecoder, IntoArray};
@@ -13,8 +14,9 @@ use columns_core::{DataType, Error, Part};
 use parquet_base::Steps;
 use parquet_page::Pages;
 use std::alloc::Global;
-use std::marker::Model;
-use std::sync::ledger::Ledger;
+use std::iter::Iterator;
+use std::marker::{Brand, Model};
+use std::sync::ledger::{Blank, Ledger};
 
 /// The array of a chunk.
 fn array_of<V: IntoArray>(
@@ -142,5 +144,34 @@ impl<I: Pages, V: IntoArray + Drop> ArrayIter<I, V> {
         ensures { result ≡ I.lent_count self.now.chunks.pages }
     {
         self.chunks.lent()
+    }
+}
+
+/// The next array, over steps of its own.
+fn next_alone<I: Pages, V: IntoArray + Drop, L: Ledger>(
+    arrays: &mut ArrayIter<I, V>,
+    blank: Blank,
+) -> Option<Result<V::Array, Error>>
+    requires name { blank.name ≡ L.name }
+    requires parts { blank.parts ≡ L.parts }
+    requires whole { 0 < blank.parts }
+    ensures { GivesArray V.rule V.physical I.to_come I.causes I.row_count I.lent_count V.array_type V.array_cells arrays.old result arrays.new }
+{
+    let mut steps = Steps::<L>::new(blank);
+    arrays.next_counted(&mut steps)
+}
+
+/// The arrays of a column, over steps of their own.
+impl<I: Pages, V: IntoArray + Drop> Iterator for ArrayIter<I, V> {
+    ghost use Rattle.flat_values.specs.NextArray.{GivesArray, arrays_at_most};
+
+    type Item = Result<V::Array, Error>;
+
+    ghost next_gives = { GivesArray V.rule V.physical I.to_come I.causes I.row_count I.lent_count V.array_type V.array_cells };
+
+    ghost remaining = { arrays_at_most V.rule V.physical I.to_come I.causes };
+
+    fn next(&mut self) -> Option<Result<V::Array, Error>> {
+        next_alone::<I, V, Brand>(self, Blank::new(1))
     }
 }

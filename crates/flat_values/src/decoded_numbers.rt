@@ -11,7 +11,7 @@ use columns_core::{
 };
 use std::alloc::Global;
 
-/// Decoded numbers. The mask is empty until the first null, which stands on 0.
+/// Decoded numbers. The mask is empty until the first null.
 #[derive(Drop)]
 pub struct DecodedNumbers<T> {
     pub(crate) values: Vec<T>,
@@ -26,7 +26,7 @@ impl<T: NativeType> DecodedState for DecodedNumbers<T> {
     }
 }
 
-impl<T: NativeType + Default> DecodedNumbers<T> {
+impl<T: NativeType> DecodedNumbers<T> {
     /// No numbers, with memory for so many.
     pub(crate) fn with_capacity(alloc: Global, capacity: usize) -> Result<Self, Error>
         ensures values { IfOk result (λ decoded. decoded.values.items ≡ []) }
@@ -39,8 +39,8 @@ impl<T: NativeType + Default> DecodedNumbers<T> {
         })
     }
 
-    /// Appends so many nulls.
-    pub(crate) fn push_nulls(&mut self, count: usize) -> Result<(), Error>
+    /// Appends so many nulls, which stand on a number.
+    pub(crate) fn push_nulls_on(&mut self, count: usize, number: T) -> Result<(), Error>
         requires own { IsMaskFor self.old.values.items self.old.validity }
         ensures cells { OnOk result (marked_cells T.cell self.new.values.items self.new.validity ≡ marked_cells T.cell self.old.values.items self.old.validity ++ replicate count Null) }
         ensures own { OnOk result (IsMaskFor self.new.values.items self.new.validity) }
@@ -50,8 +50,20 @@ impl<T: NativeType + Default> DecodedNumbers<T> {
         let Some(all) = held.checked_add(count) else {
             return Err(Error::OutOfMemory);
         };
-        self.values.resize(all, T::default())?;
+        self.values.resize(all, number)?;
         mark_nulls(&mut self.validity, held, count)
+    }
+}
+
+impl<T: NativeType + Default> DecodedNumbers<T> {
+    /// Appends so many nulls, which stand on 0.
+    pub(crate) fn push_nulls(&mut self, count: usize) -> Result<(), Error>
+        requires own { IsMaskFor self.old.values.items self.old.validity }
+        ensures cells { OnOk result (marked_cells T.cell self.new.values.items self.new.validity ≡ marked_cells T.cell self.old.values.items self.old.validity ++ replicate count Null) }
+        ensures own { OnOk result (IsMaskFor self.new.values.items self.new.validity) }
+        ensures memory { IfErr result IsWantOfMemory }
+    {
+        self.push_nulls_on(count, T::default())
     }
 }
 

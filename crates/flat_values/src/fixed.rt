@@ -6,6 +6,7 @@ ghost use Rattle.columns_core.specs.ElementType.{fixed_size};
 ghost use Rattle.columns_core.specs.declared.cell.Cell.{Bytes, Cell};
 ghost use Rattle.column_values.specs.Outcome.{Given, Refused, causes_in};
 ghost use Rattle.flat_values.specs.Added.{Adds};
+ghost use Rattle.flat_values.specs.Conversion.{Conversion, Keep};
 ghost use Rattle.flat_values.specs.Decoded.{IsMaskFor, marked, marked_cells};
 ghost use Rattle.flat_values.specs.FixedLeft.{HasEntriesOf, IsAmongFixed, entry_cells, fixed_outcomes};
 ghost use Rattle.flat_values.specs.KeysLeft.{IsAmongKeys, keys};
@@ -85,7 +86,12 @@ fn no_items(alloc: Global, capacity: usize, size: usize) -> Result<FixedSizeBina
 }
 
 /// Before the first of so many byte strings.
-fn open_plain(bytes: &[u8], size: usize, count: usize, part: Part) -> Result<PlainFixed, Error>
+pub(crate) fn open_plain(
+    bytes: &[u8],
+    size: usize,
+    count: usize,
+    part: Part,
+) -> Result<PlainFixed, Error>
     ensures values { IfOk result (λ place. plain_fixed size bytes.now count ≡ Some (map (bytes_in bytes.now) (fixed_values place bytes.now))) }
     ensures among { IfOk result (λ place. IsSome (fixed_left place bytes.now) × (value_size place ≡ size)) }
     ensures counted { IfOk result (λ place. length (fixed_values place bytes.now) ≡ count) }
@@ -193,11 +199,11 @@ fn take_values(
     requires among { IsAmongFixed items.old.size bytes.now place }
     requires dict { HasEntriesOf items.old.size (option_copied dict) }
     requires some { 0 < items.old.size }
-    ensures added { OnOk result (Adds Bytes items.old.items items.new.items (take count (fixed_outcomes (entry_cells (option_copied dict.entry)) bytes.now place))) }
-    ensures rest { IfOk result (λ new. fixed_outcomes (entry_cells (option_copied dict.entry)) bytes.now new ≡ drop count (fixed_outcomes (entry_cells (option_copied dict.entry)) bytes.now place)) }
+    ensures added { OnOk result (Adds Bytes items.old.items items.new.items (take count (fixed_outcomes Keep (entry_cells (option_copied dict.entry)) bytes.now place))) }
+    ensures rest { IfOk result (λ new. fixed_outcomes Keep (entry_cells (option_copied dict.entry)) bytes.now new ≡ drop count (fixed_outcomes Keep (entry_cells (option_copied dict.entry)) bytes.now place)) }
     ensures among { IfOk result (IsAmongFixed items.old.size bytes.now) }
     ensures size { OnOk result (items.new.size ≡ items.old.size) }
-    ensures cause { ComesOf result (causes_in (take count (fixed_outcomes (entry_cells (option_copied dict.entry)) bytes.now place))) }
+    ensures cause { ComesOf result (causes_in (take count (fixed_outcomes Keep (entry_cells (option_copied dict.entry)) bytes.now place))) }
 {
     match place {
         FixedPlace::Plain(place) => Ok(FixedPlace::Plain(take_plain(place, bytes, items, count)?)),
@@ -208,9 +214,9 @@ fn take_values(
 }
 
 /// Passes over the next values, at most so many.
-fn skip_values(place: FixedPlace, bytes: &[u8], count: usize) -> FixedPlace
+pub(crate) fn skip_values(place: FixedPlace, bytes: &[u8], count: usize) -> FixedPlace
     requires { (size : ℕ) × IsAmongFixed size bytes.now place }
-    ensures rest { (entries : Option (List Cell)) → fixed_outcomes entries bytes.now result ≡ drop count (fixed_outcomes entries bytes.now place) }
+    ensures rest { (rule : Conversion) (entries : Option (List Cell)) → fixed_outcomes rule entries bytes.now result ≡ drop count (fixed_outcomes rule entries bytes.now place) }
     ensures among { (size : ℕ) → IsAmongFixed size bytes.now place → IsAmongFixed size bytes.now result }
 {
     match place {
@@ -242,7 +248,6 @@ impl FixedValues {
 }
 
 impl ValueDecoder for FixedValues {
-    ghost use Rattle.flat_values.specs.Conversion.{Keep};
     ghost use Rattle.parquet_meta.specs.declared.metadata.PhysicalType.TheVariants.{FixedLenByteArray};
 
     type Values = FixedPlace;
@@ -263,7 +268,7 @@ impl ValueDecoder for FixedValues {
 
     ghost is_over = { λ fixed bytes place. IsAmongFixed fixed.size bytes place };
 
-    ghost left = { λ _ dict bytes place. fixed_outcomes (entry_cells dict) bytes place };
+    ghost left = { λ _ dict bytes place. fixed_outcomes Keep (entry_cells dict) bytes place };
 
     fn open(
         &self,

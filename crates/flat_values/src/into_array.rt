@@ -1,6 +1,6 @@
 //! Decoded values that become arrays.
-ghost use Rattle.std.specs.Prelude.{◌≡◌, ◌⊎◌, ◌↔◌, IsTrue, List, IfOk, IfErr};
-ghost use Rattle.columns_core.specs.Causes.{IsWantOfMemory, is_invalid_argument};
+ghost use Rattle.std.specs.Prelude.{◌≡◌, ◌↔◌, IsTrue, List, IfOk, IfErr};
+ghost use Rattle.columns_core.specs.Causes.{is_invalid_argument};
 ghost use Rattle.columns_core.specs.declared.cell.Cell.{Cell};
 ghost use Rattle.columns_core.specs.declared.data_type.DataType.{DataType};
 
@@ -28,5 +28,5 @@ pub trait IntoArray: ValueDecoder {
         requires own { Self.is_own self.now decoded }
         ensures array { IfOk result (λ array. (array_type array ≡ data_type) × (array_cells array ≡ Self.Decoded.shown decoded)) }
         ensures ok { IfOk result (λ _. is_type self.now data_type) }
-        ensures err { IfErr result (λ e. IsWantOfMemory e ⊎ (IsTrue (is_invalid_argument e) × (is_type self.now data_type → ⊥))) };
+        ensures err { IfErr result (λ e. IsTrue (is_invalid_argument e) × (is_type self.now data_type → ⊥)) };
 }

@@ -1,11 +1,11 @@
 //! Keys of a dictionary, in the pages of a column.
-ghost use Rattle.std.specs.Prelude.{◌≡◌, ◌<◌, ◌≤◌, ◌++◌, ℕ, List, [], ◌∷◌, Some, IsSome, IfOk, IfErr, IfNone, IfSome, OnOk, length, min, take, drop, map};
+ghost use Rattle.std.specs.Prelude.{◌≡◌, ◌<◌, ◌≤◌, ◌++◌, ◌||◌, ℕ, List, [], ◌∷◌, nat_le, slice_index_or, Some, IsSome, IfOk, IfErr, IfNone, IfSome, OnOk, length, max, min, take, drop, map};
 ghost use Rattle.std.specs.Option.{option_map_or};
 ghost use Rattle.columns_core.specs.Causes.{ComesOf, ExternalFormat, IsOneOf, cause_of};
 ghost use Rattle.parquet_encoding.specs.HybridLeft.{hybrid_left, hybrid_values};
 ghost use Rattle.parquet_page.specs.Opened.{key_causes, passes};
 ghost use Rattle.parquet_page.specs.Values.{dictionary_keys, has_key_past};
-ghost use Rattle.column_values.specs.Outcome.{causes_in};
+ghost use Rattle.column_values.specs.Outcome.{Given, causes_in};
 ghost use Rattle.flat_values.specs.Added.{Adds};
 ghost use Rattle.flat_values.specs.KeysLeft.{IsAmongKeys, keys};
 ghost use Rattle.flat_values.specs.Outcomes.{entry_outcome};
@@ -13,6 +13,7 @@ ghost use Rattle.flat_values.specs.PassedKeys.{PassesKeys};
 
 use columns_core::{Error, NativeType, Part};
 use parquet_encoding::{HybridRle, HybridRun};
+use std::alloc::AllocError;
 
 /// How many keys are looked at together.
 pub(crate) const CHUNK: usize = 128;
@@ -120,10 +121,45 @@ fn chunk_has_past(keys: &mut HybridRle, bytes: &[u8], entries: usize) -> bool
     slice_has_past(&chunk[..count], entries)
 }
 
+/// The greater of two keys.
+fn greater(one: u32, other: u32) -> u32
+    ensures { result ≡ max one other }
+{
+    if one < other { other } else { one }
+}
+
+/// The greatest of some keys, or 0.
+fn greatest(keys: &[u32]) -> u32
+    ensures { (entries : ℕ) → nat_le entries result ≡ (nat_le entries 0 || has_key_past entries keys.now) }
+{
+    let mut most = 0;
+    for key in keys {
+        most = greater(most, *key);
+    }
+    most
+}
+
 fn slice_has_past(keys: &[u32], entries: usize) -> bool
     ensures { result ≡ has_key_past entries keys.now }
 {
-    keys.iter().any(|key| *key as usize >= entries)
+    !keys.is_empty() && greatest(keys) as usize >= entries
+}
+
+/// Appends the entries that keys name, and `first` for a key past them.
+fn extend_found<T: NativeType>(
+    values: &mut Vec<T>,
+    entries: &[T],
+    first: T,
+    keys: &[u32],
+) -> Result<(), AllocError>
+    ensures { OnOk result (Adds T.cell values.old.items values.new.items (map (λ key. Given (T.cell (slice_index_or entries.now key first))) keys.now)) }
+{
+    values.extend(
+        keys.iter().map(move |key| match entries.get(*key as usize) {
+            Some(entry) => *entry,
+            None => first,
+        }),
+    )
 }
 
 /// Appends the entries that keys name.
@@ -135,13 +171,13 @@ pub(crate) fn extend_named<T: NativeType>(
     ensures added { OnOk result (Adds T.cell values.old.items values.new.items (map (entry_outcome (Some (map T.cell entries.now))) keys.now)) }
     ensures cause { ComesOf result (causes_in (map (entry_outcome (Some (map T.cell entries.now))) keys.now)) }
 {
-    values.reserve(keys.len())?;
-    for key in keys {
-        let Some(entry) = entries.get(*key as usize) else {
-            return Err(Error::OutOfSpec(Part::Values));
-        };
-        values.push(*entry)?;
+    if slice_has_past(keys, entries.len()) {
+        return Err(Error::OutOfSpec(Part::Values));
     }
+    let Some(first) = entries.first() else {
+        return Ok(());
+    };
+    extend_found(values, entries, *first, keys)?;
     Ok(())
 }
 

@@ -1,4 +1,8 @@
 //! Laws of the definitions.
+ghost use Rattle.std.specs.Prelude.{◌≡◌, ℕ, List, Option, length, map};
+ghost use Rattle.column_values.specs.Queue.{IsChunkSize};
+ghost use Rattle.parquet_base.specs.Pieces.{cut};
+ghost use Rattle.flat_values.specs.NullChunks.{cut_rows};
 ghost use Rattle.flat_values.specs.Sound.{ConvertsToType, EndsAreStored, PageHasType};
 ghost use Rattle.flat_values.specs.Order.{KeepsOrder};
 ghost use Rattle.flat_values.specs.Agreement.{PlacesGiveItems};
@@ -26,4 +30,9 @@ pub fn timestamps_keep_their_order()
 /// Where nothing is wrong with a page, its places give what its items are.
 pub fn places_give_items()
     ensures { PlacesGiveItems }
+{}
+
+/// Chunks of nulls have as many rows as the pieces of a list that is cut.
+pub fn nulls_are_cut_like_rows<T>()
+    ensures { (size : Option ℕ) (rows : List T) → IsChunkSize size → map length (cut size rows) ≡ cut_rows size (length rows) }
 {}

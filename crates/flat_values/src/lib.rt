@@ -2,12 +2,15 @@
 #![tactic(auto)]
 
 mod array_iter;
+#[cfg(test)]
+mod array_tests;
 pub mod boolean;
 mod bulk;
 mod convert;
 mod decoded_numbers;
 mod fixed;
 mod fixed_bytes;
+mod fixed_numbers;
 pub mod fixed_size_binary;
 mod flat_decoder;
 mod integer;
@@ -37,7 +40,11 @@ pub use bulk::{
 pub use convert::{Convert, ConvertAll};
 pub use decoded_numbers::DecodedNumbers;
 pub use fixed::{DecodedFixed, FixedPlace, FixedValues};
-pub use fixed_bytes::{convert_days_ms, convert_i128, convert_year_month};
+pub use fixed_bytes::{
+    ConvertFixed, DaysAndMillis, Decimals, Months, convert_days_ms, convert_i128,
+    convert_year_month,
+};
+pub use fixed_numbers::FixedNumbers;
 pub use fixed_size_binary::FixedSizeBinary;
 pub use flat_decoder::{FlatDecoder, FlatState};
 pub use integer::{DaysToMillis, Keep, Widen};

@@ -33,7 +33,7 @@ fn entry_count<T>(dict: Option<&Vec<T>>) -> Option<usize>
 }
 
 /// The entries of a dictionary, if there is one.
-fn entries_of<'a, T>(dict: Option<&'a Vec<T>>) -> &'a [T]
+pub(crate) fn entries_of<'a, T>(dict: Option<&'a Vec<T>>) -> &'a [T]
     ensures { result.now ≡ option_map_or (λ entries. entries.items) (option_copied dict.entry) [] }
 {
     match dict {
@@ -44,31 +44,31 @@ fn entries_of<'a, T>(dict: Option<&'a Vec<T>>) -> &'a [T]
 
 /// Appends what the next `count` values give, or all that are left.
 fn take_values<P: ParquetNativeType, T: NativeType, C: ConvertMany<P, T>>(
-    place: NumberPlace,
+    place: &mut NumberPlace,
     bytes: &[u8],
     entries: &[T],
     rule: C,
     values: &mut Vec<T>,
     count: usize,
-) -> Result<NumberPlace, Error>
-    requires { IsAmongNumbers P.physical bytes.now place }
-    ensures added { OnOk result (Adds T.cell values.old.items values.new.items (take count (number_left (C.rule rule) P.physical P.delta (Some (map T.cell entries.now)) bytes.now place))) }
-    ensures rest { IfOk result (λ new. number_left (C.rule rule) P.physical P.delta (Some (map T.cell entries.now)) bytes.now new ≡ drop count (number_left (C.rule rule) P.physical P.delta (Some (map T.cell entries.now)) bytes.now place)) }
-    ensures among { IfOk result (IsAmongNumbers P.physical bytes.now) }
-    ensures cause { ComesOf result (causes_in (take count (number_left (C.rule rule) P.physical P.delta (Some (map T.cell entries.now)) bytes.now place))) }
+) -> Result<(), Error>
+    requires { IsAmongNumbers P.physical bytes.now place.old }
+    ensures added { OnOk result (Adds T.cell values.old.items values.new.items (take count (number_left (C.rule rule) P.physical P.delta (Some (map T.cell entries.now)) bytes.now place.old))) }
+    ensures rest { OnOk result (number_left (C.rule rule) P.physical P.delta (Some (map T.cell entries.now)) bytes.now place.new ≡ drop count (number_left (C.rule rule) P.physical P.delta (Some (map T.cell entries.now)) bytes.now place.old)) }
+    ensures among { OnOk result (IsAmongNumbers P.physical bytes.now place.new) }
+    ensures cause { ComesOf result (causes_in (take count (number_left (C.rule rule) P.physical P.delta (Some (map T.cell entries.now)) bytes.now place.old))) }
 {
     match place {
-        NumberPlace::Plain(place) => {
-            let behind = take_plain::<P, T, C>(place, bytes, rule, values, count)?;
-            Ok(NumberPlace::Plain(behind))
+        NumberPlace::Plain(plain) => {
+            *plain = take_plain::<P, T, C>(*plain, bytes, rule, values, count)?;
+            Ok(())
         }
-        NumberPlace::Keys(place) => {
-            let behind = take_named(place, bytes, entries, values, count)?;
-            Ok(NumberPlace::Keys(behind))
+        NumberPlace::Keys(keys) => {
+            *keys = take_named(*keys, bytes, entries, values, count)?;
+            Ok(())
         }
-        NumberPlace::Deltas(place) => {
-            let behind = take_deltas::<P, T, C>(place, bytes, rule, values, count)?;
-            Ok(NumberPlace::Deltas(behind))
+        NumberPlace::Deltas(deltas) => {
+            *deltas = take_deltas::<P, T, C>(*deltas, bytes, rule, values, count)?;
+            Ok(())
         }
     }
 }
@@ -164,15 +164,14 @@ impl<P: ParquetNativeType, T: NativeType + Default, C: ConvertMany<P, T>> ValueD
     ) -> Result<(), Error> {
         let entries = entries_of(dict);
         let held = decoded.values.len();
-        let behind = take_values::<P, T, C>(
-            *values,
+        take_values::<P, T, C>(
+            values,
             bytes,
             entries,
             self.rule,
             &mut decoded.values,
             count,
         )?;
-        *values = behind;
         let taken = decoded.values.len() - held;
         mark_values(&mut decoded.validity, taken)
     }

@@ -1,18 +1,7 @@
-ghost use Rattle.std.specs.Prelude.{◌≡◌, ◌<◌, IfOk};
-ghost use Rattle.column_values.specs.Column.{DataPagesAre};
-ghost use Rattle.parquet_page.specs.Reader.{reader_pages};
-
 use super::*;
-use columns_core::{DataType, Error, Part, Seq, TimeUnit, days_ms};
-use parquet_base::Steps;
-use parquet_meta::{
-    ColumnChunkMetaData, ColumnDescriptor, PageLocation, ParquetTimeUnit, PhysicalType,
-    PrimitiveLogicalType, PrimitiveType, Repetition,
-};
-use parquet_page::{DictPage, IndexedPageReader, Interval, PageReader, select_pages};
-use std::alloc::{AllocError, Global};
-use std::marker::Brand;
-use std::sync::ledger::{Blank, Ledger};
+use columns_core::{DataType, Error, Part, TimeUnit, days_ms};
+use parquet_meta::{ParquetTimeUnit, PrimitiveLogicalType};
+use parquet_page::DictPage;
 use std::test::*;
 
 #[test]
@@ -137,75 +126,6 @@ fn values_of_one_size(rt: HostRuntime) -> Result<(), Fail> {
     Ok(())
 }
 
-/// An optional column of a type.
-fn column(alloc: Global, physical_type: PhysicalType) -> ColumnChunkMetaData
-    ensures { result.descriptor.primitive_type.physical_type ≡ physical_type }
-{
-    ColumnChunkMetaData {
-        descriptor: ColumnDescriptor {
-            path_in_schema: Seq::new(Vec::new(alloc)),
-            primitive_type: PrimitiveType {
-                physical_type,
-                logical_type: None,
-                repetition: Repetition::Optional,
-            },
-            flat: true,
-        },
-        codec: 0,
-        num_values: 200,
-        total_compressed_size: 18,
-        data_page_offset: 0,
-        dictionary_page_offset: None,
-        statistics_bytes: None,
-        offset_index: None,
-        column_index: None,
-        column_index_offset: None,
-        foreign: false,
-        encrypted: false,
-    }
-}
-
-fn page(offset: i64, first_row_index: i64) -> PageLocation {
-    PageLocation {
-        offset,
-        compressed_page_size: 9,
-        first_row_index,
-    }
-}
-
-/// Two pages of 100 rows each, of no bytes that are a page.
-fn two_pages(alloc: Global) -> Result<IndexedPageReader, Error> {
-    let rows = [Interval::new(0, 200)];
-    let pages = select_pages(alloc, &rows, &[page(0, 0), page(9, 100)], 200)?;
-    IndexedPageReader::new(
-        alloc,
-        vec![in alloc; 0; 18]?,
-        &column(alloc, PhysicalType::Int32),
-        pages,
-    )
-}
-
-#[test]
-fn nulls(rt: HostRuntime) -> Result<(), Fail> {
-    let pages = two_pages(rt.alloc())?;
-    let mut arrays = null::iter_to_arrays(&pages, Some(10), 101)?;
-    let mut lengths = Vec::new(rt.alloc());
-    for array in &mut arrays {
-        lengths.push(array?.len())?;
-    }
-    assert_eq!(rt;
-        lengths.as_slice(),
-        [10, 10, 10, 10, 10, 10, 10, 10, 10, 10, 1].as_slice()
-    );
-    let whole = null::iter_to_arrays(&pages, None, usize::MAX)?.next();
-    assert_eq!(rt; whole.ok_or("none")??.len(), 200);
-    assert_eq!(rt;
-        null::iter_to_arrays(&pages, Some(0), 101).err(),
-        Some(Error::InvalidArgumentError(Part::Request))
-    );
-    Ok(())
-}
-
 #[test]
 fn numbers_of_a_page(rt: HostRuntime) -> Result<(), Fail> {
     let reader: NumberValues<i32, i64, InBulk<DaysToMillis>> = NumberValues::new(InBulk(
@@ -251,90 +171,5 @@ fn numbers_by_keys(rt: HostRuntime) -> Result<(), Fail> {
     let dict = reader.read_dict(rt.alloc(), &one)?;
     let refused = reader.open(ValueEncoding::Keys, &bytes, 3, Some(&dict));
     assert!(rt; matches!(refused, Err(Error::OutOfSpec(_))));
-    Ok(())
-}
-
-/// A page of four places, of which the second is null. In the header its size stands as twice itself.
-fn page_of(alloc: Global, twice: u8, values: &[u8]) -> Result<Vec<u8>, AllocError> {
-    let mut chunk = Vec::new(alloc);
-    chunk.extend_from_slice(&[0x15, 0x00, 0x15, twice, 0x15, twice, 0x2c, 0x15, 0x08])?;
-    chunk.extend_from_slice(&[0x15, 0x00, 0x15, 0x06, 0x15, 0x06, 0x00, 0x00])?;
-    chunk.extend_from_slice(&[2, 0, 0, 0, 0x03, 0x0D])?;
-    chunk.extend_from_slice(values)?;
-    Ok(chunk)
-}
-
-fn pages_of(alloc: Global, physical: PhysicalType, chunk: Vec<u8>) -> Result<PageReader, Error>
-    ensures { IfOk result (λ reader. DataPagesAre (λ page. page.type.physical_type ≡ physical) (reader_pages reader)) }
-{
-    PageReader::new(alloc, chunk, &column(alloc, physical))
-}
-
-/// How many numbers each array of a chunk has, and the numbers.
-fn numbers_read<L: Ledger>(
-    alloc: Global,
-    chunk: Vec<u8>,
-    chunk_size: Option<usize>,
-    blank: Blank,
-) -> Result<(Vec<usize>, Vec<Option<i32>>), Error>
-    requires name { blank.name ≡ L.name }
-    requires parts { blank.parts ≡ L.parts }
-    requires whole { 0 < blank.parts }
-{
-    let mut steps = Steps::<L>::new(blank);
-    let pages = pages_of(alloc, PhysicalType::Int32, chunk)?;
-    let mut arrays: primitive::Iter<i32, PageReader, i32, InBulk<Keep>> = primitive::Iter::new(
-        alloc,
-        pages,
-        DataType::Int32,
-        4,
-        chunk_size,
-        InBulk(Keep),
-    )?;
-    let mut lengths = Vec::new(alloc);
-    let mut numbers = Vec::new(alloc);
-    for _ in 0..5 {
-        let Some(array) = arrays.next_counted(&mut steps) else {
-            break;
-        };
-        let array = array?.freeze();
-        lengths.push(array.len())?;
-        for i in 0..array.len() {
-            numbers.push(array.get(i))?;
-        }
-    }
-    Ok((lengths, numbers))
-}
-
-/// What `numbers_read` gives, over steps of its own.
-fn numbers_counted(
-    alloc: Global,
-    chunk: Vec<u8>,
-    chunk_size: Option<usize>,
-) -> Result<(Vec<usize>, Vec<Option<i32>>), Error> {
-    numbers_read::<Brand>(alloc, chunk, chunk_size, Blank::new(1))
-}
-
-#[test]
-fn arrays_of_numbers(rt: HostRuntime) -> Result<(), Fail> {
-    let alloc = rt.alloc();
-    let values = [7, 0, 0, 0, 8, 0, 0, 0, 9, 0, 0, 0];
-    let all = [Some(7), None, Some(8), Some(9)];
-    let (lengths, numbers) = numbers_counted(alloc, page_of(alloc, 0x24, &values)?, None)?;
-    assert_eq!(rt; lengths.as_slice(), [4].as_slice());
-    assert_eq!(rt; numbers.as_slice(), all.as_slice());
-    let (lengths, numbers) = numbers_counted(alloc, page_of(alloc, 0x24, &values)?, Some(3))?;
-    assert_eq!(rt; lengths.as_slice(), [3, 1].as_slice());
-    assert_eq!(rt; numbers.as_slice(), all.as_slice());
-    // A value is missing.
-    let short = page_of(alloc, 0x1c, &values[..8])?;
-    assert_eq!(rt;
-        numbers_counted(alloc, short, None).err(),
-        Some(Error::ExternalFormat(Part::Values))
-    );
-    assert_eq!(rt;
-        numbers_counted(alloc, Vec::new(alloc), Some(0)).err(),
-        Some(Error::InvalidArgumentError(Part::Request))
-    );
     Ok(())
 }

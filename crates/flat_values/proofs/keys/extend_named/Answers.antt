@@ -1,20 +1,26 @@
-use Rattle.std.proofs.Common.{arith, get_or, map, refl, [], ◌∷◌, Some}
-use Rattle.columns_core.specs.Causes.{OutOfSpec}
+use Rattle.std.proofs.Common.{List, ◌∙◌, ap, append-nil, map, refl, subst, sym, Some}
 use Rattle.columns_core.specs.declared.error.Error.TheVariants as errors
 use Rattle.columns_core.specs.declared.error.Part.TheVariants.{Values}
+use Rattle.column_values.specs.Outcome.{Given, Outcome}
+use Rattle.flat_values.specs.Added.{Adds}
 use Rattle.flat_values.specs.Outcomes.{entry_outcome}
-use Rattle.flat_values.proofs.AddedLemmas.{one_more, refused_at}
-use Rattle.flat_values.proofs.KeyLemmas.{named, not_named}
+use Rattle.flat_values.proofs.KeyLemmas.{found_named, no_keys, past_refused}
 use Rattle.flat_values.proofs.keys.extend_named.Goals as goal
 
-pub returns-in_default-clause-cause : goal.returns-in_default-clause-cause
-returns-in_default-clause-cause g c =
-    let key = get_or c.args.keys.now c.loop-key.key-index 0 in
-    refused_at (entry_outcome (Some (map g.T.NativeType.cell c.args.entries.now))) c.args.keys.now c.loop-key.key-index 0 key (OutOfSpec ∷ []) (errors.OutOfSpec Values) c.loop-key-test.true refl
-    (not_named g.T.NativeType.cell c.args.entries.now key c.in_default.ensures.lookup.3) (0, omega arith, refl)
+pub returns-then-slice_has_past-clause-cause : goal.returns-then-slice_has_past-clause-cause
+returns-then-slice_has_past-clause-cause g c =
+    past_refused g.T.NativeType.cell c.args.entries.now c.args.keys.now (errors.OutOfSpec Values) refl (sym c.slice_has_past.ensures ∙ c.if-slice_has_past.true)
 
-pub loop-key-preserved : goal.loop-key-preserved
-loop-key-preserved g c =
-    let key = get_or c.args.keys.now c.loop-key.key-index 0 in
-    one_more g.T.NativeType.cell (entry_outcome (Some (map g.T.NativeType.cell c.args.entries.now))) c.args.values.now.items c.loop-key.values.items c.push.new.self.items c.args.keys.now c.loop-key.key-index 0 c.in-Some.entry.now
-    c.loop-key.invariant c.loop-key-test.true c.in_ok-push.ensures.items (named g.T.NativeType.cell c.args.entries.now key c.in-Some.entry.now c.in-Some.ensures.lookup.3.0 c.in-Some.ensures.lookup.1)
+pub returns-in_default-clause-added : goal.returns-in_default-clause-added
+returns-in_default-clause-added g c =
+    let cell = g.T.NativeType.cell in
+    let outcome = entry_outcome (Some (map cell c.args.entries.now)) in
+    let none = no_keys c.args.entries.now c.args.keys.now c.in_default.ensures.value (sym c.slice_has_past.ensures ∙ c.if-slice_has_past.false) in
+    let P : List Outcome → Type 0 = λ outcomes. Adds cell c.args.values.now.items c.args.values.now.items outcomes in
+    subst P (ap (map outcome) (sym none)) (sym (append-nil (map (λ number. Given (cell number)) c.args.values.now.items)))
+
+pub returns-clause-added : goal.returns-clause-added
+returns-clause-added g c =
+    let cell = g.T.NativeType.cell in
+    let P : List Outcome → Type 0 = λ outcomes. Adds cell c.args.values.now.items c.extend_found.new.values.items outcomes in
+    subst P (found_named cell c.args.entries.now c.in-Some.first.now c.args.keys.now (sym c.slice_has_past.ensures ∙ c.if-slice_has_past.false)) c.in_ok-extend_found.ensures

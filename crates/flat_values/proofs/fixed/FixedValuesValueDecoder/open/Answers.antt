@@ -1,6 +1,7 @@
 use Rattle.std.specs.Option.{option_copied}
 use Rattle.parquet_encoding.specs.PlainLeft.{fixed_values}
 use Rattle.parquet_page.proofs.RefusalLemmas.{passed_on}
+use Rattle.flat_values.specs.Conversion.{Keep}
 use Rattle.flat_values.specs.FixedLeft.{entry_cells}
 use Rattle.flat_values.specs.KeysLeft.{keys}
 use Rattle.flat_values.proofs.FixedPlaceLemmas.{key_outcomes, no_key_cause, no_plain_cause, one_key_cause, one_plain_cause, plain_outcomes}
@@ -18,14 +19,14 @@ returns-in_err-place-in-Keys-clause-cause c =
 
 pub returns-in_ok-place-in-Plain-clause-values : goal.returns-in_ok-place-in-Plain-clause-values
 returns-in_ok-place-in-Plain-clause-values c =
-    rw c.in-Plain.is (plain_outcomes c.args.self.now.size c.args.bytes.now c.args.count _ (fixed_values c.in_ok-place-in-Plain.place c.args.bytes.now) c.in_ok-place-in-Plain.ensures.values)
+    rw c.in-Plain.is (plain_outcomes c.args.self.now.size c.args.bytes.now c.args.count Keep _ (fixed_values c.in_ok-place-in-Plain.place c.args.bytes.now) c.in_ok-place-in-Plain.ensures.values)
 
 pub returns-in_ok-place-in-Plain-clause-ok : goal.returns-in_ok-place-in-Plain-clause-ok
 returns-in_ok-place-in-Plain-clause-ok c = rw c.in-Plain.is (no_plain_cause c.args.self.now.size c.args.bytes.now c.args.count _ _ c.in_ok-place-in-Plain.ensures.values)
 
 pub returns-in_ok-place-in-Keys-clause-values : goal.returns-in_ok-place-in-Keys-clause-values
 returns-in_ok-place-in-Keys-clause-values c =
-    rw c.in-Keys.is (key_outcomes c.args.self.now.size c.args.bytes.now c.args.count (entry_cells (option_copied c.args.dict)) (keys c.in_ok-place-in-Keys.place c.args.bytes.now) c.in_ok-place-in-Keys.ensures.keys)
+    rw c.in-Keys.is (key_outcomes c.args.self.now.size c.args.bytes.now c.args.count Keep (entry_cells (option_copied c.args.dict)) (keys c.in_ok-place-in-Keys.place c.args.bytes.now) c.in_ok-place-in-Keys.ensures.keys)
 
 pub returns-in_ok-place-in-Keys-clause-ok : goal.returns-in_ok-place-in-Keys-clause-ok
 returns-in_ok-place-in-Keys-clause-ok c =

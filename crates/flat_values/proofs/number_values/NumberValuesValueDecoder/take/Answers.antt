@@ -20,7 +20,7 @@ returns-clause-cells g c =
     let count : c.len.result - c.len-held.result ≡ length new - length old = omega (arith, c.len.ensures, c.len-held.ensures) in
     on_ok_weaker c.mark_values.result
     (λ marked. given-with_added cell old new mask c.mark_values.new.validity (take c.args.count (number_left rule g.P.ParquetNativeType.physical g.P.ParquetNativeType.delta (Some (map cell entries)) c.args.bytes.now c.args.values.now))
-    c.requires.own c.in_ok-behind.ensures.added (marked ∙ ap (λ n. with_values n mask) count)
+    c.requires.own c.in_ok-take_values.ensures.added (marked ∙ ap (λ n. with_values n mask) count)
     ∙ ap (λ outcomes. map Given (marked_cells cell old mask) ++ take c.args.count outcomes)
     (entries_alike cell (option_copied c.args.dict) (λ v. v.items) entries rule g.P.ParquetNativeType.physical g.P.ParquetNativeType.delta c.args.bytes.now c.args.values.now c.entries_of-entries.ensures))
     c.mark_values.ensures.ok
@@ -36,7 +36,7 @@ returns-clause-own g c =
     let count : c.len.result - c.len-held.result ≡ length new - length old = omega (arith, c.len.ensures, c.len-held.ensures) in
     on_ok_weaker c.mark_values.result
     (λ marked. mask-added cell old new mask c.mark_values.new.validity (take c.args.count (number_left rule g.P.ParquetNativeType.physical g.P.ParquetNativeType.delta (Some (map cell entries)) c.args.bytes.now c.args.values.now))
-    c.requires.own c.in_ok-behind.ensures.added (marked ∙ ap (λ n. with_values n mask) count))
+    c.requires.own c.in_ok-take_values.ensures.added (marked ∙ ap (λ n. with_values n mask) count))
     c.mark_values.ensures.ok
 
 pub returns-clause-left : goal.returns-clause-left
@@ -48,5 +48,5 @@ returns-clause-left g c =
     let alike : (place : NumberPlace) → number (Some (map cell entries)) c.args.bytes.now place ≡ number (option_map (λ v. map cell v.items) (option_copied c.args.dict)) c.args.bytes.now place =
     λ place. entries_alike cell (option_copied c.args.dict) (λ v. v.items) entries rule g.P.ParquetNativeType.physical g.P.ParquetNativeType.delta c.args.bytes.now place c.entries_of-entries.ensures in
     on_ok_weaker c.mark_values.result
-    (λ marked. sym (alike c.in_ok-behind.behind) ∙ c.in_ok-behind.ensures.rest ∙ ap (drop c.args.count) (alike c.args.values.now))
+    (λ marked. sym (alike c.take_values.new.place) ∙ c.in_ok-take_values.ensures.rest ∙ ap (drop c.args.count) (alike c.args.values.now))
     c.mark_values.ensures.ok

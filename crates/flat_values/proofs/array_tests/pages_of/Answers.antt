@@ -4,7 +4,7 @@ use Rattle.parquet_page.specs.Content.{DataContent}
 use Rattle.parquet_page.specs.Lent.{Lent}
 use Rattle.column_values.specs.Column.{DataPagesAre}
 use Rattle.flat_values.proofs.ReaderLemmas.{chunk_pages_are}
-use Rattle.flat_values.proofs.tests.pages_of.Goals as goal
+use Rattle.flat_values.proofs.array_tests.pages_of.Goals as goal
 
 pub returns : goal.returns
 returns c =
