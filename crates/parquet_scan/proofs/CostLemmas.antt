@@ -6,6 +6,7 @@ use Rattle.std.specs.Option.{option_map_or}
 use Rattle.std.proofs.lemmas.Bool.{cases_lt, eq-eqb, lt-ltb}
 use Rattle.std.proofs.lemmas.List.{drop_all, drop_more, length-map}
 use Rattle.std.proofs.lemmas.List.Sums.{sum_by-cons}
+use Rattle.columns_core.specs.declared.data_type.DataType.{DataType}
 use Rattle.columns_core.specs.declared.data_type.Field.{Field}
 use Rattle.parquet_base.specs.Intervals.{holds, interval}
 use Rattle.parquet_base.specs.Intervals.{rows_of as rows_in}
@@ -18,7 +19,7 @@ use Rattle.parquet_meta.specs.declared.metadata.PageLocation.{PageLocation}
 use Rattle.parquet_meta.specs.declared.metadata.Place.{Place}
 use Rattle.parquet_meta.specs.declared.metadata.PrimitiveType.{PrimitiveType}
 use Rattle.parquet_meta.specs.declared.metadata.RowGroupMetaData.{RowGroupMetaData}
-use Rattle.columns_core.specs.Causes.{is_empty, unless, ExternalFormat, NotYetImplemented}
+use Rattle.columns_core.specs.Causes.{is_empty, NotYetImplemented}
 use Rattle.parquet_page.specs.Chunk.{ChunkPage, Dictionary, NoDictionary, Undefined, Defined, PlacedPage, Walk, chunk_dictionary, chunk_pages, dictionary_size, pages_of_chunk, placed_pages}
 use Rattle.parquet_page.specs.Content.{header_values}
 use Rattle.parquet_page.specs.Lent.{behind_dictionary, chunk_lent, data_of, dictionary_of, first_start, if_there, in_front, is_wanted, lent_data, lent_parts, located_lent, wanted_page}
@@ -26,16 +27,15 @@ use Rattle.parquet_page.specs.Locations.{part_of}
 use Rattle.parquet_page.specs.Spelling.{has_plain_entries}
 use Rattle.parquet_page.specs.declared.page.FilteredPage.{FilteredPage}
 use Rattle.parquet_encoding.proofs.StepLemmas.{given_some}
-use Rattle.parquet_page.proofs.RowSums.{page_values as values_of, walk_sum, is_whole}
-use Rattle.parquet_scan.specs.Causes.{chunk_opened, first_location, opened_causes}
-use Rattle.parquet_scan.specs.Cells.{chunk_of}
-use Rattle.parquet_scan.specs.Costs.{is_walked, lent_of_chunk, lent_of_column, located_bytes, location_length, names_some, offset_index_of, opened_locations, taken_of_chunk, taken_of_column}
+use Rattle.parquet_page.proofs.RowSums.{page_values as values_of}
+use Rattle.parquet_scan.specs.Cells.{chunk_of, first_location, is_null_type}
+use Rattle.parquet_scan.specs.Costs.{is_walked, lent_of_chunk, lent_of_column, lent_of_read, located_bytes, location_length, names_some, offset_index_of, opened_locations, taken_of_chunk, taken_of_column, taken_of_read}
 use Rattle.parquet_scan.specs.Counting.{column_taken, every_row}
 use Rattle.parquet_scan.specs.Located.{entry_place}
 use Rattle.parquet_scan.specs.Pages.{locations, rows_at}
 use Rattle.parquet_scan.specs.Rows.{column_named}
 use Rattle.parquet_scan.specs.Scan.{RisesBy}
-use Rattle.parquet_scan.proofs.CellLemmas.{rest_none, some_dictionary, walked}
+use Rattle.parquet_scan.proofs.CellLemmas.{chunk_fits, walked}
 use Rattle.parquet_scan.proofs.LocatedLemmas.{AreEntries, any_row, holds_some}
 use Rattle.parquet_scan.proofs.LocationLemmas.{HaveRows, have_rows}
 use Rattle.parquet_scan.proofs.OpenedLemmas.{IsSelected, rows_of_selected}
@@ -128,32 +128,28 @@ all_walked n start row (page ∷ pages) fits =
     ap (λ b. length (cond b (placed ∷ filter (is_walked (range_with_len 0 n)) others) (filter (is_walked (range_with_len 0 n)) others))) (is_walked_over n start row page (omega (arith, fits, sum)))
     ∙ (let rest = all_walked n (start + page.size) (row + header_values page.header) pages (omega (arith, fits, sum)) in omega (arith, rest))
 
-data_walked : (type : PrimitiveType) (walk : Walk) (start n : ℕ) → (walk.is_whole ≡ true → sum_by values_of walk.pages ≡ n) → opened_causes (lent_data type walk) ≡ []
-    → length (lent_data type walk).pages ≤ length (filter (is_walked (range_with_len 0 n)) (placed_pages start 0 walk.pages)) + 1
-data_walked type walk start n sum none =
-    let whole = is_whole walk.is_whole (rest_none _ (unless walk.is_whole ExternalFormat) none) in
-    omega (arith, length-map walk.pages (data_of type None), all_walked n start 0 walk.pages (omega (arith, sum whole)))
-
-behind_walked : (type : PrimitiveType) (dictionary : Dictionary) (walk : Walk) (start n : ℕ) → (walk.is_whole ≡ true → sum_by values_of walk.pages ≡ n) → opened_causes (behind_dictionary dictionary (lent_data type walk)) ≡ []
+-- what is lent of a walk: its pages, and a dictionary
+behind_walked : (type : PrimitiveType) (dictionary : Dictionary) (walk : Walk) (start n : ℕ) → sum_by values_of walk.pages ≤ n
     → length (behind_dictionary dictionary (lent_data type walk)).pages ≤ length (filter (is_walked (range_with_len 0 n)) (placed_pages start 0 walk.pages)) + 1
-behind_walked type NoDictionary walk start n sum none = data_walked type walk start n sum none
-behind_walked type Undefined walk start n sum none = absurd cc
-behind_walked type (Defined page) walk start n sum none = absurd (some_dictionary type page walk (has_plain_entries page.encoding) none)
+behind_walked type NoDictionary walk start n fits = omega (arith, length-map walk.pages (data_of type None), all_walked n start 0 walk.pages (omega (arith, fits)))
+behind_walked type Undefined walk start n fits = omega arith
+behind_walked type (Defined page) walk start n fits = by (has_plain_entries page.encoding) where
+  by : (b : Bool) → length (if b then in_front (dictionary_of page) (lent_data type walk) else record { pages = []; causes = NotYetImplemented ∷ [] }).pages ≤ length (filter (is_walked (range_with_len 0 n)) (placed_pages start 0 walk.pages)) + 1
+  by true = omega (arith, length-map walk.pages (data_of type None), all_walked n start 0 walk.pages (omega (arith, fits)))
+  by false = omega arith
 
-chunk_walked : (type : PrimitiveType) (n : ℕ) (chunk : List ℕ) → opened_causes (chunk_lent type n chunk) ≡ []
-    → length (chunk_lent type n chunk).pages ≤ length (filter (is_walked (range_with_len 0 n)) (pages_of_chunk n chunk)) + 1
-unfolding chunk_lent chunk_pages
-chunk_walked type zero chunk none = omega arith
-chunk_walked type (suc more) chunk none =
-    behind_walked type (chunk_dictionary chunk) (chunk_pages (suc more) chunk) (dictionary_size chunk) (suc more) (walk_sum (length chunk) (suc more) (drop (dictionary_size chunk) chunk)) none
+chunk_walked : (type : PrimitiveType) (n : ℕ) (chunk : List ℕ) → length (chunk_lent type n chunk).pages ≤ length (filter (is_walked (range_with_len 0 n)) (pages_of_chunk n chunk)) + 1
+unfolding chunk_lent
+chunk_walked type zero chunk = omega arith
+chunk_walked type (suc more) chunk = behind_walked type (chunk_dictionary chunk) (chunk_pages (suc more) chunk) (dictionary_size chunk) (suc more) (chunk_fits (suc more) chunk)
 
 -- what is lent of a chunk that was read
 pub lent_walked : (told : Option (List ℕ)) (group : RowGroupMetaData) (column : ColumnChunkMetaData) (chunk : List ℕ) (before now : ℕ)
-    → IfSome told (λ bytes. option_map (bytes_at bytes) (chunk_of bytes group column) ≡ Some chunk) → column.num_values ≡ group.num_rows → opened_causes (chunk_opened column chunk) ≡ []
-    → now ≡ before + length (chunk_opened column chunk).pages → RisesBy told before now (λ bytes. lent_of_chunk false bytes group (every_row group) column)
-lent_walked None group column chunk before now found counted none e = tt
-lent_walked (Some bytes) group column chunk before now found counted none e =
-    let few = chunk_walked column.descriptor.primitive_type column.num_values chunk none in
+    → IfSome told (λ bytes. option_map (bytes_at bytes) (chunk_of bytes group column) ≡ Some chunk) → column.num_values ≡ group.num_rows
+    → now ≡ before + length (chunk_lent column.descriptor.primitive_type column.num_values chunk).pages → RisesBy told before now (λ bytes. lent_of_chunk false bytes group (every_row group) column)
+lent_walked None group column chunk before now found counted e = tt
+lent_walked (Some bytes) group column chunk before now found counted e =
+    let few = chunk_walked column.descriptor.primitive_type column.num_values chunk in
     let rows : every_row group ≡ range_with_len 0 column.num_values = ap (range_with_len 0) (sym counted) in
     let same : lent_of_chunk false bytes group (every_row group) column ≡ length (filter (is_walked (range_with_len 0 column.num_values)) (pages_of_chunk column.num_values chunk)) + 1
     = λ i. length (filter (is_walked (rows i)) (walked bytes column (chunk_of bytes group column) chunk found i)) + 1 in
@@ -256,26 +252,41 @@ module _ (group : RowGroupMetaData) (column : ColumnChunkMetaData) (intervals : 
   taken_located None chunk b index before now placed told some e = tt
   taken_located (Some bytes) chunk b index before now placed told some e = omega (arith, e, located_taken bytes chunk b placed told some)
 
--- ---- the column of a name
+-- ---- a column as it is read, and the column of a name
+
+-- a count that stands still
+pub rises_none : (told : Option (List ℕ)) (now : ℕ) (most : List ℕ → ℕ) → RisesBy told now now most
+rises_none None now most = tt
+rises_none (Some bytes) now most = omega arith
+
+pub lent_as_read : (told : Option (List ℕ)) (by_pages : Bool) (group : RowGroupMetaData) (rows : List ℕ) (data_type : DataType) (column : ColumnChunkMetaData) → is_null_type data_type ≡ false
+    → IfSome told (λ bytes. lent_of_chunk by_pages bytes group rows column ≤ lent_of_read by_pages bytes group rows data_type column)
+lent_as_read None by_pages group rows data_type column not_null = tt
+lent_as_read (Some bytes) by_pages group rows data_type column not_null = omega (arith, ap (λ b. if b then 0 else lent_of_chunk by_pages bytes group rows column) not_null)
+
+pub taken_as_read : (told : Option (List ℕ)) (by_pages : Bool) (index : ℕ) (group : RowGroupMetaData) (rows : List ℕ) (data_type : DataType) (column : ColumnChunkMetaData) → is_null_type data_type ≡ false
+    → IfSome told (λ bytes. index + taken_of_chunk by_pages bytes group rows column ≤ index + taken_of_read by_pages bytes group rows data_type column)
+taken_as_read None by_pages index group rows data_type column not_null = tt
+taken_as_read (Some bytes) by_pages index group rows data_type column not_null = omega (arith, ap (λ b. if b then 0 else taken_of_chunk by_pages bytes group rows column) not_null)
+
+pub whole_taken : (told : Option (List ℕ)) (group : RowGroupMetaData) (rows : List ℕ) (column : ColumnChunkMetaData) (before now : ℕ) → now ≤ before + (chunk_range column).length
+    → RisesBy told before now (λ bytes. 0 + taken_of_chunk false bytes group rows column)
+whole_taken None group rows column before now h = tt
+whole_taken (Some bytes) group rows column before now h = omega (arith, h)
 
 pub lent_named : (told : Option (List ℕ)) (by_pages : Bool) (group : RowGroupMetaData) (rows : List ℕ) (field : Field) (column : ColumnChunkMetaData) → column_named group field.name ≡ Some column
-    → IfSome told (λ bytes. lent_of_chunk by_pages bytes group rows column ≤ lent_of_column by_pages bytes group rows field)
+    → IfSome told (λ bytes. lent_of_read by_pages bytes group rows field.data_type column ≤ lent_of_column by_pages bytes group rows field)
 lent_named None by_pages group rows field column named = tt
-lent_named (Some bytes) by_pages group rows field column named = omega (arith, ap (λ o. option_map_or (lent_of_chunk by_pages bytes group rows) o 0) named)
+lent_named (Some bytes) by_pages group rows field column named = omega (arith, ap (λ o. option_map_or (lent_of_read by_pages bytes group rows field.data_type) o 0) named)
 
 pub taken_named : (told : Option (List ℕ)) (by_pages : Bool) (group : RowGroupMetaData) (rows : List ℕ) (field : Field) (column : ColumnChunkMetaData) → column_named group field.name ≡ Some column
-    → IfSome told (λ bytes. (if by_pages then offset_index_length column else 0) + taken_of_chunk by_pages bytes group rows column ≤ column_taken by_pages bytes group rows field)
+    → IfSome told (λ bytes. (if by_pages then offset_index_length column else 0) + taken_of_read by_pages bytes group rows field.data_type column ≤ column_taken by_pages bytes group rows field)
 taken_named None by_pages group rows field column named = tt
 taken_named (Some bytes) by_pages group rows field column named =
     let index : offset_index_of group field ≡ offset_index_length column = ap (λ o. option_map_or offset_index_length o 0) named in
-    let own : taken_of_column by_pages bytes group rows field ≡ taken_of_chunk by_pages bytes group rows column = ap (λ o. option_map_or (taken_of_chunk by_pages bytes group rows) o 0) named in
+    let own : taken_of_column by_pages bytes group rows field ≡ taken_of_read by_pages bytes group rows field.data_type column = ap (λ o. option_map_or (taken_of_read by_pages bytes group rows field.data_type) o 0) named in
     by by_pages index own where
-      by : (b : Bool) → offset_index_of group field ≡ offset_index_length column → taken_of_column by_pages bytes group rows field ≡ taken_of_chunk by_pages bytes group rows column
-          → (if b then offset_index_length column else 0) + taken_of_chunk by_pages bytes group rows column ≤ (if b then offset_index_of group field else 0) + taken_of_column by_pages bytes group rows field
+      by : (b : Bool) → offset_index_of group field ≡ offset_index_length column → taken_of_column by_pages bytes group rows field ≡ taken_of_read by_pages bytes group rows field.data_type column
+          → (if b then offset_index_length column else 0) + taken_of_read by_pages bytes group rows field.data_type column ≤ (if b then offset_index_of group field else 0) + taken_of_column by_pages bytes group rows field
       by true index own = omega (arith, index, own)
       by false index own = omega (arith, own)
-
-pub whole_taken : (told : Option (List ℕ)) (group : RowGroupMetaData) (rows : List ℕ) (field : Field) (column : ColumnChunkMetaData) (before now : ℕ) → column_named group field.name ≡ Some column
-    → now ≤ before + (chunk_range column).length → RisesBy told before now (λ bytes. column_taken false bytes group rows field)
-whole_taken None group rows field column before now named h = tt
-whole_taken (Some bytes) group rows field column before now named h = omega (arith, h, ap (λ o. option_map_or (taken_of_chunk false bytes group rows) o 0) named)

@@ -14,12 +14,12 @@ use Rattle.parquet_meta.specs.declared.metadata.FileMetaData.{FileMetaData}
 use Rattle.parquet_meta.specs.declared.metadata.RowGroupMetaData.{RowGroupMetaData}
 use Rattle.parquet_scan.specs.Causes.{causes, causes_of_group, file_causes, index_causes, index_causes_of_group, metadata_causes, read_causes, IsValid}
 use Rattle.parquet_scan.specs.Counting.{are_pruned, causes_of_groups, index_causes_of_groups, kept_of_groups, scan_causes}
-use Rattle.parquet_scan.specs.NotBuilt.{is_built_field, is_built_if_named, is_built_request, not_built}
+use Rattle.parquet_scan.specs.NotBuilt.{is_built_bound, is_built_request, not_built}
 use Rattle.parquet_scan.specs.Request.{Request}
 use Rattle.parquet_scan.specs.Rows.{File, file_with, first_rows, gives_rows, group_counts, intervals, kept_rows, prunes_pages}
 use Rattle.parquet_scan.specs.Scan.{FailsBy, OnFile, kept_of, kept_groups}
 use Rattle.parquet_scan.specs.declared.scanning.GroupKept.{GroupKept}
-use Rattle.parquet_scan.proofs.CauseLemmas.{TellsOf, then_next}
+use Rattle.parquet_scan.proofs.CauseLemmas.{TellsOf, among_first, no_cause, then_next}
 use Rattle.parquet_scan.proofs.KeptLemmas.{one_group}
 use Rattle.parquet_scan.proofs.ScanLemmas.{same_pruning}
 
@@ -28,17 +28,6 @@ use Rattle.parquet_scan.proofs.ScanLemmas.{same_pruning}
 pub nothing_first : (first next : List Cause) → and_then first next ≡ [] → first ≡ []
 nothing_first [] next e = refl
 nothing_first (cause ∷ causes) next e = absurd cc
-
-no_cause : (o : Option Cause) → IsOneOf [] o → ⊥
-no_cause None k = k
-no_cause (Some cause) k = omega (arith, k.1)
-
-among_first : (first next : List Cause) (o : Option Cause) → IsOneOf first o → IsOneOf (and_then first next) o
-among_first [] next o k = absurd (no_cause o k)
-among_first (cause ∷ causes) next o k = k
-
-among_next : (first next : List Cause) (o : Option Cause) → first ≡ [] → IsOneOf next o → IsOneOf (and_then first next) o
-among_next first next o none k = subst (λ found. IsOneOf found o) (sym (then_next first next none)) k
 
 -- ---- which rows are read
 
@@ -50,14 +39,11 @@ pub passes : (b : Bool) (cause : Cause) → unless b cause ≡ [] → b ≡ true
 passes true cause e = refl
 passes false cause e = absurd cc
 
-pub built_request : (request : Request) (metadata : FileMetaData) → metadata_causes request metadata ≡ [] → (is_built_request request && list_all is_built_field request.fields) ≡ true
-built_request request metadata none =
-    first_so (is_built_request request && list_all is_built_field request.fields) (list_all (is_built_if_named request.fields) metadata.columns)
-    (passes (is_built_request request && list_all is_built_field request.fields && list_all (is_built_if_named request.fields) metadata.columns) NotYetImplemented
-    (nothing_first (not_built request metadata.columns) _ none))
+pub built_request : (request : Request) (metadata : FileMetaData) → metadata_causes request metadata ≡ [] → (is_built_request request && list_all (is_built_bound request.fields) request.bounds) ≡ true
+built_request request metadata none = passes (is_built_request request && list_all (is_built_bound request.fields) request.bounds) NotYetImplemented (nothing_first (not_built request) _ none)
 
 built_whole : (request : Request) (metadata : FileMetaData) → metadata_causes request metadata ≡ [] → (not (is_some request.limit) && not (is_some request.chunk_size)) ≡ true
-built_whole request metadata none = first_so (is_built_request request) (list_all is_built_field request.fields) (built_request request metadata none)
+built_whole request metadata none = first_so (is_built_request request) (list_all (is_built_bound request.fields) request.bounds) (built_request request metadata none)
 
 pub built_limit : (request : Request) (metadata : FileMetaData) → metadata_causes request metadata ≡ [] → request.limit ≡ None
 built_limit request metadata none = not_some request.limit (first_so (not (is_some request.limit)) (not (is_some request.chunk_size)) (built_whole request metadata none))

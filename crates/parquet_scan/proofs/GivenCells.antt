@@ -8,7 +8,7 @@ use Rattle.std.proofs.lemmas.List.Elements.{All-from_recursion, recursion_from_A
 use Rattle.columns_core.specs.declared.data_type.Field.{Field}
 use Rattle.parquet_meta.specs.declared.metadata.ColumnChunkMetaData.{ColumnChunkMetaData}
 use Rattle.parquet_meta.specs.declared.metadata.RowGroupMetaData.{RowGroupMetaData}
-use Rattle.parquet_scan.specs.Cells.{cell, given_cell, located_cell, located_item, walked_item}
+use Rattle.parquet_scan.specs.Cells.{cell, column_cell, given_cell, located_cell}
 use Rattle.parquet_scan.specs.Laws.{GivenCellsAreCells}
 use Rattle.parquet_scan.specs.Request.{Request}
 use Rattle.parquet_scan.specs.Rows.{File, column_named, first_rows, gives_rows, group_counts, groups_of, groups_read, kept_rows, pages_keep, prunes_pages}
@@ -53,7 +53,8 @@ module _ (request : Request) (file : File) where
 
 same_in : (bytes : List ℕ) (group : RowGroupMetaData) (field : Field) (row : ℕ) → OnField (AreTrueCounts bytes) group field → OnField (AreTrueLocations bytes) group field
     → (o : Option ColumnChunkMetaData) → column_named group field.name ≡ o → located_cell bytes group field row ≡ cell bytes group field row
-same_in bytes group field row counts places None e = ap (option_and_then (λ c. located_item bytes group c row)) e ∙ sym (ap (option_and_then (λ c. walked_item bytes group c row)) e)
+same_in bytes group field row counts places None e =
+    ap (option_and_then (λ c. column_cell true bytes group field.data_type c row)) e ∙ sym (ap (option_and_then (λ c. column_cell false bytes group field.data_type c row)) e)
 same_in bytes group field row counts places (Some column) e =
     located_cells_are_cells bytes group column field row e
     (if_some (AreTrueCounts bytes group) (column_named group field.name) column e counts) (if_some (AreTrueLocations bytes group) (column_named group field.name) column e places)

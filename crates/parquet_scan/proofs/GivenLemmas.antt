@@ -1,37 +1,46 @@
 -- The chunks and the rows that are given of the groups that are read.
-use Rattle.std.proofs.Common.{◌≡◌, ℕ, ℤ, ◌+◌, ◌-◌, ◌<◌, ◌≤◌, ◌^◌, Bool, true, false, cond, List, [], ◌∷◌, ◌++◌, length, map, drop, get_or, refl, sym, subst, ◌∙◌, ap, arith, min, All}
-use Rattle.std.specs.Prelude.{Option, Some, None, option_map, sum_by, filter, flat_map, zip, ◌&&◌, nat_lt, IfSome, IfOk, Result, Ok, Err, if◌then◌else◌}
+use denote.Hole.Carrier
+use Rattle.std.proofs.Common.{◌≡◌, ℕ, ◌+◌, ◌-◌, ◌<◌, ◌≤◌, ◌^◌, Bool, true, false, cond, List, [], ◌∷◌, ◌++◌, length, map, drop, get_or, refl, sym, subst, ◌∙◌, ap, arith, min, All}
+use Rattle.std.specs.Prelude.{Option, Some, None, option_and_then, option_map, replicate, sum_by, filter, flat_map, zip, nat_lt, IfSome, IfOk, Result, Ok, Err, if◌then◌else◌}
 use Rattle.std.specs.List.{range_with_len, list_all}
-use Rattle.std.specs.Cmp.{second_so}
-use Rattle.std.proofs.lemmas.Bool.{and_parts, lt-ltb}
+use Rattle.std.proofs.lemmas.Bool.{and_parts, lt-ltb, ltb-true}
 use Rattle.std.proofs.lemmas.List.{drop_more}
 use Rattle.std.proofs.lemmas.List.Sums.{sum_by-cons}
 use Rattle.std.proofs.lemmas.List.FromFn.{length-range_with_len}
 use Rattle.std.proofs.lemmas.Simd.{map-map}
-use Rattle.columns_core.specs.Array.{cells, column_of}
+use Rattle.columns_core.specs.Array.{cells, column_of, data_type_of}
 use Rattle.columns_core.specs.Chunk.{AreEqualLengths, rows_of as chunk_rows}
 use Rattle.columns_core.specs.declared.array.Array.{Array}
-use Rattle.columns_core.specs.declared.cell.Cell.{Cell, Int}
-use Rattle.columns_core.specs.declared.data_type.DataType.{DataType}
+use Rattle.columns_core.specs.declared.cell.Cell.{Cell, Null}
+use Rattle.columns_core.specs.Types.{Layer}
+use Rattle.columns_core.specs.declared.data_type.DataType as type
+use Rattle.columns_core.specs.declared.data_type.DataType.{DataType, out-DataType, roll-DataType, roll-out-DataType}
+use Rattle.columns_core.specs.declared.data_type.DataType.TheOpen.{DataType-F}
 use Rattle.columns_core.specs.declared.data_type.Field.{Field}
 use Rattle.columns_core.specs.declared.error.Error.{Error}
+use Rattle.parquet_base.specs.Intervals.{covers, is_well_shaped}
 use Rattle.parquet_base.specs.Pieces.{cut}
-use Rattle.parquet_base.specs.Reading.{◌>>=◌}
+use Rattle.parquet_base.specs.Reading.{◌>>=◌, given}
+use Rattle.parquet_base.specs.declared.interval.Interval.{Interval}
+use Rattle.parquet_base.proofs.RowLemmas.{rows_of-passing}
 use Rattle.parquet_meta.specs.File.{footer}
 use Rattle.parquet_meta.proofs.FileRows.{few_rows}
+use Rattle.parquet_meta.specs.declared.metadata.ColumnChunkMetaData.{ColumnChunkMetaData}
 use Rattle.parquet_meta.specs.declared.metadata.FileMetaData.{FileMetaData}
 use Rattle.parquet_meta.specs.declared.metadata.RowGroupMetaData.{RowGroupMetaData}
 use Rattle.parquet_page.specs.Values.{all_some}
-use Rattle.parquet_scan.specs.Cells.{columns_of, given_cell, given_chunk, given_chunks, given_column, group_chunks}
+use Rattle.flat_values.specs.Conversion.{Item, Value}
+use Rattle.parquet_scan.specs.Cells.{as_cell, column_cell, columns_of, given_chunk, given_chunks, given_column, group_chunks, is_null_at, is_null_type, located_item, walked_item}
 use Rattle.parquet_scan.specs.Causes.{metadata_causes}
-use Rattle.parquet_scan.specs.Counting.{are_built, are_pruned, chunks_of_groups, kept_if, kept_of_groups, number_array, rows_if_read, rows_of_groups, shown}
-use Rattle.parquet_scan.specs.NotBuilt.{is_built_field, is_built_request}
+use Rattle.parquet_scan.specs.Counting.{are_pruned, chunks_of_groups, kept_if, kept_of_groups, rows_if_read, rows_of_groups, rows_read, shown}
 use Rattle.parquet_scan.specs.Request.{Request, is_legal, is_legal_bound_of}
-use Rattle.parquet_scan.specs.Rows.{File, file_with, first_rows, given_count, group_counts, kept, kept_rows, prunes_pages}
+use Rattle.parquet_scan.specs.Rows.{File, column_named, file_with, first_rows, given_count, group_counts, kept, kept_rows, prunes_pages}
 use Rattle.parquet_scan.specs.declared.scanning.GroupKept.{GroupKept}
 use Rattle.parquet_scan.specs.Scan.{OnFile}
-use Rattle.parquet_scan.proofs.FileLemmas.{built_limit, built_request, built_size}
+use Rattle.parquet_scan.proofs.CellLemmas.{map_rows}
+use Rattle.parquet_scan.proofs.FileLemmas.{built_limit, built_size}
 use Rattle.parquet_scan.proofs.KeptLemmas.{one_group}
+use Rattle.parquet_scan.proofs.PickedLemmas.{map_passing}
 use Rattle.parquet_scan.proofs.ScanLemmas.{same_pruning}
 
 -- ---- lists of which each item is there
@@ -40,20 +49,82 @@ pub all_there : {A B : Type 0} (f : A → B) (xs : List A) → all_some (map (λ
 all_there f [] = refl
 all_there f (x ∷ xs) = ap (λ o. o >>= (λ others. Some (f x ∷ others))) (all_there f xs)
 
+pub all_some-map : {A : Type 0} (xs : List A) → all_some (map Some xs) ≡ Some xs
+all_some-map [] = refl
+all_some-map (x ∷ xs) = ap (λ o. o >>= (λ others. Some (x ∷ others))) (all_some-map xs)
+
+-- ---- the cells of a column
+
+-- the item of a row that is not read as null
+abbrev item_by : Bool → List ℕ → RowGroupMetaData → DataType → ColumnChunkMetaData → ℕ → Option Item
+item_by by_pages bytes group data_type column row = if by_pages then located_item bytes group data_type column row else walked_item bytes group data_type column row
+
+-- items that are values are cells
+cells_of : (item : ℕ → Option Item) (rows : List ℕ) (found : List Cell) → map item rows ≡ map (λ cell. Some (Value cell)) found → map (λ row. option_and_then as_cell (item row)) rows ≡ map Some found
+cells_of item rows found e = sym (map-map (option_and_then as_cell) item rows) ∙ ap (map (option_and_then as_cell)) e ∙ map-map (option_and_then as_cell) (λ cell. Some (Value cell)) found
+
+pub cells_read : (told : Option (List ℕ)) (by_pages : Bool) (group : RowGroupMetaData) (data_type : DataType) (column : ColumnChunkMetaData) (rows : List ℕ) (found : List Cell) → is_null_type data_type ≡ false
+    → IfSome told (λ bytes. map (item_by by_pages bytes group data_type column) rows ≡ map (λ cell. Some (Value cell)) found)
+    → IfSome told (λ bytes. map (column_cell by_pages bytes group data_type column) rows ≡ map Some found)
+cells_read None by_pages group data_type column rows found not_null e = tt
+cells_read (Some bytes) by_pages group data_type column rows found not_null e =
+    ap (λ b. map (λ row. option_and_then as_cell (if b then given (nat_lt row group.num_rows) (Value Null) else item_by by_pages bytes group data_type column row)) rows) not_null
+    ∙ cells_of (item_by by_pages bytes group data_type column) rows found e
+
+-- ---- a column that is read as nulls
+
+null_layer : (layer : Layer) → is_null_at layer ≡ true → layer ≡ DataType-F.Null
+null_layer DataType-F.Null e = refl
+null_layer _ e = absurd cc
+
+pub null_type : (data_type : DataType) → is_null_type data_type ≡ true → type.Null ≡ data_type
+unfolding roll-DataType denote.Hole.Carrier.roll
+null_type data_type e = sym (ap roll-DataType (null_layer (out-DataType data_type) e)) ∙ roll-out-DataType data_type
+
+-- what stands in a row below a number
+abbrev null_in : ℕ → ℕ → Option Cell
+null_in rows row = option_and_then as_cell (given (nat_lt row rows) (Value Null))
+
+null_at : (rows row : ℕ) → row < rows → null_in rows row ≡ Some Null
+null_at rows row low = ap (λ b. option_and_then as_cell (given b (Value Null))) (lt-ltb row rows low)
+
+null_rows : (by_pages : Bool) (group : RowGroupMetaData) (runs : List Interval) → is_well_shaped runs group.num_rows ≡ true
+    → map (null_in group.num_rows) (rows_read by_pages group runs) ≡ map (λ row. Some Null) (rows_read by_pages group runs)
+null_rows true group runs shaped =
+    let rows = group.num_rows in
+    let are = rows_of-passing 0 runs rows shaped in
+    ap (map (null_in rows)) are
+    ∙ map_passing (null_in rows) (λ row. Some Null) (covers runs) 0 (rows - 0) (λ row above below. null_at rows row (omega (arith, below)))
+    ∙ ap (map (λ row. Some Null)) (sym are)
+null_rows false group runs shaped = map_rows (null_in group.num_rows) (λ row. Some Null) 0 group.num_rows (λ row above below. null_at group.num_rows row (omega (arith, below)))
+
+all_null : (rows : List ℕ) → map (λ row. Some Null) rows ≡ map Some (replicate (length rows) Null)
+all_null [] = refl
+all_null (row ∷ rows) = ap (λ rest. Some Null ∷ rest) (all_null rows)
+
+pub nulls_read : (told : Option (List ℕ)) (by_pages : Bool) (group : RowGroupMetaData) (runs : List Interval) (data_type : DataType) (column : ColumnChunkMetaData) (found : List Cell) → is_well_shaped runs group.num_rows ≡ true → is_null_type data_type ≡ true
+    → found ≡ replicate (length (rows_read by_pages group runs)) Null
+    → IfSome told (λ bytes. map (column_cell by_pages bytes group data_type column) (rows_read by_pages group runs) ≡ map Some found)
+nulls_read None by_pages group runs data_type column found shaped is_null are = tt
+nulls_read (Some bytes) by_pages group runs data_type column found shaped is_null are =
+    ap (λ b. map (λ row. option_and_then as_cell (if b then given (nat_lt row group.num_rows) (Value Null) else item_by by_pages bytes group data_type column row)) (rows_read by_pages group runs)) is_null
+    ∙ null_rows by_pages group runs shaped ∙ all_null (rows_read by_pages group runs) ∙ ap (map Some) (sym are)
+
 -- ---- a column, and a chunk of columns
 
-column_is : (by_pages : Bool) (bytes : List ℕ) (group : RowGroupMetaData) (field : Field) (rows : List ℕ) (numbers : List ℤ) → map (given_cell by_pages bytes group field) rows ≡ map (λ n. Some (Int n)) numbers
-    → given_column by_pages bytes group rows field ≡ Some (column_of (number_array field.data_type numbers))
-column_is by_pages bytes group field rows numbers e =
-    ap (λ found. option_map (λ cells. (field.data_type, cells)) (all_some found)) e
-    ∙ ap (option_map (λ cells. (field.data_type, cells))) (all_there Int numbers)
-    ∙ ap (λ cells. Some (field.data_type, cells)) (sym (map-map _ Some numbers))
+column_is : (by_pages : Bool) (bytes : List ℕ) (group : RowGroupMetaData) (field : Field) (column : ColumnChunkMetaData) (rows : List ℕ) (array : Array) → column_named group field.name ≡ Some column → data_type_of array ≡ field.data_type
+    → map (column_cell by_pages bytes group field.data_type column) rows ≡ map Some (cells array) → given_column by_pages bytes group rows field ≡ Some (column_of array)
+column_is by_pages bytes group field column rows array named typed e =
+    ap (λ o. option_map (λ found. (field.data_type, found)) (all_some (map (λ row. option_and_then (λ column. column_cell by_pages bytes group field.data_type column row) o) rows))) named
+    ∙ ap (λ found. option_map (λ cells. (field.data_type, cells)) (all_some found)) e
+    ∙ ap (option_map (λ cells. (field.data_type, cells))) (all_some-map (cells array))
+    ∙ ap (λ data_type. Some (data_type, cells array)) (sym typed)
 
-pub told_column : (told : Option (List ℕ)) (by_pages : Bool) (group : RowGroupMetaData) (field : Field) (rows : List ℕ) (numbers : List ℤ)
-    → IfSome told (λ bytes. map (given_cell by_pages bytes group field) rows ≡ map (λ n. Some (Int n)) numbers)
-    → IfSome told (λ bytes. given_column by_pages bytes group rows field ≡ Some (column_of (number_array field.data_type numbers)))
-told_column None by_pages group field rows numbers e = tt
-told_column (Some bytes) by_pages group field rows numbers e = column_is by_pages bytes group field rows numbers e
+pub told_column : (told : Option (List ℕ)) (by_pages : Bool) (group : RowGroupMetaData) (field : Field) (column : ColumnChunkMetaData) (rows : List ℕ) (array : Array) → column_named group field.name ≡ Some column → data_type_of array ≡ field.data_type
+    → IfSome told (λ bytes. map (column_cell by_pages bytes group field.data_type column) rows ≡ map Some (cells array))
+    → IfSome told (λ bytes. given_column by_pages bytes group rows field ≡ Some (column_of array))
+told_column None by_pages group field column rows array named typed e = tt
+told_column (Some bytes) by_pages group field column rows array named typed e = column_is by_pages bytes group field column rows array named typed e
 
 pub chunk_is : (told : Option (List ℕ)) (by_pages : Bool) (group : RowGroupMetaData) (fields : List Field) (rows : List ℕ) (chunks : List (List Array)) (arrays : List Array)
     → IfSome told (λ bytes. map (given_column by_pages bytes group rows) fields ≡ map (λ array. Some (column_of array)) arrays)
@@ -148,10 +219,8 @@ fewer_rows request file (group ∷ groups) =
 
 -- ---- what a scan of the groups gives of the file
 
-pub fields_are_built : (request : Request) (metadata : FileMetaData) → nat_lt 0 (length request.fields) ≡ true → metadata_causes request metadata ≡ [] → are_built request.fields ≡ true
-fields_are_built request metadata some none =
-    ap (λ b. b && list_all is_built_field request.fields) some
-    ∙ second_so (is_built_request request) (list_all is_built_field request.fields) (built_request request metadata none)
+pub some_field : (request : Request) (metadata : FileMetaData) → is_legal request (Some metadata) ≡ true → 0 < length request.fields
+some_field request metadata legal = ltb-true 0 (length request.fields) (and_parts _ _ (and_parts _ _ (and_parts _ _ (and_parts _ _ (and_parts _ _ legal).0).0).0).0).0
 
 pub legal_bounds : (request : Request) (metadata : FileMetaData) → is_legal request (Some metadata) ≡ true → list_all (is_legal_bound_of request.fields) request.bounds ≡ true
 legal_bounds request metadata legal = (and_parts _ _ (and_parts _ _ legal).0).1

@@ -1,6 +1,7 @@
 pub mod CauseLemmas
 pub mod CellLemmas
 pub mod CostLemmas
+pub mod DecodeLemmas
 pub mod Exact
 pub mod Examples
 pub mod FileCosts

@@ -1,29 +1,32 @@
 -- Cells in the pages that true locations name.
 use Rattle.std.proofs.Common.{◌≡◌, ℕ, ◌+◌, ◌-◌, pos, Bool, true, false, cond, List, [], ◌∷◌, length, map, is_some, refl, sym, ◌∙◌, ap, arith}
-use Rattle.std.specs.Prelude.{ℤ, Option, Some, None, find, zip, sum_by, option_map, option_and_then, nat_le, ◌&&◌, ◌==◌, unwrap_or}
+use Rattle.std.specs.Prelude.{ℤ, Option, Some, None, find, zip, sum_by, option_map, option_and_then, nat_le, nat_lt, ◌&&◌, ◌==◌, unwrap_or, if◌then◌else◌}
 use Rattle.std.specs.List.{AllByRecursion}
 use Rattle.std.specs.Option.{option_map_or}
 use Rattle.std.proofs.lemmas.Bool.{false≢true, and_parts, le-leb, eqb-true}
 use Rattle.std.proofs.lemmas.List.Sums.{sum_by-cons}
 use Rattle.std.proofs.lemmas.Simd.{map-map}
 use Rattle.columns_core.specs.Causes.{is_empty}
+use Rattle.columns_core.specs.declared.cell.Cell.{Null}
+use Rattle.columns_core.specs.declared.data_type.DataType.{DataType}
 use Rattle.parquet_base.specs.declared.interval.Interval.{Interval}
 use Rattle.parquet_base.specs.Intervals.{interval, holds}
 use Rattle.parquet_base.specs.Reading.{◌>>=◌, given}
 use Rattle.parquet_meta.specs.declared.metadata.ColumnChunkMetaData.{ColumnChunkMetaData}
 use Rattle.parquet_meta.specs.declared.metadata.PageLocation.{PageLocation}
 use Rattle.parquet_meta.specs.declared.metadata.Place.{Place}
-use Rattle.parquet_meta.specs.declared.metadata.PrimitiveType.{PrimitiveType}
 use Rattle.parquet_meta.specs.declared.metadata.RowGroupMetaData.{RowGroupMetaData}
 use Rattle.parquet_meta.specs.Chunks.{chunk_causes, chunk_range, chunk_start, has_range}
 use Rattle.parquet_meta.specs.Places.{after, bytes_at}
 use Rattle.parquet_page.specs.Alone.{IsReadAlone}
-use Rattle.parquet_page.specs.Chunk.{ChunkPage, PlacedPage, chunk_pages, dictionary_size, pages_of_chunk, placed_pages}
+use Rattle.parquet_page.specs.Chunk.{ChunkPage, Dictionary, DictionaryPage, NoDictionary, PlacedPage, Undefined, chunk_dictionary, chunk_pages, dictionary_at, dictionary_size, if_defined, pages_of_chunk, placed_pages}
 use Rattle.parquet_page.specs.Content.{header_values}
-use Rattle.parquet_page.specs.Located.{located_page}
+use Rattle.parquet_page.specs.Located.{dictionary_in, located_dictionary, located_page}
 use Rattle.parquet_page.specs.Locations.{located, next_row, page_intervals, rows_between}
-use Rattle.parquet_page.proofs.AloneLemmas.{pages_alone}
-use Rattle.parquet_scan.specs.Cells.{chunk_of, item_among, item_at, item_in, item_located, located_item, located_pages, rows_of, walked_item, walked_pages}
+use Rattle.parquet_page.proofs.AloneLemmas.{dictionary_alone, pages_alone}
+use Rattle.parquet_page.proofs.HeaderLemmas.{dictionary_measured}
+use Rattle.flat_values.specs.Conversion.{Value}
+use Rattle.parquet_scan.specs.Cells.{Reading, as_cell, dictionary_by_locations, chunk_of, column_cell, column_item, dictionary_before, is_null_type, item_among, item_at, item_in, item_located, located_item, located_pages, located_reading, rows_of, walked_dictionary, walked_item, walked_pages, walked_reading}
 use Rattle.parquet_scan.specs.Laws.{LocatedCellsAreCells}
 use Rattle.parquet_scan.specs.Pages.{location_rows, locations}
 use Rattle.parquet_scan.specs.Truth.{AreTrueCounts, AreTrueLocations, location_of}
@@ -93,6 +96,21 @@ located_there from chunk placed alone =
     ∙ ap (λ start. located_page chunk start placed.page.size (placed_values placed)) own
     ∙ alone
 
+-- ---- the dictionary before the pages
+
+-- the part that ends behind the dictionary page has it
+located_at_end : (chunk : List ℕ) → located_dictionary chunk (dictionary_size chunk) ≡ chunk_dictionary chunk
+located_at_end chunk = by (dictionary_at chunk) refl where
+  by : (o : Option (DictionaryPage × List ℕ)) → dictionary_at chunk ≡ o → located_dictionary chunk (option_map_or (λ (read : DictionaryPage × List ℕ). read.0.size) o 0) ≡ if_defined o NoDictionary
+  by None e = ap (λ b. if b then dictionary_in [] else Undefined) (le-leb 0 (length chunk) (omega arith))
+  by (Some read) e =
+      dictionary_alone chunk read.0 (ap (λ o. if_defined o NoDictionary) e) read.0.size (omega arith) (let measured = dictionary_measured chunk read e in omega (arith, measured.size))
+
+-- where the first location names the first page, it is the part before that page
+before_first : (from : ℕ) (chunk : List ℕ) (start row : ℕ) (page : ChunkPage) (pages : List ChunkPage)
+    → dictionary_before from chunk (map (location_of from) (placed_pages start row (page ∷ pages))) ≡ located_dictionary chunk start
+before_first from chunk start row page pages = let own : from + start - from ≡ start = omega arith in ap (located_dictionary chunk) own
+
 -- ---- the place of a chunk
 
 record IsChunk (size rows : ℕ) (column : ColumnChunkMetaData) (chunk : Place) : Type 0 where
@@ -151,30 +169,58 @@ module _ (bytes : List ℕ) (group : RowGroupMetaData) (column : ColumnChunkMeta
       ∙ map-map named (λ placed. (rows_of placed, location_of chunk.offset placed)) pages
       ∙ same_maps (IsReadAlone C) _ whole (λ placed alone. ap (λ page. (rows_of placed, page)) (located_there chunk.offset C placed alone)) pages (pages_alone C column.num_values)
 
-  module _ (type : PrimitiveType) (row : ℕ) where
-    of_found : (o : Option PlacedPage) → option_and_then (λ (page : Interval × Option ChunkPage). option_and_then (item_at type (row - (page.0).start)) page.1) (option_map whole o) ≡ option_and_then (item_in type row) o
+  module _ (reading : Reading) (row : ℕ) where
+    of_found : (o : Option PlacedPage) → option_and_then (λ (page : Interval × Option ChunkPage). option_and_then (item_at reading (row - (page.0).start)) page.1) (option_map whole o) ≡ option_and_then (item_in reading row) o
     of_found None = refl
     of_found (Some placed) = refl
 
-    same_items : item_located type (map whole pages) row ≡ item_among type pages row
+    same_items : item_located reading (map whole pages) row ≡ item_among reading pages row
     same_items =
-        ap (option_and_then (λ (page : Interval × Option ChunkPage). option_and_then (item_at type (row - (page.0).start)) page.1)) (find-map (λ (page : Interval × Option ChunkPage). holds page.0 row) whole pages)
+        ap (option_and_then (λ (page : Interval × Option ChunkPage). option_and_then (item_at reading (row - (page.0).start)) page.1)) (find-map (λ (page : Interval × Option ChunkPage). holds page.0 row) whole pages)
         ∙ of_found (find (λ (placed : PlacedPage). holds (rows_of placed) row) pages)
 
-  same_item : (row : ℕ) → located_item bytes group column row ≡ walked_item bytes group column row
-  same_item row =
-      let type = column.descriptor.primitive_type in
-      ap (λ found. item_located type found row) located_are ∙ same_items type row ∙ sym (ap (λ found. item_among type found row) walked_are)
+  before_are : dictionary_by_locations bytes group column ≡ dictionary_before chunk.offset C (map (location_of chunk.offset) pages)
+  before_are =
+      ap (λ (o : Option Place). option_map_or (λ (place : Place). dictionary_before place.offset (bytes_at bytes place) (locations bytes column)) o NoDictionary) there
+      ∙ ap (dictionary_before chunk.offset C) locations_are
 
-same_item_in : (bytes : List ℕ) (group : RowGroupMetaData) (column : ColumnChunkMetaData) (row : ℕ) → AreTrueCounts bytes group column → AreTrueLocations bytes group column
-    → (o : Option Place) → chunk_of bytes group column ≡ o → is_some o ≡ true → located_item bytes group column row ≡ walked_item bytes group column row
-same_item_in bytes group column row counts places None e there = absurd (false≢true there)
-same_item_in bytes group column row counts places (Some chunk) e there = same_item bytes group column chunk e counts.all_values places.same row
+  dictionary_is : walked_dictionary bytes group column ≡ chunk_dictionary C
+  dictionary_is = ap (λ (o : Option Place). option_map_or (λ (place : Place). chunk_dictionary (bytes_at bytes place)) o NoDictionary) there
+
+  module _ (data_type : DataType) (row : ℕ) where
+    abbrev over : Dictionary → Reading
+    over dictionary = record { stored = column.descriptor.primitive_type; dictionary = dictionary; data_type = data_type }
+
+    -- where there is a page, the dictionaries are one, and without a page there is no item
+    same_dictionaries : (found : List ChunkPage) → dictionary_before chunk.offset C (map (location_of chunk.offset) (placed_pages (dictionary_size C) 0 found)) ≡ dictionary_by_locations bytes group column
+        → item_among (over (dictionary_by_locations bytes group column)) (placed_pages (dictionary_size C) 0 found) row ≡ item_among (over (walked_dictionary bytes group column)) (placed_pages (dictionary_size C) 0 found) row
+    same_dictionaries [] e = refl
+    same_dictionaries (page ∷ others) e =
+        ap (λ dictionary. item_among (over dictionary) (placed_pages (dictionary_size C) 0 (page ∷ others)) row)
+        (sym e ∙ before_first chunk.offset C (dictionary_size C) 0 page others ∙ located_at_end C ∙ sym dictionary_is)
+
+    same_item : located_item bytes group data_type column row ≡ walked_item bytes group data_type column row
+    same_item =
+        ap (λ found. item_located (located_reading bytes group data_type column) found row) located_are
+        ∙ same_items (located_reading bytes group data_type column) row ∙ same_dictionaries contents (sym before_are)
+        ∙ sym (ap (λ found. item_among (walked_reading bytes group data_type column) found row) walked_are)
+
+same_item_in : (bytes : List ℕ) (group : RowGroupMetaData) (data_type : DataType) (column : ColumnChunkMetaData) (row : ℕ) → AreTrueCounts bytes group column → AreTrueLocations bytes group column
+    → (o : Option Place) → chunk_of bytes group column ≡ o → is_some o ≡ true → located_item bytes group data_type column row ≡ walked_item bytes group data_type column row
+same_item_in bytes group data_type column row counts places None e there = absurd (false≢true there)
+same_item_in bytes group data_type column row counts places (Some chunk) e there = same_item bytes group column chunk e counts.all_values places.same data_type row
 
 -- ---- cells
 
+-- a column that is read as nulls has the same items by pages or not
+same_column_item : (bytes : List ℕ) (group : RowGroupMetaData) (data_type : DataType) (column : ColumnChunkMetaData) (row : ℕ) → AreTrueCounts bytes group column → AreTrueLocations bytes group column
+    → column_item true bytes group data_type column row ≡ column_item false bytes group data_type column row
+same_column_item bytes group data_type column row counts places =
+    ap (λ item. if is_null_type data_type then given (nat_lt row group.num_rows) (Value Null) else item)
+    (same_item_in bytes group data_type column row counts places (chunk_of bytes group column) refl counts.chunk)
+
 pub located_cells_are_cells : LocatedCellsAreCells
 located_cells_are_cells bytes group column field row is_column counts places =
-    ap (option_and_then (λ c. located_item bytes group c row)) is_column
-    ∙ same_item_in bytes group column row counts places (chunk_of bytes group column) refl counts.chunk
-    ∙ sym (ap (option_and_then (λ c. walked_item bytes group c row)) is_column)
+    ap (option_and_then (λ c. column_cell true bytes group field.data_type c row)) is_column
+    ∙ ap (option_and_then as_cell) (same_column_item bytes group field.data_type column row counts places)
+    ∙ sym (ap (option_and_then (λ c. column_cell false bytes group field.data_type c row)) is_column)

@@ -1,18 +1,19 @@
 -- Pages that are read by their locations, and the items of the rows in them.
-use Rattle.std.proofs.Common.{◌≡◌, ℕ, ℤ, pos, zero, suc, ◌+◌, ◌-◌, ◌<◌, ◌≤◌, min, max, Bool, true, false, not, cond, List, [], ◌∷◌, ◌++◌, length, map, take, drop, Option, Some, None, refl, sym, subst, ◌∙◌, ap, arith, append_assoc, inl, inr}
-use Rattle.std.specs.Prelude.{filter, find, flat_map, slice_get, slice_range, zip, nat_lt, nat_le, ◌==◌, ◌&&◌, ◌||◌, option_map, option_and_then, if◌then◌else◌}
-use Rattle.std.specs.List.{list_any, range_with_len, cons_option}
+use Rattle.std.proofs.Common.{◌≡◌, ℕ, zero, suc, ◌+◌, ◌-◌, ◌<◌, ◌≤◌, min, max, Bool, true, false, not, cond, List, [], ◌∷◌, ◌++◌, length, map, take, drop, Option, Some, None, refl, sym, subst, ◌∙◌, ap, arith, inl, inr, append-nil}
+use Rattle.std.specs.Prelude.{filter, find, flat_map, slice_get, slice_range, zip, nat_lt, nat_le, ◌==◌, ◌&&◌, ◌||◌, ◌⊎◌, is_some, option_and_then, if◌then◌else◌}
+use Rattle.std.specs.List.{list_all, list_any, range_with_len, cons_option}
 use Rattle.std.proofs.lemmas.Bool.{le-leb, lt-leb, lt-ltb, le-ltb, leb-true, leb-false, cases_lt, eq-eqb, eqb-true, and_parts, true≢false}
+use Rattle.std.proofs.lemmas.Grind.{flat_map-append}
 use Rattle.std.proofs.lemmas.List.{drop-take, take-take, drop-drop, length-take-le, length-drop, map-append}
 use Rattle.std.proofs.lemmas.List.Folds.{list_any-append}
-use Rattle.std.proofs.lemmas.List.Elements.{Contains-append_cases}
 use Rattle.std.proofs.lemmas.Simd.{map-map}
-use Rattle.columns_core.specs.Causes.{Cause, ExternalFormat, NotYetImplemented, IsOneOf}
-use Rattle.columns_core.specs.declared.cell.Cell.{Cell, Int}
+use Rattle.columns_core.specs.Causes.{Cause, NotYetImplemented, IsOneOf}
+use Rattle.columns_core.specs.declared.cell.Cell.{Cell}
 use Rattle.parquet_base.specs.Reading.{◌>>=◌, given}
-use Rattle.parquet_base.specs.Intervals.{AreAdjacent, end, holds, is_well_shaped, is_well_shaped_from, overlaps, rows_in_page, rows_of}
+use Rattle.parquet_base.specs.Intervals.{AreAdjacent, covers, end, holds, is_well_shaped, is_well_shaped_from, overlaps, rows_in_page, rows_of}
 use Rattle.parquet_base.specs.declared.interval.Interval.{Interval}
 use Rattle.parquet_base.proofs.OverlapLemmas.{overlaps-shaped}
+use Rattle.parquet_base.proofs.RowLemmas.{rows_of-passing}
 use Rattle.parquet_base.proofs.SegmentLemmas.{holds_after, holds_before, holds_inside}
 use Rattle.parquet_base.proofs.ShapeLemmas.{shape-cons, shape-le}
 use Rattle.parquet_meta.specs.Places.{after, bytes_at, lies_in, part_at}
@@ -21,22 +22,27 @@ use Rattle.parquet_meta.specs.declared.metadata.Place.{Place}
 use Rattle.parquet_meta.specs.declared.metadata.PrimitiveType.{PrimitiveType}
 use Rattle.parquet_page.specs.Chunk.{ChunkPage, Dictionary, NoDictionary, Undefined, Defined, data_page_at}
 use Rattle.parquet_page.specs.Content.{header_values}
-use Rattle.parquet_page.specs.Lent.{data_of, dictionary_of, if_there, in_front, is_wanted, lent_parts, located_lent, wanted_page}
+use Rattle.parquet_page.specs.Lent.{Lent, behind_dictionary, dictionary_of, if_there, in_front, is_wanted, lent_parts, located_lent, wanted_page}
 use Rattle.parquet_page.specs.Located.{page_in}
 use Rattle.parquet_page.specs.Located.{located_page as page_in_chunk}
 use Rattle.parquet_page.specs.Locations.{filtered_page, filtered_pages, located, part_of}
+use Rattle.parquet_page.specs.Selected.{covered_from, selected_of}
 use Rattle.parquet_page.specs.Spelling.{has_plain_entries}
-use Rattle.parquet_page.specs.Stored.{Stored, Number}
 use Rattle.parquet_page.specs.declared.page.FilteredPage.{FilteredPage}
 use Rattle.parquet_encoding.proofs.StepLemmas.{bind_some, given_some}
-use Rattle.parquet_scan.specs.Causes.{causes_of_data, causes_of_found, causes_of_opened, causes_of_page, is_opened, opened_causes, opened_located}
-use Rattle.parquet_scan.specs.Cells.{content_of, item_at, item_located, item_of, named_page}
+use Rattle.column_values.specs.Column.{DataPagesAre, rows}
+use Rattle.column_values.specs.Outcome.{Outcome, Given, causes_in}
+use Rattle.flat_values.specs.Agreement.{AreEntriesOf}
+use Rattle.flat_values.specs.Conversion.{Conversion, Item, Value}
+use Rattle.flat_values.specs.Outcomes.{dictionary_cells, selected_outcomes}
+use Rattle.flat_values.specs.Pairs.{conversion}
+use Rattle.parquet_scan.specs.Causes.{causes_of_data, causes_of_dictionary, causes_of_found, causes_of_opened, has_dictionary, is_opened, opened_located}
+use Rattle.parquet_scan.specs.Cells.{Reading, dictionary_content, item_at, item_located, items_in, named_page}
+use Rattle.parquet_scan.specs.Decoded.{rows_by}
 use Rattle.parquet_scan.specs.Located.{entry_part, entry_place, part_in}
-use Rattle.parquet_scan.specs.Numbers.{all_numbers, data_numbers}
 use Rattle.parquet_scan.proofs.CauseLemmas.{one_left, one_right}
-use Rattle.parquet_scan.proofs.CellLemmas.{map_rows, front_none, rest_none}
-use Rattle.parquet_scan.proofs.PickedLemmas.{items_picked, numbers_count, picked}
-use Rattle.parquet_scan.proofs.PageLemmas.{any_selection, plain_spelled}
+use Rattle.parquet_scan.proofs.CellLemmas.{causes_behind, causes_if_there, items_there, map_rows}
+use Rattle.parquet_scan.proofs.PageLemmas.{HasWrongItem, IsOver, IsRefused, dictionary_first, first_given, first_wrong, items_many}
 
 -- ---- a part of a chunk
 
@@ -258,83 +264,6 @@ pages_there bytes chunk (entry ∷ entries) (body ∷ bodies) e =
     let parts = split_cons (entry_part bytes chunk entry) (Some body) (map (entry_part bytes chunk) entries) (map Some bodies) e in
     λ i. there bytes chunk entry body parts.0 i ∷ pages_there bytes chunk entries bodies parts.1 i
 
--- one of a list is one of a longer one
-pub more_causes : (xs ys zs : List Cause) (o : Option Cause) → (IsOneOf ys o → IsOneOf zs o) → IsOneOf (xs ++ ys) o → IsOneOf (xs ++ zs) o
-more_causes xs ys zs None more one = one
-more_causes xs ys zs (Some cause) more one = elim (Contains-append_cases xs ys cause one) [
-  | inl first ↦ one_left xs zs (Some cause) first
-  | inr rest ↦ one_right xs zs (Some cause) (more rest)
-]
-
--- the causes of a page are the same, whichever of its rows are selected
-abbrev own_causes : PrimitiveType → FilteredPage → ChunkPage → List Cause
-own_causes type entry page = causes_of_page (data_of type (Some entry.selected_rows) page)
-
-same_own : (type : PrimitiveType) (entry : FilteredPage) (page : ChunkPage) → own_causes type entry page ≡ causes_of_data (content_of type page)
-same_own type entry page = any_selection (content_of type page) (Some entry.selected_rows)
-
-pub lent_ok : (type : PrimitiveType) (parts : List (FilteredPage × List ℕ)) → opened_causes (lent_parts type parts) ≡ [] → flat_map (causes_of_found type) (pages_of parts) ≡ []
-unfolding lent_parts
-lent_ok type [] none = refl
-lent_ok type (wanted ∷ others) none = by (wanted_page wanted.0 wanted.1) none (lent_ok type others) where
-  by : (o : Option ChunkPage) → opened_causes (if_there type wanted.0 o (lent_parts type others)) ≡ [] → (opened_causes (lent_parts type others) ≡ [] → flat_map (causes_of_found type) (pages_of others) ≡ [])
-      → causes_of_found type o ++ flat_map (causes_of_found type) (pages_of others) ≡ []
-  by None none rest = absurd cc
-  by (Some page) none rest =
-      let lent = lent_parts type others in
-      let behind = flat_map causes_of_page lent.pages in
-      let all : own_causes type wanted.0 page ++ (behind ++ lent.causes) ≡ [] = sym (append_assoc (own_causes type wanted.0 page) behind lent.causes) ∙ none in
-      let own : causes_of_data (content_of type page) ≡ [] = sym (same_own type wanted.0 page) ∙ front_none (own_causes type wanted.0 page) (behind ++ lent.causes) all in
-      λ i. own i ++ rest (rest_none (own_causes type wanted.0 page) (behind ++ lent.causes) all) i
-
-pub lent_in : (type : PrimitiveType) (parts : List (FilteredPage × List ℕ)) (o : Option Cause) → IsOneOf (opened_causes (lent_parts type parts)) o → IsOneOf (flat_map (causes_of_found type) (pages_of parts)) o
-unfolding lent_parts
-lent_in type [] o one = one
-lent_in type (wanted ∷ others) o one = by (wanted_page wanted.0 wanted.1) one (lent_in type others o) where
-  by : (found : Option ChunkPage) → IsOneOf (opened_causes (if_there type wanted.0 found (lent_parts type others))) o → (IsOneOf (opened_causes (lent_parts type others)) o → IsOneOf (flat_map (causes_of_found type) (pages_of others)) o)
-      → IsOneOf (causes_of_found type found ++ flat_map (causes_of_found type) (pages_of others)) o
-  by None one rest = one_left (ExternalFormat ∷ []) (flat_map (causes_of_found type) (pages_of others)) o one
-  by (Some page) one rest =
-      let lent = lent_parts type others in
-      let behind = flat_map causes_of_page lent.pages in
-      let all : IsOneOf (own_causes type wanted.0 page ++ (behind ++ lent.causes)) o = subst (λ causes. IsOneOf causes o) (append_assoc (own_causes type wanted.0 page) behind lent.causes) one in
-      let own : IsOneOf (causes_of_data (content_of type page) ++ (behind ++ lent.causes)) o = subst (λ causes. IsOneOf (causes ++ (behind ++ lent.causes)) o) (same_own type wanted.0 page) all in
-      more_causes (causes_of_data (content_of type page)) (behind ++ lent.causes) (flat_map (causes_of_found type) (pages_of others)) o rest own
-
--- ---- the dictionary before them
-
-pub opened_ok : (type : PrimitiveType) (before : Dictionary) (parts : List (FilteredPage × List ℕ)) → opened_causes (located_lent type before parts) ≡ [] → causes_of_opened type before (pages_of parts) ≡ []
-unfolding located_lent
-opened_ok type before [] none = refl
-opened_ok type NoDictionary (wanted ∷ others) none = lent_ok type (wanted ∷ others) none
-opened_ok type Undefined (wanted ∷ others) none = absurd cc
-opened_ok type (Defined page) (wanted ∷ others) none = absurd (by (has_plain_entries page.encoding) none) where
-  by : (b : Bool) → opened_causes (if b then in_front (dictionary_of page) (lent_parts type (wanted ∷ others)) else record { pages = []; causes = NotYetImplemented ∷ [] }) ≡ [] → ⊥
-  by true none = cc
-  by false none = cc
-
-pub opened_in : (type : PrimitiveType) (before : Dictionary) (parts : List (FilteredPage × List ℕ)) (o : Option Cause) → IsOneOf (opened_causes (located_lent type before parts)) o → IsOneOf (causes_of_opened type before (pages_of parts)) o
-unfolding located_lent
-opened_in type before [] o one = one
-opened_in type NoDictionary (wanted ∷ others) o one = lent_in type (wanted ∷ others) o one
-opened_in type Undefined (wanted ∷ others) o one = one_left (ExternalFormat ∷ []) (flat_map (causes_of_found type) (pages_of (wanted ∷ others))) o one
-opened_in type (Defined page) (wanted ∷ others) o one = by (has_plain_entries page.encoding) one where
-  by : (b : Bool) → IsOneOf (opened_causes (if b then in_front (dictionary_of page) (lent_parts type (wanted ∷ others)) else record { pages = []; causes = NotYetImplemented ∷ [] })) o
-      → IsOneOf ((NotYetImplemented ∷ []) ++ flat_map (causes_of_found type) (pages_of (wanted ∷ others))) o
-  by true one = more_causes (NotYetImplemented ∷ []) (opened_causes (lent_parts type (wanted ∷ others))) (flat_map (causes_of_found type) (pages_of (wanted ∷ others))) o (lent_in type (wanted ∷ others) o) one
-  by false one = one_left (NotYetImplemented ∷ []) (flat_map (causes_of_found type) (pages_of (wanted ∷ others))) o one
-
--- without a cause there is no dictionary before them
-pub no_dictionary : (type : PrimitiveType) (before : Dictionary) (parts : List (FilteredPage × List ℕ)) → opened_causes (located_lent type before parts) ≡ [] → located_lent type before parts ≡ lent_parts type parts
-unfolding located_lent lent_parts
-no_dictionary type before [] none = refl
-no_dictionary type NoDictionary (wanted ∷ others) none = refl
-no_dictionary type Undefined (wanted ∷ others) none = absurd cc
-no_dictionary type (Defined page) (wanted ∷ others) none = absurd (by (has_plain_entries page.encoding) none) where
-  by : (b : Bool) → opened_causes (if b then in_front (dictionary_of page) (lent_parts type (wanted ∷ others)) else record { pages = []; causes = NotYetImplemented ∷ [] }) ≡ [] → ⊥
-  by true none = cc
-  by false none = cc
-
 -- ---- items of selected rows
 
 agree_below : {X : Type 0} (p q : ℕ → X) (from : ℕ) (runs : List Interval) (rows : ℕ) → is_well_shaped_from from runs rows ≡ true → ((row : ℕ) → row < rows → p row ≡ q row) → map p (rows_of runs) ≡ map q (rows_of runs)
@@ -347,24 +276,34 @@ agree_below p q from (run ∷ runs) rows shaped same =
     ∙ (λ i. first i ++ agree_below p q (end run) runs rows own.rest same i)
     ∙ sym (map-append q (range_with_len run.start run.length) (rows_of runs))
 
-get_mapped : {X Y : Type 0} (g : X → Y) (xs : List X) (i : ℕ) → slice_get (map g xs) i ≡ option_map g (slice_get xs i)
-get_mapped g [] i = refl
-get_mapped g (x ∷ xs) zero = refl
-get_mapped g (x ∷ xs) (suc i) = get_mapped g xs i
+covered_items : {X : Type 0} (runs : List Interval) (item : ℕ → Option X) (from : ℕ) (items : List X) → ((i : ℕ) → item (from + i) ≡ slice_get items i)
+    → map item (filter (covers runs) (range_with_len from (length items))) ≡ map Some (covered_from runs from items)
+covered_items runs item from [] at = refl
+covered_items runs item from (x ∷ items) at =
+    let first : from ≡ from + 0 = omega arith in
+    let others = covered_items runs item (from + 1) items (λ i. let next : from + 1 + i ≡ from + suc i = omega arith in ap item next ∙ at (suc i)) in
+    by (covers runs from) (ap item first ∙ at 0) others where
+      behind : List ℕ
+      behind = filter (covers runs) (range_with_len (from + 1) (length items))
 
--- the items of a page of plain numbers in the rows that are selected of it
-page_items : (type : PrimitiveType) (page : ChunkPage) (runs : List Interval) → causes_of_data (content_of type page) ≡ [] → is_well_shaped runs (header_values page.header) ≡ true
-    → map (λ row. item_at type row page) (rows_of runs) ≡ map (λ n. Some (Int n)) (picked runs (data_numbers (content_of type page)))
-page_items type page runs none shaped =
-    let numbers = data_numbers (content_of type page) in
-    let long : length numbers ≡ header_values page.header = numbers_count (header_values page.header) page.body in
-    let as_number : ℤ → Option Stored = λ n. Some (Number n) in
-    ap (λ o. map (λ row. option_and_then (λ values. option_and_then item_of (slice_get values row)) o) (rows_of runs)) (plain_spelled (content_of type page) none)
-    ∙ agree_below (λ row. option_and_then item_of (slice_get (map as_number numbers) row)) (λ row. option_and_then item_of (option_map as_number (slice_get numbers row))) 0 runs (header_values page.header) shaped
-    (λ row below. ap (option_and_then item_of) (get_mapped as_number numbers row))
-    ∙ sym (map-map (λ o. option_and_then item_of (option_map as_number o)) (slice_get numbers) (rows_of runs))
-    ∙ ap (map (λ o. option_and_then item_of (option_map as_number o))) (items_picked numbers (pos 0) 0 runs (ap (λ n. is_well_shaped runs n) long ∙ shaped))
-    ∙ map-map (λ o. option_and_then item_of (option_map as_number o)) Some (picked runs numbers)
+      by : (b : Bool) → item from ≡ Some x → map item behind ≡ map Some (covered_from runs (from + 1) items)
+          → map item (cond b (from ∷ behind) behind) ≡ map Some (if b then x ∷ covered_from runs (from + 1) items else covered_from runs (from + 1) items)
+      by true here others = λ i. here i ∷ others i
+      by false here others = others
+
+-- the items in the rows of runs are those that the runs select
+pub selected_items : {X : Type 0} (runs : List Interval) (items : List X) → is_well_shaped runs (length items) ≡ true → map (slice_get items) (rows_of runs) ≡ map Some (selected_of (Some runs) items)
+selected_items runs items shaped =
+    let all : length items - 0 ≡ length items = omega arith in
+    ap (map (slice_get items)) (rows_of-passing 0 runs (length items) shaped ∙ ap (λ n. filter (covers runs) (range_with_len 0 n)) all)
+    ∙ covered_items runs (slice_get items) 0 items (λ i. let same : 0 + i ≡ i = omega arith in ap (slice_get items) same)
+
+-- the items of a page in the rows that are selected of it
+page_items : (reading : Reading) (page : ChunkPage) (items : List Item) (runs : List Interval) → items_in reading page ≡ Some items → is_well_shaped runs (header_values page.header) ≡ true
+    → map (λ row. item_at reading row page) (rows_of runs) ≡ map Some (selected_of (Some runs) items)
+page_items reading page items runs are shaped =
+    ap (λ o. map (λ row. option_and_then (λ items. slice_get items row) o) (rows_of runs)) are
+    ∙ selected_items runs items (ap (λ n. is_well_shaped runs n) (items_many reading page items are) ∙ shaped)
 
 values_there : (body : List ℕ) (rows : ℕ) (page : ChunkPage) → page_in body rows ≡ Some page → header_values page.header ≡ rows
 unfolding page_in
@@ -372,6 +311,192 @@ values_there body rows page e =
     let read = bind_some (data_page_at rows body) (λ read. given ((length read.1 == 0) && (header_values read.0.header == rows)) read.0) page e in
     let same = given_some ((length read.0.1 == 0) && (header_values read.0.0.header == rows)) read.0.0 page read.2 in
     ap (λ (p : ChunkPage). header_values p.header) (sym same.1) ∙ eqb-true _ _ (and_parts (length read.0.1 == 0) (header_values read.0.0.header == rows) same.0).1
+
+wanted_values : (entry : FilteredPage) (part : List ℕ) (page : ChunkPage) → wanted_page entry part ≡ Some page → header_values page.header ≡ entry.num_rows
+wanted_values entry part page e =
+    let own = bind_some (given (length part == entry.length) part) (λ own. page_in own entry.num_rows) page e in
+    values_there own.0 entry.num_rows page own.2
+
+-- ---- the items of parts
+
+-- the items in the selected rows of an entry, in its part
+abbrev pub part_items : Reading → FilteredPage × List ℕ → List (Option Item)
+part_items reading part = map (λ row. option_and_then (item_at reading row) (wanted_page part.0 part.1)) (rows_of part.0.selected_rows)
+
+abbrev pub parts_items : Reading → List (FilteredPage × List ℕ) → List (Option Item)
+parts_items reading parts = flat_map (part_items reading) parts
+
+-- what is wrong with them, as far as there are any
+abbrev pub causes_of_parts : Reading → List (FilteredPage × List ℕ) → List Cause
+causes_of_parts reading parts = flat_map causes_if_there (parts_items reading parts)
+
+-- items that are these cells
+abbrev pub cells_as : List Cell → List (Option Item)
+cells_as cells = map (λ cell. Some (Value cell)) cells
+
+abbrev pub is_shaped_part : FilteredPage × List ℕ → Bool
+is_shaped_part part = is_well_shaped part.0.selected_rows part.0.num_rows
+
+module _ (reading : Reading) (rule : Conversion) (entries : Option (List Cell)) (pair : conversion reading.stored reading.data_type ≡ Some rule)
+    (over : AreEntriesOf rule reading.stored.physical_type (dictionary_content reading.dictionary) entries) (has : has_dictionary reading.dictionary ≡ is_some entries) where
+  abbrev lent : List (FilteredPage × List ℕ) → Lent
+  lent parts = lent_parts reading.stored parts
+
+  abbrev rows_over : Lent → List Outcome
+  rows_over others = rows (dictionary_cells rule reading.stored.physical_type) (selected_outcomes rule) entries others.pages others.causes
+
+  -- Nothing is wrong with the pages of parts, and each item of theirs that is selected is a value.
+  pub record ArePartsGiven (parts : List (FilteredPage × List ℕ)) : Type 0 where
+    pub cells : List Cell
+    pub none : flat_map (causes_of_found reading) (pages_of parts) ≡ []
+    pub outcomes : rows_over (lent parts) ≡ map Given cells
+    pub items : parts_items reading parts ≡ cells_as cells
+
+  -- the items of a page in its part are those that are selected of it
+  selected_here : (part : FilteredPage × List ℕ) (page : ChunkPage) (items : List Item) → items_in reading page ≡ Some items → wanted_page part.0 part.1 ≡ Some page → is_shaped_part part ≡ true
+      → part_items reading part ≡ map Some (selected_of (Some part.0.selected_rows) items)
+  selected_here part page items are here shaped =
+      ap (λ o. map (λ row. option_and_then (item_at reading row) o) (rows_of part.0.selected_rows)) here
+      ∙ page_items reading page items part.0.selected_rows are (ap (λ n. is_well_shaped part.0.selected_rows n) (wanted_values part.0 part.1 page here) ∙ shaped)
+
+  part_given : (part : FilteredPage × List ℕ) (others : List (FilteredPage × List ℕ)) → is_shaped_part part ≡ true → (page : ChunkPage) → wanted_page part.0 part.1 ≡ Some page
+      → rows_over (lent (part ∷ others)) ≡ rows_over (if_there reading.stored part.0 (Some page) (lent others))
+      → causes_in (rows_over (if_there reading.stored part.0 (Some page) (lent others))) ≡ [] → (causes_in (rows_over (lent others)) ≡ [] → ArePartsGiven others) → ArePartsGiven (part ∷ others)
+  part_given part others shaped page here same none rest =
+      let later = rows_over (lent others) in
+      let first = first_given reading rule entries pair over has (Some part.0.selected_rows) page later none in
+      let behind = rest (sym (causes_behind first.cells later) ∙ sym (ap causes_in first.outcomes) ∙ none) in
+      let own : causes_of_found reading (wanted_page part.0 part.1) ≡ [] = ap (causes_of_found reading) here ∙ first.none in
+      let items : part_items reading part ≡ cells_as first.cells = selected_here part page first.items first.are here shaped ∙ ap (map Some) first.values ∙ map-map Some Value first.cells in
+      record {
+        cells = first.cells ++ behind.cells;
+        none = λ i. own i ++ behind.none i;
+        outcomes = same ∙ first.outcomes ∙ ap (λ later. map Given first.cells ++ later) behind.outcomes ∙ sym (map-append Given first.cells behind.cells);
+        items = (λ i. items i ++ behind.items i) ∙ sym (map-append (λ cell. Some (Value cell)) first.cells behind.cells);
+      }
+
+  parts_given : (parts : List (FilteredPage × List ℕ)) → list_all is_shaped_part parts ≡ true → causes_in (rows_over (lent parts)) ≡ [] → ArePartsGiven parts
+  unfolding lent_parts
+  parts_given [] shaped none = record { cells = []; none = refl; outcomes = refl; items = refl }
+  parts_given (part ∷ others) shaped none =
+      let each = and_parts (is_shaped_part part) (list_all is_shaped_part others) shaped in
+      by (wanted_page part.0 part.1) refl each.0 none (parts_given others each.1) where
+        by : (o : Option ChunkPage) → wanted_page part.0 part.1 ≡ o → is_shaped_part part ≡ true → causes_in (rows_over (if_there reading.stored part.0 o (lent others))) ≡ []
+            → (causes_in (rows_over (lent others)) ≡ [] → ArePartsGiven others) → ArePartsGiven (part ∷ others)
+        by None here own none rest = absurd cc
+        by (Some page) here own none rest = part_given part others own page here (ap (λ o. rows_over (if_there reading.stored part.0 o (lent others))) here) none rest
+
+  abbrev IsWrongOf : List (FilteredPage × List ℕ) → Option Cause → Type 0
+  IsWrongOf parts o = IsOneOf (flat_map (causes_of_found reading) (pages_of parts)) o ⊎ IsOneOf (causes_of_parts reading parts) o
+
+  wrong_page : (part : FilteredPage × List ℕ) (others : List (FilteredPage × List ℕ)) (o : Option Cause) → IsOneOf (causes_of_found reading (wanted_page part.0 part.1)) o → IsWrongOf (part ∷ others) o
+  wrong_page part others o one = inl (one_left (causes_of_found reading (wanted_page part.0 part.1)) (flat_map (causes_of_found reading) (pages_of others)) o one)
+
+  wrong_item : (part : FilteredPage × List ℕ) (others : List (FilteredPage × List ℕ)) (o : Option Cause) → IsOneOf (flat_map causes_if_there (part_items reading part)) o → IsWrongOf (part ∷ others) o
+  wrong_item part others o one =
+      inr (subst (λ causes. IsOneOf causes o) (sym (flat_map-append causes_if_there (part_items reading part) (parts_items reading others)))
+      (one_left (flat_map causes_if_there (part_items reading part)) (causes_of_parts reading others) o one))
+
+  wrong_behind : (part : FilteredPage × List ℕ) (others : List (FilteredPage × List ℕ)) (o : Option Cause) → IsWrongOf others o → IsWrongOf (part ∷ others) o
+  wrong_behind part others o (inl page) = inl (one_right (causes_of_found reading (wanted_page part.0 part.1)) (flat_map (causes_of_found reading) (pages_of others)) o page)
+  wrong_behind part others o (inr item) =
+      inr (subst (λ causes. IsOneOf causes o) (sym (flat_map-append causes_if_there (part_items reading part) (parts_items reading others)))
+      (one_right (flat_map causes_if_there (part_items reading part)) (causes_of_parts reading others) o item))
+
+  part_wrong : (part : FilteredPage × List ℕ) (others : List (FilteredPage × List ℕ)) (o : Option Cause) → is_shaped_part part ≡ true → (page : ChunkPage) → wanted_page part.0 part.1 ≡ Some page
+      → IsOneOf (causes_of_data reading page) o ⊎ (HasWrongItem reading (Some part.0.selected_rows) page o ⊎ IsOneOf (causes_in (rows_over (lent others))) o)
+      → (IsOneOf (causes_in (rows_over (lent others))) o → IsWrongOf others o) → IsWrongOf (part ∷ others) o
+  part_wrong part others o shaped page here (inl one) rest = wrong_page part others o (subst (λ found. IsOneOf (causes_of_found reading found) o) (sym here) one)
+  part_wrong part others o shaped page here (inr (inl item)) rest =
+      let are = ap (flat_map causes_if_there) (selected_here part page item.items item.are here shaped) ∙ items_there (selected_of (Some part.0.selected_rows) item.items) in
+      wrong_item part others o (subst (λ causes. IsOneOf causes o) (sym are) item.wrong)
+  part_wrong part others o shaped page here (inr (inr later)) rest = wrong_behind part others o (rest later)
+
+  parts_wrong : (parts : List (FilteredPage × List ℕ)) → list_all is_shaped_part parts ≡ true → (o : Option Cause) → IsOneOf (causes_in (rows_over (lent parts))) o → IsWrongOf parts o
+  unfolding lent_parts
+  parts_wrong [] shaped o one = inl one
+  parts_wrong (part ∷ others) shaped o one =
+      let each = and_parts (is_shaped_part part) (list_all is_shaped_part others) shaped in
+      by (wanted_page part.0 part.1) refl each.0 one (parts_wrong others each.1 o) where
+        by : (found : Option ChunkPage) → wanted_page part.0 part.1 ≡ found → is_shaped_part part ≡ true → IsOneOf (causes_in (rows_over (if_there reading.stored part.0 found (lent others)))) o
+            → (IsOneOf (causes_in (rows_over (lent others))) o → IsWrongOf others o) → IsWrongOf (part ∷ others) o
+        by None here own one rest = wrong_page part others o (subst (λ found. IsOneOf (causes_of_found reading found) o) (sym here) one)
+        by (Some page) here own one rest =
+            part_wrong part others o own page here (first_wrong reading rule entries pair over has (Some part.0.selected_rows) page (rows_over (lent others)) o one) rest
+
+-- ---- the dictionary before them
+
+module _ (reading : Reading) (rule : Conversion) (pair : conversion reading.stored reading.data_type ≡ Some rule) where
+  abbrev rows_lent : List (FilteredPage × List ℕ) → List Outcome
+  rows_lent parts = rows_by reading.stored.physical_type (located_lent reading.stored reading.dictionary parts).pages (located_lent reading.stored reading.dictionary parts).causes rule
+
+  -- Nothing is wrong with the pages of parts nor with the dictionary, and each item that is selected is a value.
+  pub record AreLocatedGiven (parts : List (FilteredPage × List ℕ)) : Type 0 where
+    pub cells : List Cell
+    pub none : causes_of_opened reading (pages_of parts) ≡ []
+    pub outcomes : rows_lent parts ≡ map Given cells
+    pub items : parts_items reading parts ≡ cells_as cells
+
+  pub located_given : (parts : List (FilteredPage × List ℕ)) → list_all is_shaped_part parts ≡ true → causes_in (rows_lent parts) ≡ [] → AreLocatedGiven parts
+  unfolding located_lent
+  located_given [] shaped none = record { cells = []; none = refl; outcomes = refl; items = refl }
+  located_given (part ∷ others) shaped none = by (dictionary_first reading.stored reading.data_type rule pair (lent_parts reading.stored (part ∷ others)) reading.dictionary) where
+    by : IsOver reading rule (lent_parts reading.stored (part ∷ others)) ⊎ IsRefused reading rule (lent_parts reading.stored (part ∷ others)) → AreLocatedGiven (part ∷ others)
+    by (inl behind) =
+        let parts = parts_given reading rule behind.entries pair behind.are behind.has (part ∷ others) shaped (sym (ap causes_in behind.outcomes) ∙ none) in
+        record { cells = parts.cells; none = λ i. behind.none i ++ parts.none i; outcomes = behind.outcomes ∙ parts.outcomes; items = parts.items }
+    by (inr wrong) = absurd (some_cause wrong.cause (wrong.causes ++ []) (sym (ap causes_in wrong.outcomes) ∙ none)) where
+      some_cause : (cause : Cause) (causes : List Cause) → cause ∷ causes ≡ [] → ⊥
+      some_cause cause causes e = cc
+
+  wrong_opened : (part : FilteredPage × List ℕ) (others : List (FilteredPage × List ℕ)) (o : Option Cause)
+      → IsOneOf (flat_map (causes_of_found reading) (pages_of (part ∷ others))) o ⊎ IsOneOf (causes_of_parts reading (part ∷ others)) o
+      → IsOneOf (causes_of_opened reading (pages_of (part ∷ others)) ++ causes_of_parts reading (part ∷ others)) o
+  wrong_opened part others o (inl page) =
+      one_left (causes_of_opened reading (pages_of (part ∷ others))) (causes_of_parts reading (part ∷ others)) o
+      (one_right (causes_of_dictionary reading reading.dictionary) (flat_map (causes_of_found reading) (pages_of (part ∷ others))) o page)
+  wrong_opened part others o (inr item) = one_right (causes_of_opened reading (pages_of (part ∷ others))) (causes_of_parts reading (part ∷ others)) o item
+
+  pub located_wrong : (parts : List (FilteredPage × List ℕ)) → list_all is_shaped_part parts ≡ true → (o : Option Cause) → IsOneOf (causes_in (rows_lent parts)) o
+      → IsOneOf (causes_of_opened reading (pages_of parts) ++ causes_of_parts reading parts) o
+  unfolding located_lent
+  located_wrong [] shaped o one = one
+  located_wrong (part ∷ others) shaped o one = by (dictionary_first reading.stored reading.data_type rule pair (lent_parts reading.stored (part ∷ others)) reading.dictionary) where
+    by : IsOver reading rule (lent_parts reading.stored (part ∷ others)) ⊎ IsRefused reading rule (lent_parts reading.stored (part ∷ others))
+        → IsOneOf (causes_of_opened reading (pages_of (part ∷ others)) ++ causes_of_parts reading (part ∷ others)) o
+    by (inl behind) =
+        wrong_opened part others o (parts_wrong reading rule behind.entries pair behind.are behind.has (part ∷ others) shaped o (subst (λ rows. IsOneOf (causes_in rows) o) behind.outcomes one))
+    by (inr wrong) =
+        let own = subst (λ causes. IsOneOf causes o) (ap causes_in wrong.outcomes ∙ append-nil (wrong.cause ∷ wrong.causes) ∙ sym wrong.are) one in
+        one_left (causes_of_opened reading (pages_of (part ∷ others))) (causes_of_parts reading (part ∷ others)) o
+        (one_left (causes_of_dictionary reading reading.dictionary) (flat_map (causes_of_found reading) (pages_of (part ∷ others))) o own)
+
+-- ---- their type
+
+abbrev AreOfType : PrimitiveType → Lent → Type 0
+AreOfType stored lent = DataPagesAre (λ page. page.type ≡ stored) lent.pages
+
+typed_behind : (stored : PrimitiveType) (before : Dictionary) (others : Lent) → AreOfType stored others → AreOfType stored (behind_dictionary before others)
+typed_behind stored NoDictionary others own = own
+typed_behind stored Undefined others own = tt
+typed_behind stored (Defined page) others own = by (has_plain_entries page.encoding) where
+  by : (b : Bool) → AreOfType stored (if b then in_front (dictionary_of page) others else record { pages = []; causes = NotYetImplemented ∷ [] })
+  by true = own
+  by false = tt
+
+typed_parts : (stored : PrimitiveType) (parts : List (FilteredPage × List ℕ)) → AreOfType stored (lent_parts stored parts)
+unfolding lent_parts
+typed_parts stored [] = tt
+typed_parts stored (part ∷ others) = by (wanted_page part.0 part.1) (typed_parts stored others) where
+  by : (o : Option ChunkPage) → AreOfType stored (lent_parts stored others) → AreOfType stored (if_there stored part.0 o (lent_parts stored others))
+  by None rest = tt
+  by (Some page) rest = (refl, rest)
+
+-- the pages that are lent have the stored type
+pub typed_located : (stored : PrimitiveType) (before : Dictionary) (parts : List (FilteredPage × List ℕ)) → AreOfType stored (located_lent stored before parts)
+unfolding located_lent
+typed_located stored before [] = tt
+typed_located stored before (part ∷ others) = typed_behind stored before (lent_parts stored (part ∷ others)) (typed_parts stored (part ∷ others))
 
 -- ---- the items of the rows of all pages
 
@@ -388,97 +513,74 @@ agree_behind p q intervals from (page ∷ pages) rows adjacent same =
           let first : p (page.start + row) ≡ q (page.start + row) = same (page.start + row) (omega (arith, adjacent.0)) in
           λ i. first i ∷ shifted rows i
 
-none_some : {A : Type 0} (xs : List A) → some xs ≡ false → xs ≡ []
+pub none_some : {A : Type 0} (xs : List A) → some xs ≡ false → xs ≡ []
 none_some [] e = refl
 none_some (x ∷ xs) e = absurd (true≢false (sym (one_some x xs) ∙ e))
 
-module _ (bytes : List ℕ) (chunk : Place) (intervals : List Interval) (type : PrimitiveType) (num_rows : ℕ) (shaped : is_well_shaped intervals num_rows ≡ true) where
-  abbrev items_from : List Interval → List FilteredPage → ℕ → Option Cell
-  items_from rows entries = item_located type (zip rows (map (found bytes chunk) entries))
+module _ (bytes : List ℕ) (chunk : Place) (intervals : List Interval) (reading : Reading) (num_rows : ℕ) (shaped : is_well_shaped intervals num_rows ≡ true) where
+  abbrev items_from : List Interval → List FilteredPage → ℕ → Option Item
+  items_from rows entries = item_located reading (zip rows (map (found bytes chunk) entries))
 
   abbrev selected_in : List Interval → List ℕ
   selected_in rows = flat_map (λ page. rows_in_page page intervals) rows
 
-  abbrev numbers_in : List FilteredPage → List (List ℕ) → List ℤ
-  numbers_in wanted bodies = all_numbers (lent_parts type (zip wanted bodies)).pages
-
-  -- what is shown of entries that are wanted in these parts
-  abbrev Shown : List Interval → List FilteredPage → List FilteredPage → List (List ℕ) → Type 0
-  Shown rows entries wanted bodies =
-      map (entry_part bytes chunk) wanted ≡ map Some bodies → opened_causes (lent_parts type (zip wanted bodies)) ≡ []
-      → map (items_from rows entries) (selected_in rows) ≡ map (λ n. Some (Int n)) (numbers_in wanted bodies)
+  -- the items of the selected rows are those of the parts of entries that are wanted
+  abbrev AreOfParts : List Interval → List FilteredPage → List FilteredPage → List (List ℕ) → Type 0
+  AreOfParts rows entries wanted bodies = map (entry_part bytes chunk) wanted ≡ map Some bodies → map (items_from rows entries) (selected_in rows) ≡ parts_items reading (zip wanted bodies)
 
   -- the items of other rows do not change by a page before them
   others_same : (from : ℕ) (rows : Interval) (others : List Interval) (entry : FilteredPage) (entries : List FilteredPage) → AreAdjacent from (rows ∷ others) num_rows
       → map (items_from (rows ∷ others) (entry ∷ entries)) (selected_in others) ≡ map (items_from others entries) (selected_in others)
   others_same from rows others entry entries adjacent =
       agree_behind (items_from (rows ∷ others) (entry ∷ entries)) (items_from others entries) intervals (end rows) others num_rows adjacent.1
-      (λ row low. ap (λ b. option_and_then (λ (named : Interval × Option ChunkPage). option_and_then (item_at type (row - (named.0).start)) named.1)
+      (λ row low. ap (λ b. option_and_then (λ (named : Interval × Option ChunkPage). option_and_then (item_at reading (row - (named.0).start)) named.1)
       (cond b (Some (rows, found bytes chunk entry)) (find (λ (named : Interval × Option ChunkPage). holds named.0 row) (zip others (map (found bytes chunk) entries))))) (holds_after rows row low))
 
-  own_items : (rows : Interval) (others : List Interval) (entry : FilteredPage) (entries : List FilteredPage) (page : ChunkPage) → found bytes chunk entry ≡ Some page
-      → map (items_from (rows ∷ others) (entry ∷ entries)) (rows_in_page rows intervals) ≡ map (λ row. item_at type row page) (rows_of (overlaps rows intervals))
-  own_items rows others entry entries page here =
+  own_items : (rows : Interval) (others : List Interval) (entry : FilteredPage) (entries : List FilteredPage)
+      → map (items_from (rows ∷ others) (entry ∷ entries)) (rows_in_page rows intervals) ≡ map (λ row. option_and_then (item_at reading row) (found bytes chunk entry)) (rows_of (overlaps rows intervals))
+  own_items rows others entry entries =
       map-map (items_from (rows ∷ others) (entry ∷ entries)) (λ row. rows.start + row) (rows_of (overlaps rows intervals))
-      ∙ agree_below (λ row. items_from (rows ∷ others) (entry ∷ entries) (rows.start + row)) (λ row. item_at type row page) 0 (overlaps rows intervals) rows.length (overlaps-shaped rows intervals num_rows shaped)
+      ∙ agree_below (λ row. items_from (rows ∷ others) (entry ∷ entries) (rows.start + row)) (λ row. option_and_then (item_at reading row) (found bytes chunk entry)) 0 (overlaps rows intervals) rows.length (overlaps-shaped rows intervals num_rows shaped)
       (λ row below. let counted : rows.start + row - rows.start ≡ row = omega arith in
-      ap (λ b. option_and_then (λ (named : Interval × Option ChunkPage). option_and_then (item_at type (rows.start + row - (named.0).start)) named.1)
+      ap (λ b. option_and_then (λ (named : Interval × Option ChunkPage). option_and_then (item_at reading (rows.start + row - (named.0).start)) named.1)
       (cond b (Some (rows, found bytes chunk entry)) (find (λ (named : Interval × Option ChunkPage). holds named.0 (rows.start + row)) (zip others (map (found bytes chunk) entries))))) (holds_inside rows (rows.start + row) (omega arith) (omega (arith, below)))
-      ∙ ap (option_and_then (item_at type (rows.start + row - rows.start))) here
-      ∙ ap (λ n. item_at type n page) counted)
+      ∙ ap (λ n. option_and_then (item_at reading n) (found bytes chunk entry)) counted)
 
   -- where a page of entries is not wanted
   not_wanted : (from : ℕ) (location : PageLocation) (rows : Interval) (others : List Interval) (entry : FilteredPage) (entries wanted : List FilteredPage) (bodies : List (List ℕ)) → AreAdjacent from (rows ∷ others) num_rows
-      → IsEntry intervals location rows entry → is_wanted entry ≡ false → Shown others entries wanted bodies → Shown (rows ∷ others) (entry ∷ entries) wanted bodies
-  not_wanted from location rows others entry entries wanted bodies adjacent is unwanted rest parts none =
+      → IsEntry intervals location rows entry → is_wanted entry ≡ false → AreOfParts others entries wanted bodies → AreOfParts (rows ∷ others) (entry ∷ entries) wanted bodies
+  not_wanted from location rows others entry entries wanted bodies adjacent is unwanted rest parts =
       let empty : overlaps rows intervals ≡ [] = sym is.selected ∙ none_some entry.selected_rows unwanted in
       ap (λ runs. map (items_from (rows ∷ others) (entry ∷ entries)) (map (λ row. rows.start + row) (rows_of runs) ++ selected_in others)) empty
-      ∙ others_same from rows others entry entries adjacent ∙ rest parts none
+      ∙ others_same from rows others entry entries adjacent ∙ rest parts
 
   -- where it is
   wanted_here : (from : ℕ) (location : PageLocation) (rows : Interval) (others : List Interval) (entry : FilteredPage) (entries wanted : List FilteredPage) (body : List ℕ) (bodies : List (List ℕ)) → AreAdjacent from (rows ∷ others) num_rows
-      → IsEntry intervals location rows entry → Shown others entries wanted bodies → Shown (rows ∷ others) (entry ∷ entries) (entry ∷ wanted) (body ∷ bodies)
-  unfolding lent_parts
-  wanted_here from location rows others entry entries wanted body bodies adjacent is rest parts none =
+      → IsEntry intervals location rows entry → AreOfParts others entries wanted bodies → AreOfParts (rows ∷ others) (entry ∷ entries) (entry ∷ wanted) (body ∷ bodies)
+  wanted_here from location rows others entry entries wanted body bodies adjacent is rest parts =
       let each = split_cons (entry_part bytes chunk entry) (Some body) (map (entry_part bytes chunk) wanted) (map Some bodies) parts in
-      by (wanted_page entry body) (sym (there bytes chunk entry body each.0)) none (rest each.1) where
-        by : (o : Option ChunkPage) → found bytes chunk entry ≡ o → opened_causes (if_there type entry o (lent_parts type (zip wanted bodies))) ≡ []
-            → (opened_causes (lent_parts type (zip wanted bodies)) ≡ [] → map (items_from others entries) (selected_in others) ≡ map (λ n. Some (Int n)) (numbers_in wanted bodies))
-            → map (items_from (rows ∷ others) (entry ∷ entries)) (selected_in (rows ∷ others)) ≡ map (λ n. Some (Int n)) (all_numbers (if_there type entry o (lent_parts type (zip wanted bodies))).pages)
-        by None here none rest = absurd cc
-        by (Some page) here none rest =
-            let lent = lent_parts type (zip wanted bodies) in
-            let behind = flat_map causes_of_page lent.pages in
-            let all : own_causes type entry page ++ (behind ++ lent.causes) ≡ [] = sym (append_assoc (own_causes type entry page) behind lent.causes) ∙ none in
-            let fine : causes_of_data (content_of type page) ≡ [] = sym (same_own type entry page) ∙ front_none (own_causes type entry page) (behind ++ lent.causes) all in
-            let part = bind_some (entry_part bytes chunk entry) (λ body. page_in body entry.num_rows) page here in
-            let count : header_values page.header ≡ rows.length = values_there part.0 entry.num_rows page part.2 ∙ is.count in
-            let own : map (items_from (rows ∷ others) (entry ∷ entries)) (rows_in_page rows intervals) ≡ map (λ n. Some (Int n)) (picked entry.selected_rows (data_numbers (content_of type page)))
-            = own_items rows others entry entries page here
-            ∙ page_items type page (overlaps rows intervals) fine (ap (λ n. is_well_shaped (overlaps rows intervals) n) count ∙ overlaps-shaped rows intervals num_rows shaped)
-            ∙ ap (λ runs. map (λ n. Some (Int n)) (picked runs (data_numbers (content_of type page)))) (sym is.selected) in
-            map-append (items_from (rows ∷ others) (entry ∷ entries)) (rows_in_page rows intervals) (selected_in others)
-            ∙ (λ i. own i ++ (others_same from rows others entry entries adjacent ∙ rest (rest_none (own_causes type entry page) (behind ++ lent.causes) all)) i)
-            ∙ sym (map-append (λ n. Some (Int n)) (picked entry.selected_rows (data_numbers (content_of type page))) (all_numbers lent.pages))
+      let here = there bytes chunk entry body each.0 in
+      let own : map (items_from (rows ∷ others) (entry ∷ entries)) (rows_in_page rows intervals) ≡ part_items reading (entry, body)
+      = own_items rows others entry entries
+      ∙ ap (λ o. map (λ row. option_and_then (item_at reading row) o) (rows_of (overlaps rows intervals))) (sym here)
+      ∙ ap (λ runs. map (λ row. option_and_then (item_at reading row) (wanted_page entry body)) (rows_of runs)) (sym is.selected) in
+      map-append (items_from (rows ∷ others) (entry ∷ entries)) (rows_in_page rows intervals) (selected_in others)
+      ∙ (λ i. own i ++ (others_same from rows others entry entries adjacent ∙ rest each.1) i)
 
   wanted_or_not : (b : Bool) (from : ℕ) (location : PageLocation) (rows : Interval) (others : List Interval) (entry : FilteredPage) (entries wanted : List FilteredPage) → AreAdjacent from (rows ∷ others) num_rows
-      → IsEntry intervals location rows entry → is_wanted entry ≡ b → ((bodies : List (List ℕ)) → Shown others entries wanted bodies) → (bodies : List (List ℕ)) → Shown (rows ∷ others) (entry ∷ entries) (cond b (entry ∷ wanted) wanted) bodies
+      → IsEntry intervals location rows entry → is_wanted entry ≡ b → ((bodies : List (List ℕ)) → AreOfParts others entries wanted bodies) → (bodies : List (List ℕ)) → AreOfParts (rows ∷ others) (entry ∷ entries) (cond b (entry ∷ wanted) wanted) bodies
   wanted_or_not false from location rows others entry entries wanted adjacent is unwanted rest bodies = not_wanted from location rows others entry entries wanted bodies adjacent is unwanted (rest bodies)
-  wanted_or_not true from location rows others entry entries wanted adjacent is here rest [] = λ parts none. absurd cc
+  wanted_or_not true from location rows others entry entries wanted adjacent is here rest [] = λ parts. absurd cc
   wanted_or_not true from location rows others entry entries wanted adjacent is here rest (body ∷ bodies) = wanted_here from location rows others entry entries wanted body bodies adjacent is (rest bodies)
 
-  nothing_shown : (bodies : List (List ℕ)) → Shown [] [] [] bodies
-  unfolding lent_parts
-  nothing_shown bodies parts none = refl
-
-  pub items_shown : (from : ℕ) (locations : List PageLocation) (rows : List Interval) (entries : List FilteredPage) → AreAdjacent from rows num_rows → AreEntries intervals locations rows entries
-      → (bodies : List (List ℕ)) → Shown rows entries (filter is_wanted entries) bodies
-  items_shown from [] [] [] adjacent are bodies = nothing_shown bodies
-  items_shown from [] [] (entry ∷ entries) adjacent are bodies = absurd are
-  items_shown from [] (rows ∷ others) [] adjacent are bodies = absurd are
-  items_shown from [] (rows ∷ others) (entry ∷ entries) adjacent are bodies = absurd are
-  items_shown from (location ∷ locations) [] [] adjacent are bodies = absurd are
-  items_shown from (location ∷ locations) [] (entry ∷ entries) adjacent are bodies = absurd are
-  items_shown from (location ∷ locations) (rows ∷ others) [] adjacent are bodies = absurd are
-  items_shown from (location ∷ locations) (rows ∷ others) (entry ∷ entries) adjacent are bodies =
-      wanted_or_not (is_wanted entry) from location rows others entry entries (filter is_wanted entries) adjacent are.0 refl (items_shown (end rows) locations others entries adjacent.1 are.1) bodies
+  pub items_of_parts : (from : ℕ) (locations : List PageLocation) (rows : List Interval) (entries : List FilteredPage) → AreAdjacent from rows num_rows → AreEntries intervals locations rows entries
+      → (bodies : List (List ℕ)) → AreOfParts rows entries (filter is_wanted entries) bodies
+  items_of_parts from [] [] [] adjacent are bodies = λ parts. refl
+  items_of_parts from [] [] (entry ∷ entries) adjacent are bodies = absurd are
+  items_of_parts from [] (rows ∷ others) [] adjacent are bodies = absurd are
+  items_of_parts from [] (rows ∷ others) (entry ∷ entries) adjacent are bodies = absurd are
+  items_of_parts from (location ∷ locations) [] [] adjacent are bodies = absurd are
+  items_of_parts from (location ∷ locations) [] (entry ∷ entries) adjacent are bodies = absurd are
+  items_of_parts from (location ∷ locations) (rows ∷ others) [] adjacent are bodies = absurd are
+  items_of_parts from (location ∷ locations) (rows ∷ others) (entry ∷ entries) adjacent are bodies =
+      wanted_or_not (is_wanted entry) from location rows others entry entries (filter is_wanted entries) adjacent are.0 refl (items_of_parts (end rows) locations others entries adjacent.1 are.1) bodies

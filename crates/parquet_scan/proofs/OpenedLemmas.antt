@@ -1,16 +1,16 @@
 -- What is wrong with a chunk that is read by locations, by its parts.
-use Rattle.std.proofs.Common.{◌≡◌, ℕ, ℤ, get_or, ◌+◌, ◌-◌, ◌<◌, ◌≤◌, ◌^◌, Bool, true, false, List, [], ◌∷◌, ◌++◌, length, map, take, drop, Option, Some, None, refl, sym, subst, ◌∙◌, ap, arith, inl, inr}
-use Rattle.std.specs.Prelude.{filter, flat_map, zip, sum_by, nat_le, ◌&&◌, is_some, option_map, unwrap_or, ◌⊎◌, IfSome, if◌then◌else◌}
+use Rattle.std.proofs.Common.{◌≡◌, ℕ, get_or, ◌+◌, ◌-◌, ◌<◌, ◌≤◌, ◌^◌, Bool, true, false, cond, List, [], ◌∷◌, ◌++◌, length, length-append, map, take, drop, Option, Some, None, refl, sym, subst, ◌∙◌, ap, arith, inl, inr}
+use Rattle.std.specs.Prelude.{filter, flat_map, zip, sum_by, nat_le, ◌&&◌, is_some, option_and_then, option_map, unwrap_or, IfSome, if◌then◌else◌}
 use Rattle.std.specs.List.{list_all}
 use Rattle.std.specs.Option.{option_map_or}
 use Rattle.std.proofs.lemmas.Bool.{and_from, and_parts, le-leb, lt-leb, lt-ltb, leb-true, leb-false}
 use Rattle.std.proofs.lemmas.List.{take-take, length-map}
-use Rattle.std.proofs.lemmas.List.Elements.{Contains-append_cases}
 use Rattle.std.proofs.lemmas.List.Concat.{length-flat_map}
 use Rattle.std.proofs.lemmas.Simd.{map-map}
 use Rattle.std.proofs.lemmas.List.Sums.{sum_by-cons}
-use Rattle.columns_core.specs.Causes.{Cause, ExternalFormat, IsOneOf, and_then, is_empty, unless}
-use Rattle.columns_core.specs.declared.cell.Cell.{Int}
+use Rattle.columns_core.specs.Causes.{Cause, ExternalFormat, NotYetImplemented, IsOneOf, and_then, is_empty, unless}
+use Rattle.columns_core.specs.declared.cell.Cell.{Cell}
+use Rattle.columns_core.specs.declared.data_type.DataType.{DataType}
 use Rattle.parquet_base.specs.Reading.{◌>>=◌}
 use Rattle.parquet_base.specs.Intervals.{is_well_shaped, overlaps, row_count, rows_in_page, rows_of}
 use Rattle.parquet_base.specs.declared.interval.Interval.{Interval}
@@ -24,21 +24,26 @@ use Rattle.parquet_meta.specs.declared.metadata.PageLocation.{PageLocation}
 use Rattle.parquet_meta.specs.declared.metadata.Place.{Place}
 use Rattle.parquet_meta.specs.declared.metadata.PrimitiveType.{PrimitiveType}
 use Rattle.parquet_meta.specs.declared.metadata.RowGroupMetaData.{RowGroupMetaData}
-use Rattle.parquet_page.specs.Chunk.{ChunkPage, Dictionary, Undefined}
-use Rattle.parquet_page.specs.Lent.{Lent, are_well_shaped, is_wanted, located_parts, selected_count}
+use Rattle.parquet_page.specs.Chunk.{ChunkPage, Dictionary, NoDictionary, Undefined}
+use Rattle.parquet_page.specs.Lent.{Lent, are_well_shaped, is_wanted, located_parts, selected_count, wanted_page}
 use Rattle.parquet_page.specs.Located.{dictionary_in, located_dictionary, page_in}
 use Rattle.parquet_page.specs.Locations.{has_shape, selected_pages}
 use Rattle.parquet_page.specs.declared.page.FilteredPage.{FilteredPage}
 use Rattle.parquet_encoding.proofs.StepLemmas.{given_some}
 use Rattle.parquet_page.proofs.SelectionLemmas.{pages-length}
-use Rattle.parquet_scan.specs.Causes.{causes_of_chunk, causes_of_dictionary, causes_of_found, causes_of_opened, dictionary_before, located_causes, opened_causes, opened_located}
-use Rattle.parquet_scan.specs.Cells.{chunk_of, item_located, located_item, located_pages, named_page}
-use Rattle.parquet_scan.specs.Column.{chunk_read_causes}
+use Rattle.column_values.specs.Outcome.{Outcome, Given, causes_in}
+use Rattle.column_values.proofs.NextLemmas.{given-whole}
+use Rattle.flat_values.specs.Conversion.{Conversion, Value}
+use Rattle.flat_values.specs.Pairs.{conversion}
+use Rattle.parquet_scan.specs.Causes.{causes_of_chunk, causes_of_dictionary, causes_of_found, causes_of_opened, chunk_read_causes, located_causes, opened_located, pair_causes, row_causes}
+use Rattle.parquet_scan.specs.Cells.{Reading, chunk_of, dictionary_before, item_at, item_located, located_item, located_pages, located_reading, named_page}
+use Rattle.parquet_scan.specs.Decoded.{column_rows, rows_by}
 use Rattle.parquet_scan.specs.Located.{entry_causes, entry_part, entry_place, part_causes, part_in, place_before}
-use Rattle.parquet_scan.specs.Numbers.{all_numbers}
+use Rattle.parquet_scan.specs.NotBuilt.{is_built_pair}
 use Rattle.parquet_scan.specs.Pages.{location_rows, locations, locations_causes, rows_at}
-use Rattle.parquet_scan.proofs.CauseLemmas.{one_left, one_right, then_next}
-use Rattle.parquet_scan.proofs.LocatedLemmas.{AreEntries, are_entries, chunk_length, found, items_shown, named_are, no_dictionary, opened_are, opened_in, opened_ok, pages_of, pages_there, part_inside, part_outside}
+use Rattle.parquet_scan.proofs.CauseLemmas.{one_cases, one_left, one_right, then_next}
+use Rattle.parquet_scan.proofs.CellLemmas.{causes_if_there, no_cause, rows_caused, same_cells, values_uncaused}
+use Rattle.parquet_scan.proofs.LocatedLemmas.{AreEntries, are_entries, causes_of_parts, cells_as, chunk_length, found, is_shaped_part, items_of_parts, located_given, located_wrong, named_are, none_some, opened_are, pages_of, pages_there, part_inside, part_items, part_outside, parts_items}
 use Rattle.parquet_scan.proofs.ScanLemmas.{in_filtered}
 use Rattle.parquet_scan.proofs.LocationLemmas.{HaveRows, have_rows, selection_is}
 
@@ -87,21 +92,22 @@ dictionary_is bytes chunk intervals (location ∷ locations) (rows ∷ others) e
 
 -- ---- what is wrong with what is opened
 
+-- how the pages of entries are read: with the dictionary in the part before them
+abbrev pub reading_of : List ℕ → PrimitiveType → DataType → Place → List FilteredPage → Reading
+reading_of bytes stored data_type chunk entries = record { stored = stored; dictionary = dictionary_of bytes chunk entries; data_type = data_type }
+
 -- the pages of wanted entries and the dictionary before all of them
-abbrev pub opened_by : List ℕ → PrimitiveType → Place → List FilteredPage → List Cause
-opened_by bytes type chunk entries = causes_of_opened type (dictionary_of bytes chunk entries) (map (found bytes chunk) (filter is_wanted entries))
+abbrev pub opened_by : List ℕ → Reading → Place → List FilteredPage → List Cause
+opened_by bytes reading chunk entries = causes_of_opened reading (map (found bytes chunk) (filter is_wanted entries))
 
 -- where no page is opened, no dictionary is
-pub same_opened : (type : PrimitiveType) (one other : Dictionary) (pages : List (Option ChunkPage)) → (0 < length pages → one ≡ other) → causes_of_opened type one pages ≡ causes_of_opened type other pages
-same_opened type one other [] same = refl
-same_opened type one other (page ∷ pages) same = ap (λ dictionary. causes_of_opened type dictionary (page ∷ pages)) (same (omega arith))
+pub same_opened : (one other : Reading) (pages : List (Option ChunkPage)) → (0 < length pages → one ≡ other) → causes_of_opened one pages ≡ causes_of_opened other pages
+same_opened one other [] same = refl
+same_opened one other (page ∷ pages) same = ap (λ reading. causes_of_opened reading (page ∷ pages)) (same (omega arith))
 
-opened_entries : (bytes : List ℕ) (type : PrimitiveType) (chunk : Place) (intervals : List Interval) (locations : List PageLocation) (rows : List Interval) (entries : List FilteredPage) → after chunk ≤ length bytes
-    → AreEntries intervals locations rows entries
-    → causes_of_opened type (dictionary_before chunk.offset (bytes_at bytes chunk) locations) (map (found bytes chunk) (filter is_wanted entries)) ≡ opened_by bytes type chunk entries
-opened_entries bytes type chunk intervals locations rows [] fits are = refl
-opened_entries bytes type chunk intervals locations rows (entry ∷ entries) fits are =
-    ap (λ dictionary. causes_of_opened type dictionary (map (found bytes chunk) (filter is_wanted (entry ∷ entries)))) (dictionary_is bytes chunk intervals locations rows entry entries fits are)
+same_items : (one other : Reading) (wanted : List FilteredPage) (bodies : List (List ℕ)) → (0 < length wanted → one ≡ other) → parts_items one (zip wanted bodies) ≡ parts_items other (zip wanted bodies)
+same_items one other [] bodies same = refl
+same_items one other (entry ∷ wanted) bodies same = ap (λ reading. parts_items reading (zip (entry ∷ wanted) bodies)) (same (omega arith))
 
 -- a chunk, the locations of its pages and what is selected of them
 pub record IsSelected (group : RowGroupMetaData) (intervals : List Interval) (locations : List PageLocation) (entries : List FilteredPage) : Type 0 where
@@ -114,9 +120,15 @@ rows_of_selected group intervals locations entries selected =
     let have = have_rows locations group.num_rows selected.shape in
     are_entries intervals locations (have.first ∷ have.others) entries (pages-length locations group.num_rows (have.first ∷ have.others) have.are) (sym (selection_is intervals locations group.num_rows have) ∙ selected.are)
 
-module _ (group : RowGroupMetaData) (column : ColumnChunkMetaData) (intervals : List Interval) (chunk : Place) (given_locations : List PageLocation) (entries : List FilteredPage) (selected : IsSelected group intervals given_locations entries) where
+module _ (group : RowGroupMetaData) (column : ColumnChunkMetaData) (data_type : DataType) (intervals : List Interval) (chunk : Place) (given_locations : List PageLocation) (entries : List FilteredPage) (selected : IsSelected group intervals given_locations entries) where
   abbrev have : HaveRows given_locations group.num_rows
   have = have_rows given_locations group.num_rows selected.shape
+
+  abbrev are_named : AreEntries intervals given_locations (have.first ∷ have.others) entries
+  are_named = rows_of_selected group intervals given_locations entries selected
+
+  abbrev reading : List ℕ → Reading
+  reading bytes = reading_of bytes column.descriptor.primitive_type data_type chunk entries
 
   -- the located pages are those of the entries
   pages_are : (bytes : List ℕ) → chunk_of bytes group column ≡ Some chunk → locations bytes column ≡ given_locations
@@ -125,34 +137,49 @@ module _ (group : RowGroupMetaData) (column : ColumnChunkMetaData) (intervals : 
       ap (λ o. option_map_or (λ place. map (named_page place (bytes_at bytes place)) (zip (location_rows bytes group column) (locations bytes column))) o []) placed
       ∙ ap (λ found. map (named_page chunk (bytes_at bytes chunk)) (zip (rows_at found group.num_rows) found)) told
       ∙ ap (λ rows. map (named_page chunk (bytes_at bytes chunk)) (zip rows given_locations)) (ap (λ o. unwrap_or o []) have.are)
-      ∙ named_are bytes chunk intervals given_locations (have.first ∷ have.others) entries (chunk_fits bytes group column chunk placed) (rows_of_selected group intervals given_locations entries selected)
+      ∙ named_are bytes chunk intervals given_locations (have.first ∷ have.others) entries (chunk_fits bytes group column chunk placed) are_named
+
+  -- and they are read as the entries are
+  reading_is : (bytes : List ℕ) → chunk_of bytes group column ≡ Some chunk → locations bytes column ≡ given_locations → located_reading bytes group data_type column ≡ reading bytes
+  reading_is bytes placed told =
+      ap (λ dictionary. record { stored = column.descriptor.primitive_type; dictionary = dictionary; data_type = data_type })
+      (ap (λ o. option_map_or (λ place. dictionary_before place.offset (bytes_at bytes place) (locations bytes column)) o NoDictionary) placed
+      ∙ ap (dictionary_before chunk.offset (bytes_at bytes chunk)) told
+      ∙ by entries are_named) where
+        by : (entries : List FilteredPage) → AreEntries intervals given_locations (have.first ∷ have.others) entries → dictionary_before chunk.offset (bytes_at bytes chunk) given_locations ≡ dictionary_of bytes chunk entries
+        by [] are = absurd (no_entries given_locations have.first have.others are) where
+          no_entries : (locations : List PageLocation) (rows : Interval) (others : List Interval) → AreEntries intervals locations (rows ∷ others) [] → ⊥
+          no_entries [] rows others are = are
+          no_entries (location ∷ locations) rows others are = are
+        by (entry ∷ entries) are = dictionary_is bytes chunk intervals given_locations (have.first ∷ have.others) entry entries (chunk_fits bytes group column chunk placed) are
 
   causes_at : (bytes : List ℕ) → chunk_causes column ≡ [] → chunk_of bytes group column ≡ Some chunk → locations bytes column ≡ given_locations
-      → causes_of_chunk true bytes group (rows_of intervals) column ≡ opened_by bytes column.descriptor.primitive_type chunk entries
+      → causes_of_chunk true bytes group (rows_of intervals) data_type column
+      ≡ opened_by bytes (reading bytes) chunk entries ++ row_causes (located_item bytes group data_type column) (rows_of intervals)
   causes_at bytes none placed told =
-      let type = column.descriptor.primitive_type in
+      let items = row_causes (located_item bytes group data_type column) (rows_of intervals) in
       then_next (chunk_causes column) _ none
-      ∙ ap (λ o. option_map_or (λ place. located_causes bytes group (rows_of intervals) column place) o (ExternalFormat ∷ [])) placed
+      ∙ ap (λ o. option_map_or (λ place. located_causes bytes group (rows_of intervals) data_type column) o (ExternalFormat ∷ [])) placed
       ∙ then_next (locations_causes bytes group column) _ (ap (λ found. unless (has_shape found group.num_rows) ExternalFormat) told ∙ ap (λ b. unless b ExternalFormat) selected.shape)
-      ∙ (λ i. causes_of_opened type (dictionary_before chunk.offset (bytes_at bytes chunk) (told i)) (opened_located (rows_of intervals) (pages_are bytes placed told i)))
-      ∙ ap (causes_of_opened type (dictionary_before chunk.offset (bytes_at bytes chunk) given_locations))
-      (opened_are bytes chunk intervals given_locations (have.first ∷ have.others) entries (rows_of_selected group intervals given_locations entries selected))
-      ∙ opened_entries bytes type chunk intervals given_locations (have.first ∷ have.others) entries (chunk_fits bytes group column chunk placed) (rows_of_selected group intervals given_locations entries selected)
+      ∙ (λ i. causes_of_opened (reading_is bytes placed told i) (opened_located (rows_of intervals) (pages_are bytes placed told i)) ++ items)
+      ∙ ap (λ pages. causes_of_opened (reading bytes) pages ++ items) (opened_are bytes chunk intervals given_locations (have.first ∷ have.others) entries are_named)
 
   pub told_causes : (told : Option (List ℕ)) → chunk_causes column ≡ [] → IfSome told (λ bytes. chunk_of bytes group column ≡ Some chunk) → IfSome told (λ bytes. locations bytes column ≡ given_locations)
-      → IfSome told (λ bytes. causes_of_chunk true bytes group (rows_of intervals) column ≡ opened_by bytes column.descriptor.primitive_type chunk entries)
+      → IfSome told (λ bytes. causes_of_chunk true bytes group (rows_of intervals) data_type column
+      ≡ opened_by bytes (reading bytes) chunk entries ++ row_causes (located_item bytes group data_type column) (rows_of intervals))
   told_causes None none placed told = tt
   told_causes (Some bytes) none placed told = causes_at bytes none placed told
 
+  -- the items of the selected rows are those of the parts
+  items_at : (bytes : List ℕ) (bodies : List (List ℕ)) → is_well_shaped intervals group.num_rows ≡ true → chunk_of bytes group column ≡ Some chunk → locations bytes column ≡ given_locations
+      → map (entry_part bytes chunk) (filter is_wanted entries) ≡ map Some bodies
+      → map (located_item bytes group data_type column) (rows_of intervals) ≡ parts_items (reading bytes) (zip (filter is_wanted entries) bodies)
+  items_at bytes bodies shaped placed told parts =
+      (λ i. map (item_located (reading_is bytes placed told i) (pages_are bytes placed told i)) (rows_of intervals))
+      ∙ ap (map (item_located (reading bytes) (zip (have.first ∷ have.others) (map (found bytes chunk) entries)))) (sym (pages-share 0 (have.first ∷ have.others) intervals group.num_rows have.adjacent shaped))
+      ∙ items_of_parts bytes chunk intervals (reading bytes) group.num_rows shaped 0 given_locations (have.first ∷ have.others) entries have.adjacent are_named bodies parts
+
 -- ---- the causes of each part are among them
-
-pub one_cases : (xs ys : List Cause) (o : Option Cause) → IsOneOf (xs ++ ys) o → IsOneOf xs o ⊎ IsOneOf ys o
-one_cases xs ys None one = inl one
-one_cases xs ys (Some cause) one = Contains-append_cases xs ys cause one
-
-none_one : (o : Option Cause) → IsOneOf [] o → ⊥
-none_one None one = one
-none_one (Some cause) one = omega (arith, one.1)
 
 flat_more : {X : Type 0} (f g : X → List Cause) (xs : List X) (o : Option Cause) → ((x : X) → IsOneOf (f x) o → IsOneOf (g x) o) → IsOneOf (flat_map f xs) o → IsOneOf (flat_map g xs) o
 flat_more f g [] o more one = one
@@ -165,57 +192,42 @@ flat_mapped : {X Y : Type 0} (g : Y → List Cause) (f : X → Y) (xs : List X) 
 flat_mapped g f [] = refl
 flat_mapped g f (x ∷ xs) = ap (λ rest. g (f x) ++ rest) (flat_mapped g f xs)
 
-in_opened : (type : PrimitiveType) (dictionary : Dictionary) (pages : List (Option ChunkPage)) (o : Option Cause) → IsOneOf (flat_map (causes_of_found type) pages) o → IsOneOf (causes_of_opened type dictionary pages) o
-in_opened type before [] o one = one
-in_opened type before (page ∷ pages) o one = one_right (causes_of_dictionary before) (flat_map (causes_of_found type) (page ∷ pages)) o one
+in_opened : (reading : Reading) (pages : List (Option ChunkPage)) (o : Option Cause) → IsOneOf (flat_map (causes_of_found reading) pages) o → IsOneOf (causes_of_opened reading pages) o
+in_opened reading [] o one = one
+in_opened reading (page ∷ pages) o one = one_right (causes_of_dictionary reading reading.dictionary) (flat_map (causes_of_found reading) (page ∷ pages)) o one
 
-entry_in : (bytes : List ℕ) (type : PrimitiveType) (chunk : Place) (entry : FilteredPage) (o : Option Cause) → IsOneOf (entry_causes bytes chunk entry) o → IsOneOf (causes_of_found type (found bytes chunk entry)) o
-entry_in bytes type chunk entry o one = by (entry_part bytes chunk entry) one where
-  by : (part : Option (List ℕ)) → IsOneOf (unless (is_some part) ExternalFormat) o → IsOneOf (causes_of_found type (part >>= λ body. page_in body entry.num_rows)) o
+entry_in : (bytes : List ℕ) (reading : Reading) (chunk : Place) (entry : FilteredPage) (o : Option Cause) → IsOneOf (entry_causes bytes chunk entry) o → IsOneOf (causes_of_found reading (found bytes chunk entry)) o
+entry_in bytes reading chunk entry o one = by (entry_part bytes chunk entry) one where
+  by : (part : Option (List ℕ)) → IsOneOf (unless (is_some part) ExternalFormat) o → IsOneOf (causes_of_found reading (part >>= λ body. page_in body entry.num_rows)) o
   by None one = one
-  by (Some body) one = absurd (none_one o one)
+  by (Some body) one = absurd (no_cause o one)
 
-pub bodies_in : (bytes : List ℕ) (type : PrimitiveType) (chunk : Place) (entries : List FilteredPage) (o : Option Cause) → IsOneOf (flat_map (entry_causes bytes chunk) (filter is_wanted entries)) o → IsOneOf (opened_by bytes type chunk entries) o
-bodies_in bytes type chunk entries o one =
-    let pages = flat_more (entry_causes bytes chunk) (λ entry. causes_of_found type (found bytes chunk entry)) (filter is_wanted entries) o (λ entry. entry_in bytes type chunk entry o) one in
-    in_opened type (dictionary_of bytes chunk entries) (map (found bytes chunk) (filter is_wanted entries)) o
-    (subst (λ causes. IsOneOf causes o) (flat_mapped (causes_of_found type) (found bytes chunk) (filter is_wanted entries)) pages)
+pub bodies_in : (bytes : List ℕ) (reading : Reading) (chunk : Place) (entries : List FilteredPage) (o : Option Cause) → IsOneOf (flat_map (entry_causes bytes chunk) (filter is_wanted entries)) o → IsOneOf (opened_by bytes reading chunk entries) o
+bodies_in bytes reading chunk entries o one =
+    let pages = flat_more (entry_causes bytes chunk) (λ entry. causes_of_found reading (found bytes chunk entry)) (filter is_wanted entries) o (λ entry. entry_in bytes reading chunk entry o) one in
+    in_opened reading (map (found bytes chunk) (filter is_wanted entries)) o
+    (subst (λ causes. IsOneOf causes o) (flat_mapped (causes_of_found reading) (found bytes chunk) (filter is_wanted entries)) pages)
 
 abbrev pub before_causes : List ℕ → Place → List FilteredPage → Bool → List Cause
 before_causes bytes chunk entries wanted = if wanted then part_causes bytes chunk (place_before chunk entries) else []
 
-damaged_before : (type : PrimitiveType) (part : Option (List ℕ)) (pages : List (Option ChunkPage)) (o : Option Cause) → 0 < length pages → IsOneOf (unless (is_some part) ExternalFormat) o → IsOneOf (causes_of_opened type (option_map_or dictionary_in part Undefined) pages) o
-damaged_before type part [] o some one = absurd (omega (arith, some))
-damaged_before type None (page ∷ pages) o some one = one_left (ExternalFormat ∷ []) (flat_map (causes_of_found type) (page ∷ pages)) o one
-damaged_before type (Some body) (page ∷ pages) o some one = absurd (none_one o one)
+damaged_before : (stored : PrimitiveType) (data_type : DataType) (part : Option (List ℕ)) (pages : List (Option ChunkPage)) (o : Option Cause) → 0 < length pages → IsOneOf (unless (is_some part) ExternalFormat) o
+    → IsOneOf (causes_of_opened (record { stored = stored; dictionary = option_map_or dictionary_in part Undefined; data_type = data_type }) pages) o
+damaged_before stored data_type part [] o some one = absurd (omega (arith, some))
+damaged_before stored data_type None (page ∷ pages) o some one =
+    one_left (ExternalFormat ∷ []) (flat_map (causes_of_found (record { stored = stored; dictionary = Undefined; data_type = data_type })) (page ∷ pages)) o one
+damaged_before stored data_type (Some body) (page ∷ pages) o some one = absurd (no_cause o one)
 
-pub before_in : (bytes : List ℕ) (type : PrimitiveType) (chunk : Place) (entries : List FilteredPage) (wanted : Bool) (o : Option Cause) → (wanted ≡ true → 0 < length (filter is_wanted entries)) → IsOneOf (before_causes bytes chunk entries wanted) o
-    → IsOneOf (opened_by bytes type chunk entries) o
-before_in bytes type chunk entries false o some one = absurd (none_one o one)
-before_in bytes type chunk entries true o some one =
-    damaged_before type (part_in bytes chunk (place_before chunk entries)) (map (found bytes chunk) (filter is_wanted entries)) o (omega (arith, some refl, length-map (filter is_wanted entries) (found bytes chunk))) one
+pub before_in : (bytes : List ℕ) (stored : PrimitiveType) (data_type : DataType) (chunk : Place) (entries : List FilteredPage) (wanted : Bool) (o : Option Cause) → (wanted ≡ true → 0 < length (filter is_wanted entries))
+    → IsOneOf (before_causes bytes chunk entries wanted) o → IsOneOf (opened_by bytes (reading_of bytes stored data_type chunk entries) chunk entries) o
+before_in bytes stored data_type chunk entries false o some one = absurd (no_cause o one)
+before_in bytes stored data_type chunk entries true o some one =
+    damaged_before stored data_type (part_in bytes chunk (place_before chunk entries)) (map (found bytes chunk) (filter is_wanted entries)) o (omega (arith, some refl, length-map (filter is_wanted entries) (found bytes chunk))) one
 
 -- the parts of a chunk that were read: of the wanted entries, and where there is one, of what stands before all of them
 pub record AreParts (bytes : List ℕ) (chunk : Place) (entries : List FilteredPage) (before : List ℕ) (bodies : List (List ℕ)) : Type 0 where
   pub each : map (entry_part bytes chunk) (filter is_wanted entries) ≡ map Some bodies
   pub first : 0 < length (filter is_wanted entries) → part_in bytes chunk (place_before chunk entries) ≡ Some before
-
-decoded : (bytes : List ℕ) (type : PrimitiveType) (chunk : Place) (entries : List FilteredPage) (before : List ℕ) (bodies : List (List ℕ)) → AreParts bytes chunk entries before bodies
-    → causes_of_opened type (dictionary_in before) (pages_of (zip (filter is_wanted entries) bodies)) ≡ opened_by bytes type chunk entries
-decoded bytes type chunk entries before bodies parts =
-    ap (causes_of_opened type (dictionary_in before)) (pages_there bytes chunk (filter is_wanted entries) bodies parts.each)
-    ∙ same_opened type (dictionary_in before) (dictionary_of bytes chunk entries) (map (found bytes chunk) (filter is_wanted entries))
-    (λ some. sym (ap (λ o. option_map_or dictionary_in o Undefined) (parts.first (omega (arith, some, length-map (filter is_wanted entries) (found bytes chunk))))))
-
-pub decode_ok : (bytes : List ℕ) (type : PrimitiveType) (chunk : Place) (entries : List FilteredPage) (before : List ℕ) (bodies : List (List ℕ)) → AreParts bytes chunk entries before bodies
-    → opened_causes (located_parts type (Some before) entries bodies) ≡ [] → opened_by bytes type chunk entries ≡ []
-decode_ok bytes type chunk entries before bodies parts none =
-    sym (decoded bytes type chunk entries before bodies parts) ∙ opened_ok type (dictionary_in before) (zip (filter is_wanted entries) bodies) none
-
-pub decode_in : (bytes : List ℕ) (type : PrimitiveType) (chunk : Place) (entries : List FilteredPage) (before : List ℕ) (bodies : List (List ℕ)) (o : Option Cause) → AreParts bytes chunk entries before bodies
-    → IsOneOf (opened_causes (located_parts type (Some before) entries bodies)) o → IsOneOf (opened_by bytes type chunk entries) o
-decode_in bytes type chunk entries before bodies o parts one =
-    subst (λ causes. IsOneOf causes o) (decoded bytes type chunk entries before bodies parts) (opened_in type (dictionary_in before) (zip (filter is_wanted entries) bodies) o one)
 
 -- ---- how many rows are selected
 
@@ -261,18 +273,149 @@ module _ (group : RowGroupMetaData) (intervals : List Interval) (given_locations
       and_from _ _ (all_shaped intervals group.num_rows given_locations (have.first ∷ have.others) entries shaped (rows_of_selected group intervals given_locations entries selected))
       (lt-ltb (selected_count entries) (2 ^ 64) (omega (arith, fits, selected_total, rows_of-length intervals, shape-count 0 intervals group.num_rows shaped)))
 
-  -- the items of the selected rows are the numbers of the parts
-  items_at : (bytes : List ℕ) (column : ColumnChunkMetaData) (chunk : Place) (before : List ℕ) (bodies : List (List ℕ)) → chunk_of bytes group column ≡ Some chunk → locations bytes column ≡ given_locations → AreParts bytes chunk entries before bodies
-      → opened_causes (located_parts column.descriptor.primitive_type (Some before) entries bodies) ≡ []
-      → map (located_item bytes group column) (rows_of intervals) ≡ map (λ n. Some (Int n)) (all_numbers (located_parts column.descriptor.primitive_type (Some before) entries bodies).pages)
-  items_at bytes column chunk before bodies placed told parts none =
-      let have = have_rows given_locations group.num_rows selected.shape in
-      let type = column.descriptor.primitive_type in
-      let alone = no_dictionary type (dictionary_in before) (zip (filter is_wanted entries) bodies) none in
-      ap (λ pages. map (item_located type pages) (rows_of intervals)) (pages_are group column intervals chunk given_locations entries selected bytes placed told)
-      ∙ ap (map (item_located type (zip (have.first ∷ have.others) (map (found bytes chunk) entries)))) (sym (pages-share 0 (have.first ∷ have.others) intervals group.num_rows have.adjacent shaped))
-      ∙ items_shown bytes chunk intervals type group.num_rows shaped 0 given_locations (have.first ∷ have.others) entries have.adjacent (rows_of_selected group intervals given_locations entries selected) bodies parts.each (sym (ap opened_causes alone) ∙ none)
-      ∙ sym (ap (λ (lent : Lent). map (λ n. Some (Int n)) (all_numbers lent.pages)) alone)
+abbrev is_shaped_entry : FilteredPage → Bool
+is_shaped_entry entry = is_well_shaped entry.selected_rows entry.num_rows
+
+shaped_parts : (entries : List FilteredPage) (bodies : List (List ℕ)) → list_all is_shaped_entry entries ≡ true → list_all is_shaped_part (zip (filter is_wanted entries) bodies) ≡ true
+shaped_parts [] bodies shaped = refl
+shaped_parts (entry ∷ entries) bodies shaped =
+    let each = and_parts (is_shaped_entry entry) (list_all is_shaped_entry entries) shaped in
+    by (is_wanted entry) bodies each.0 (λ bodies. shaped_parts entries bodies each.1) where
+      by : (b : Bool) (bodies : List (List ℕ)) → is_shaped_entry entry ≡ true → ((bodies : List (List ℕ)) → list_all is_shaped_part (zip (filter is_wanted entries) bodies) ≡ true)
+          → list_all is_shaped_part (zip (cond b (entry ∷ filter is_wanted entries) (filter is_wanted entries)) bodies) ≡ true
+      by false bodies own others = others bodies
+      by true [] own others = refl
+      by true (body ∷ bodies) own others = and_from _ _ own (others bodies)
+
+-- there is an item for each row that is selected
+parts_count : (own_reading : Reading) (entries : List FilteredPage) (bodies : List (List ℕ)) → length bodies ≡ length (filter is_wanted entries) → length (parts_items own_reading (zip (filter is_wanted entries) bodies)) ≡ selected_count entries
+parts_count own_reading [] bodies counted = refl
+parts_count own_reading (entry ∷ entries) bodies counted = by (is_wanted entry) refl bodies counted (parts_count own_reading entries) where
+  all : selected_count (entry ∷ entries) ≡ row_count entry.selected_rows + selected_count entries
+  all = sum_by-cons (λ (entry : FilteredPage). row_count entry.selected_rows) entry entries
+
+  by : (b : Bool) → is_wanted entry ≡ b → (bodies : List (List ℕ)) → length bodies ≡ length (cond b (entry ∷ filter is_wanted entries) (filter is_wanted entries))
+      → ((bodies : List (List ℕ)) → length bodies ≡ length (filter is_wanted entries) → length (parts_items own_reading (zip (filter is_wanted entries) bodies)) ≡ selected_count entries)
+      → length (parts_items own_reading (zip (cond b (entry ∷ filter is_wanted entries) (filter is_wanted entries)) bodies)) ≡ selected_count (entry ∷ entries)
+  by false unwanted bodies counted others =
+      let none : row_count entry.selected_rows ≡ 0 = ap row_count (none_some entry.selected_rows unwanted) in
+      omega (arith, all, none, others bodies counted)
+  by true here [] counted others = absurd (omega (arith, counted))
+  by true here (body ∷ bodies) counted others =
+      let rest = zip (filter is_wanted entries) bodies in
+      let own : length (part_items own_reading (entry, body)) ≡ row_count entry.selected_rows
+      = length-map (rows_of entry.selected_rows) (λ row. option_and_then (item_at own_reading row) (wanted_page entry body)) ∙ rows_of-length entry.selected_rows in
+      omega (arith, all, own, length-append (part_items own_reading (entry, body)) (parts_items own_reading rest), others bodies (omega (arith, counted)))
+
+-- ---- what was read of a chunk
+
+-- What was read: the locations of its pages, and of those that hold a selected row the parts, with the one before all of them.
+pub record IsRead (told : Option (List ℕ)) (group : RowGroupMetaData) (column : ColumnChunkMetaData) (data_type : DataType) (intervals : List Interval) (chunk : Place)
+    (list : List PageLocation) (entries : List FilteredPage) (before : List ℕ) (bodies : List (List ℕ)) : Type 0 where
+  pub pair : pair_causes column.descriptor.primitive_type data_type ≡ []
+  pub shaped : is_well_shaped intervals group.num_rows ≡ true
+  pub none : chunk_causes column ≡ []
+  pub selected : IsSelected group intervals list entries
+  pub counted : length bodies ≡ length (filter is_wanted entries)
+  pub placed : IfSome told (λ bytes. chunk_of bytes group column ≡ Some chunk)
+  pub at : IfSome told (λ bytes. locations bytes column ≡ list)
+  pub parts : IfSome told (λ bytes. AreParts bytes chunk entries before bodies)
+
+-- a pair that is carried has a rule
+pair_rule : (stored : PrimitiveType) (data_type : DataType) → pair_causes stored data_type ≡ [] → (rule : Conversion) × (conversion stored data_type ≡ Some rule)
+pair_rule stored data_type none = by (is_built_pair stored data_type) (conversion stored data_type) none where
+  by : (b : Bool) (o : Option Conversion) → unless (b && is_some o) NotYetImplemented ≡ [] → (rule : Conversion) × (o ≡ Some rule)
+  by true (Some rule) none = (rule, refl)
+  by true None none = absurd cc
+  by false o none = absurd cc
+
+module _ (group : RowGroupMetaData) (column : ColumnChunkMetaData) (data_type : DataType) (intervals : List Interval) (chunk : Place) (list : List PageLocation) (entries : List FilteredPage) (before : List ℕ) (bodies : List (List ℕ)) where
+  abbrev stored : PrimitiveType
+  stored = column.descriptor.primitive_type
+
+  abbrev lent : Lent
+  lent = located_parts stored (Some before) entries bodies
+
+  abbrev outcomes : List Outcome
+  outcomes = column_rows stored data_type lent.pages lent.causes
+
+  abbrev reading_before : Reading
+  reading_before = record { stored = stored; dictionary = dictionary_in before; data_type = data_type }
+
+  abbrev parts : List (FilteredPage × List ℕ)
+  parts = zip (filter is_wanted entries) bodies
+
+  abbrev WasRead : Option (List ℕ) → Type 0
+  WasRead told = IsRead told group column data_type intervals chunk list entries before bodies
+
+  abbrev whole : List ℕ → List Cause
+  whole bytes = causes_of_chunk true bytes group (rows_of intervals) data_type column
+
+  parts_shaped : (told : Option (List ℕ)) → WasRead told → list_all is_shaped_part parts ≡ true
+  parts_shaped told read =
+      let have = have_rows list group.num_rows read.selected.shape in
+      shaped_parts entries bodies (all_shaped intervals group.num_rows list (have.first ∷ have.others) entries read.shaped (rows_of_selected group intervals list entries read.selected))
+
+  by_rule : (rule : Conversion) → conversion stored data_type ≡ Some rule → outcomes ≡ rows_by stored.physical_type lent.pages lent.causes rule
+  by_rule rule pair = ap (λ o. option_map_or (rows_by stored.physical_type lent.pages lent.causes) o []) pair
+
+  -- Nothing is wrong with what was opened of it, and the items of the parts are these cells.
+  record AreAllGiven (cells : List Cell) : Type 0 where
+    none : causes_of_opened reading_before (pages_of parts) ≡ []
+    items : parts_items reading_before parts ≡ cells_as cells
+
+  all_given : (told : Option (List ℕ)) → WasRead told → (cells : List Cell) → map Given cells ≡ outcomes → AreAllGiven cells
+  all_given told read cells e =
+      let rule = pair_rule stored data_type read.pair in
+      let same = e ∙ by_rule rule.0 rule.1 in
+      let all = located_given reading_before rule.0 rule.1 parts (parts_shaped told read) (given-whole [] cells (rows_by stored.physical_type lent.pages lent.causes rule.0) same) in
+      record { none = all.none; items = all.items ∙ ap cells_as (same_cells cells all.cells (same ∙ all.outcomes)) }
+
+  -- there is a cell for each row that is selected
+  pub read_count : (told : Option (List ℕ)) → WasRead told → (cells : List Cell) → map Given cells ≡ outcomes → length cells ≡ length (rows_of intervals)
+  read_count told read cells e =
+      sym (length-map cells (λ cell. Some (Value cell))) ∙ ap length (sym (all_given told read cells e).items)
+      ∙ parts_count reading_before entries bodies read.counted ∙ selected_total group intervals list entries read.selected read.shaped
+
+  same_reading : (bytes : List ℕ) → AreParts bytes chunk entries before bodies → 0 < length (filter is_wanted entries) → reading_of bytes stored data_type chunk entries ≡ reading_before
+  same_reading bytes are some = ap (λ o. record { stored = stored; dictionary = option_map_or dictionary_in o Undefined; data_type = data_type }) (are.first some)
+
+  opened_is : (bytes : List ℕ) → AreParts bytes chunk entries before bodies → opened_by bytes (reading_of bytes stored data_type chunk entries) chunk entries ≡ causes_of_opened reading_before (pages_of parts)
+  opened_is bytes are =
+      same_opened (reading_of bytes stored data_type chunk entries) reading_before (map (found bytes chunk) (filter is_wanted entries))
+      (λ some. same_reading bytes are (omega (arith, some, length-map (filter is_wanted entries) (found bytes chunk))))
+      ∙ ap (causes_of_opened reading_before) (sym (pages_there bytes chunk (filter is_wanted entries) bodies are.each))
+
+  items_are : (bytes : List ℕ) → WasRead (Some bytes) → map (located_item bytes group data_type column) (rows_of intervals) ≡ parts_items reading_before parts
+  items_are bytes read =
+      items_at group column data_type intervals chunk list entries read.selected bytes bodies read.shaped read.placed read.at read.parts.each
+      ∙ same_items (reading_of bytes stored data_type chunk entries) reading_before (filter is_wanted entries) bodies (same_reading bytes read.parts)
+
+  whole_is : (bytes : List ℕ) → WasRead (Some bytes) → whole bytes ≡ causes_of_opened reading_before (pages_of parts) ++ causes_of_parts reading_before parts
+  whole_is bytes read =
+      let items : row_causes (located_item bytes group data_type column) (rows_of intervals) ≡ causes_of_parts reading_before parts
+      = rows_caused (located_item bytes group data_type column) (rows_of intervals) ∙ ap (flat_map causes_if_there) (items_are bytes read) in
+      causes_at group column data_type intervals chunk list entries read.selected bytes read.none read.placed read.at
+      ∙ (λ i. opened_is bytes read.parts i ++ items i)
+
+  -- Where all rows are given, nothing is wrong with what was read.
+  pub read_fine : (told : Option (List ℕ)) → WasRead told → (cells : List Cell) → map Given cells ≡ outcomes → IfSome told (λ bytes. whole bytes ≡ [])
+  read_fine None read cells e = tt
+  read_fine (Some bytes) read cells e =
+      let given = all_given (Some bytes) read cells e in
+      whole_is bytes read ∙ (λ i. given.none i ++ flat_map causes_if_there (given.items i)) ∙ values_uncaused cells
+
+  pub read_items : (told : Option (List ℕ)) → WasRead told → (cells : List Cell) → map Given cells ≡ outcomes → IfSome told (λ bytes. map (located_item bytes group data_type column) (rows_of intervals) ≡ cells_as cells)
+  read_items None read cells e = tt
+  read_items (Some bytes) read cells e = items_are bytes read ∙ (all_given (Some bytes) read cells e).items
+
+  -- What is wrong with the rows is wrong with what was read.
+  pub read_wrong : (told : Option (List ℕ)) → WasRead told → IfSome told (λ bytes. (o : Option Cause) → IsOneOf (causes_in outcomes) o → IsOneOf (whole bytes) o)
+  read_wrong None read = tt
+  read_wrong (Some bytes) read = λ o one.
+      let rule = pair_rule stored data_type read.pair in
+      let wrong = subst (λ rows. IsOneOf (causes_in rows) o) (by_rule rule.0 rule.1) one in
+      subst (λ causes. IsOneOf causes o) (sym (whole_is bytes read)) (located_wrong reading_before rule.0 rule.1 parts (parts_shaped (Some bytes) read) o wrong)
 
 -- ---- where the source tells its bytes
 
@@ -281,30 +424,31 @@ then_more [] xs ys o more one = more one
 then_more (cause ∷ causes) xs ys o more one = one
 
 -- what is wrong with a chunk before its pages are looked at is wrong with it
-pub read_in : (told : Option (List ℕ)) (group : RowGroupMetaData) (column : ColumnChunkMetaData) (rows : List ℕ)
-    → IfSome told (λ bytes. (o : Option Cause) → IsOneOf (chunk_read_causes bytes group column) o → IsOneOf (causes_of_chunk true bytes group rows column) o)
-read_in None group column rows = tt
-read_in (Some bytes) group column rows = λ o one. then_more (chunk_causes column) _ _ o (by (chunk_of bytes group column) o) one where
-  by : (place : Option Place) (o : Option Cause) → IsOneOf (unless (is_some place) ExternalFormat) o → IsOneOf (option_map_or (λ place. located_causes bytes group rows column place) place (ExternalFormat ∷ [])) o
+pub read_in : (told : Option (List ℕ)) (group : RowGroupMetaData) (column : ColumnChunkMetaData) (data_type : DataType) (rows : List ℕ)
+    → IfSome told (λ bytes. (o : Option Cause) → IsOneOf (chunk_read_causes bytes group column) o → IsOneOf (causes_of_chunk true bytes group rows data_type column) o)
+read_in None group column data_type rows = tt
+read_in (Some bytes) group column data_type rows = λ o one. then_more (chunk_causes column) _ _ o (by (chunk_of bytes group column) o) one where
+  by : (place : Option Place) (o : Option Cause) → IsOneOf (unless (is_some place) ExternalFormat) o → IsOneOf (option_map_or (λ place. located_causes bytes group rows data_type column) place (ExternalFormat ∷ [])) o
   by None o one = one
-  by (Some place) o one = absurd (none_one o one)
+  by (Some place) o one = absurd (no_cause o one)
 
 first_in : (first next : List Cause) (o : Option Cause) → IsOneOf first o → IsOneOf (and_then first next) o
-first_in [] next o one = absurd (none_one o one)
+first_in [] next o one = absurd (no_cause o one)
 first_in (cause ∷ causes) next o one = one
 
-pub locations_in : (told : Option (List ℕ)) (group : RowGroupMetaData) (column : ColumnChunkMetaData) (rows : List ℕ) (chunk : Place) → chunk_causes column ≡ [] → IfSome told (λ bytes. chunk_of bytes group column ≡ Some chunk)
-    → IfSome told (λ bytes. (o : Option Cause) → IsOneOf (locations_causes bytes group column) o → IsOneOf (causes_of_chunk true bytes group rows column) o)
-locations_in None group column rows chunk none placed = tt
-locations_in (Some bytes) group column rows chunk none placed = λ o one.
-    let same : causes_of_chunk true bytes group rows column ≡ located_causes bytes group rows column chunk
-    = then_next (chunk_causes column) _ none ∙ ap (λ o. option_map_or (λ place. located_causes bytes group rows column place) o (ExternalFormat ∷ [])) placed in
+pub locations_in : (told : Option (List ℕ)) (group : RowGroupMetaData) (column : ColumnChunkMetaData) (data_type : DataType) (rows : List ℕ) (chunk : Place) → chunk_causes column ≡ [] → IfSome told (λ bytes. chunk_of bytes group column ≡ Some chunk)
+    → IfSome told (λ bytes. (o : Option Cause) → IsOneOf (locations_causes bytes group column) o → IsOneOf (causes_of_chunk true bytes group rows data_type column) o)
+locations_in None group column data_type rows chunk none placed = tt
+locations_in (Some bytes) group column data_type rows chunk none placed = λ o one.
+    let same : causes_of_chunk true bytes group rows data_type column ≡ located_causes bytes group rows data_type column
+    = then_next (chunk_causes column) _ none ∙ ap (λ o. option_map_or (λ place. located_causes bytes group rows data_type column) o (ExternalFormat ∷ [])) placed in
     subst (λ causes. IsOneOf causes o) (sym same) (first_in (locations_causes bytes group column) _ o one)
 
-pub within_opened : (told : Option (List ℕ)) (whole opened part : List ℕ → List Cause) → IfSome told (λ bytes. whole bytes ≡ opened bytes) → ((bytes : List ℕ) (o : Option Cause) → IsOneOf (part bytes) o → IsOneOf (opened bytes) o)
-    → IfSome told (λ bytes. (o : Option Cause) → IsOneOf (part bytes) o → IsOneOf (whole bytes) o)
-within_opened None whole opened part same more = tt
-within_opened (Some bytes) whole opened part same more = λ o one. subst (λ causes. IsOneOf causes o) (sym same) (more bytes o one)
+-- what is wrong with a part of what is opened
+pub within_opened : (told : Option (List ℕ)) (whole opened items part : List ℕ → List Cause) → IfSome told (λ bytes. whole bytes ≡ opened bytes ++ items bytes)
+    → ((bytes : List ℕ) (o : Option Cause) → IsOneOf (part bytes) o → IsOneOf (opened bytes) o) → IfSome told (λ bytes. (o : Option Cause) → IsOneOf (part bytes) o → IsOneOf (whole bytes) o)
+within_opened None whole opened items part same more = tt
+within_opened (Some bytes) whole opened items part same more = λ o one. subst (λ causes. IsOneOf causes o) (sym same) (one_left (opened bytes) (items bytes) o (more bytes o one))
 
 pub told_parts : {X : Type 0} (told : Option (List ℕ)) (chunk : Place) (entries : List FilteredPage) (before : List ℕ) (items : X → List ℕ) (bodies : List X)
     → IfSome told (λ bytes. map (entry_part bytes chunk) (filter is_wanted entries) ≡ map (λ body. Some (items body)) bodies)
@@ -312,27 +456,6 @@ pub told_parts : {X : Type 0} (told : Option (List ℕ)) (chunk : Place) (entrie
     → IfSome told (λ bytes. AreParts bytes chunk entries before (map items bodies))
 told_parts None chunk entries before items bodies each first = tt
 told_parts (Some bytes) chunk entries before items bodies each first = record { each = each ∙ sym (map-map Some items bodies); first = first }
-
-pub decode_within : (told : Option (List ℕ)) (type : PrimitiveType) (chunk : Place) (entries : List FilteredPage) (before : List ℕ) (bodies : List (List ℕ)) (whole : List ℕ → List Cause)
-    → IfSome told (λ bytes. whole bytes ≡ opened_by bytes type chunk entries) → IfSome told (λ bytes. AreParts bytes chunk entries before bodies)
-    → IfSome told (λ bytes. (o : Option Cause) → IsOneOf (opened_causes (located_parts type (Some before) entries bodies)) o → IsOneOf (whole bytes) o)
-decode_within None type chunk entries before bodies whole same parts = tt
-decode_within (Some bytes) type chunk entries before bodies whole same parts = λ o one. subst (λ causes. IsOneOf causes o) (sym same) (decode_in bytes type chunk entries before bodies o parts one)
-
-pub decode_none : (told : Option (List ℕ)) (type : PrimitiveType) (chunk : Place) (entries : List FilteredPage) (before : List ℕ) (bodies : List (List ℕ)) (whole : List ℕ → List Cause)
-    → IfSome told (λ bytes. whole bytes ≡ opened_by bytes type chunk entries) → IfSome told (λ bytes. AreParts bytes chunk entries before bodies)
-    → opened_causes (located_parts type (Some before) entries bodies) ≡ [] → IfSome told (λ bytes. whole bytes ≡ [])
-decode_none None type chunk entries before bodies whole same parts none = tt
-decode_none (Some bytes) type chunk entries before bodies whole same parts none = same ∙ decode_ok bytes type chunk entries before bodies parts none
-
-pub told_located : (told : Option (List ℕ)) (group : RowGroupMetaData) (intervals : List Interval) (given_locations : List PageLocation) (entries : List FilteredPage) (selected : IsSelected group intervals given_locations entries)
-    (column : ColumnChunkMetaData) (chunk : Place) (before : List ℕ) (bodies : List (List ℕ)) (numbers : List ℤ) → is_well_shaped intervals group.num_rows ≡ true
-    → IfSome told (λ bytes. chunk_of bytes group column ≡ Some chunk) → IfSome told (λ bytes. locations bytes column ≡ given_locations) → IfSome told (λ bytes. AreParts bytes chunk entries before bodies)
-    → opened_causes (located_parts column.descriptor.primitive_type (Some before) entries bodies) ≡ [] → numbers ≡ all_numbers (located_parts column.descriptor.primitive_type (Some before) entries bodies).pages
-    → IfSome told (λ bytes. map (located_item bytes group column) (rows_of intervals) ≡ map (λ n. Some (Int n)) numbers)
-told_located None group intervals given_locations entries selected column chunk before bodies numbers shaped placed at parts none are = tt
-told_located (Some bytes) group intervals given_locations entries selected column chunk before bodies numbers shaped placed at parts none are =
-    items_at group intervals given_locations entries selected shaped bytes column chunk before bodies placed at parts none ∙ ap (map (λ n. Some (Int n))) (sym are)
 
 -- what is wrong with the part of a wanted page is wrong with those of all
 pub entry_within : (told : Option (List ℕ)) (chunk : Place) (pages : List FilteredPage) (i : ℕ) (page : FilteredPage) (part : Place) → i < length pages → page ≡ get_or pages i page → is_wanted page ≡ true → part ≡ entry_place page

@@ -1,218 +1,396 @@
--- Pages of plain numbers.
-use Rattle.std.proofs.Common.{◌≡◌, ℕ, zero, suc, ◌+◌, ◌*◌, ◌/◌, ◌≤◌, ℤ, pos, negsuc, Bool, true, false, List, [], ◌∷◌, length, map, take, drop, replicate, refl, sym, ◌∙◌, ap, arith}
-use Rattle.std.specs.Prelude.{Option, Some, None, is_some, option_map, ◌==◌, ◌&&◌, if◌then◌else◌, fold, Result, Ok, Err, IfErr, IfOk, OnOk}
-use Rattle.std.specs.Simd.{first_chunks}
-use Rattle.std.specs.Int.{w32, from_le_bytes, cast_signed}
-use Rattle.std.specs.Cmp.{first_so, second_so}
-use Rattle.std.proofs.lemmas.Bool.{true≢false, eqb-true}
-use Rattle.std.proofs.lemmas.List.{length-map, length-take-le, length-drop}
-use Rattle.columns_core.specs.Causes.{NotYetImplemented, ExternalFormat, and_then, unless}
+-- What the pages of a column give, and what their items are.
+use Rattle.std.proofs.Common.{◌≡◌, ℕ, suc, ◌+◌, Bool, true, false, List, [], ◌∷◌, ◌++◌, length, map, refl, sym, ◌∙◌, ap, subst, inl, inr, append-nil}
+use Rattle.std.specs.Prelude.{◌&&◌, Option, Some, None, ◌⊎◌, is_some, option_map, unwrap_or, flat_map, IsSome, if◌then◌else◌, Result, Ok, Err, IfErr, IfOk, OnOk}
+use Rattle.std.specs.Option.{option_map_or}
+use Rattle.std.specs.Result.{result_ok}
+use Rattle.std.proofs.lemmas.List.{length-map}
+use Rattle.columns_core.specs.Causes.{Cause, ExternalFormat, NotYetImplemented, OutOfSpec, Overflow, IsOneOf, and_then, is_empty, unless}
+use Rattle.columns_core.specs.declared.cell.Cell.{Cell}
+use Rattle.columns_core.specs.declared.data_type.DataType.{DataType}
+use Rattle.parquet_base.specs.Intervals.{covers}
 use Rattle.parquet_base.specs.Reading.{◌>>=◌, given}
-use Rattle.parquet_encoding.specs.Plain.{plain_fixed}
-use Rattle.parquet_base.proofs.BytesLemmas.{four_bytes}
-use Rattle.parquet_encoding.proofs.FixedLemmas.{is_exact}
 use Rattle.parquet_base.specs.declared.interval.Interval.{Interval}
-use Rattle.parquet_meta.specs.declared.metadata.PrimitiveLogicalType.{PrimitiveLogicalType as LogicalType}
+use Rattle.parquet_encoding.proofs.StepLemmas.{bind_some, is_something, nothing_is, some_is, something}
 use Rattle.parquet_meta.specs.declared.metadata.PhysicalType.{PhysicalType}
-use Rattle.parquet_meta.specs.declared.metadata.PhysicalType.TheVariants.{Boolean, Int32, Int64, Int96, Float, Double, ByteArray, FixedLenByteArray}
-use Rattle.parquet_meta.specs.declared.metadata.Repetition.{Repetition}
-use Rattle.parquet_meta.specs.declared.metadata.Repetition.TheVariants.{Required, Optional, Repeated}
-use Rattle.parquet_meta.specs.declared.page_header.DataPageHeader.{DataPageHeader}
-use Rattle.parquet_meta.specs.declared.page_header.DataPageHeader.TheVariants.{V1, V2}
-use Rattle.parquet_page.specs.Content.{DataContent, header_values}
-use Rattle.parquet_page.specs.Levels.{prefixed_parts, presence, placed, present_count}
-use Rattle.parquet_page.specs.Opened.{page_causes}
-use Rattle.parquet_page.specs.Spelling.{spelled, places_and_values}
-use Rattle.parquet_page.specs.Stored.{Stored, Number}
-use Rattle.parquet_page.specs.Values.{plain_values, unless_none, int32_of}
-use Rattle.parquet_scan.specs.Causes.{causes_of_data}
-use Rattle.parquet_scan.specs.Column.{number_causes}
-use Rattle.parquet_scan.specs.NotBuilt.{is_built_header, is_built_page, is_int32, is_required}
-use Rattle.parquet_scan.specs.Numbers.{number_of, numbers_of, data_numbers}
+use Rattle.parquet_meta.specs.declared.metadata.PrimitiveType.{PrimitiveType}
+use Rattle.parquet_page.specs.Chunk.{ChunkPage, Dictionary, NoDictionary, Undefined, Defined, DictionaryPage}
+use Rattle.parquet_page.specs.Content.{DataContent, DictContent, header_values}
+use Rattle.parquet_page.specs.Lent.{Lent, behind_dictionary, dictionary_of, in_front}
+use Rattle.parquet_page.specs.Levels.{placed, present_count}
+use Rattle.parquet_page.specs.Opened.{carried_encoding, key_causes, page_causes, spelling_causes}
+use Rattle.parquet_page.specs.Selected.{covered_from, selected_of}
+use Rattle.parquet_page.specs.Spelling.{dictionary_entries, has_plain_entries, header_encoding, is_keys, page_encoding, page_keys, places_and_values, spelled}
+use Rattle.parquet_page.specs.Stored.{Stored}
+use Rattle.parquet_page.specs.Values.{Encoding, Plain, Keys, DeltaPacked, DeltaLengths, dictionary_keys, encoding_of, unless_none, values_in}
+use Rattle.column_values.specs.Column.{followed_by, rows}
+use Rattle.column_values.specs.Outcome.{Outcome, Given, Refused, all_given, causes_in, cells_in, page_outcomes, refusal_of, refused}
+use Rattle.column_values.proofs.FilteredLemmas.{places-length}
+use Rattle.column_values.proofs.RowLemmas.{causes_in-append}
+use Rattle.flat_values.specs.Agreement.{AreEntriesOf}
+use Rattle.flat_values.specs.Conversion.{Conversion, Item, Value, NotInRange, NotText, convert, convert_place}
+use Rattle.flat_values.specs.Items.{page_items}
+use Rattle.flat_values.specs.Outcomes.{dictionary_cells, outcome_of, place_outcomes, selected_outcomes, stored_outcome}
+use Rattle.flat_values.specs.Pairs.{conversion}
+use Rattle.flat_values.proofs.AgreementLemmas.{places_give_items}
+use Rattle.parquet_scan.specs.Causes.{causes_of_data, causes_of_defined, causes_of_dictionary, causes_of_entries, entry_count, has_dictionary, item_causes, pair_causes}
+use Rattle.parquet_scan.specs.Cells.{Reading, content_of, dictionary_content, items_in}
+use Rattle.parquet_scan.specs.Decoded.{rows_by}
+use Rattle.parquet_scan.specs.NotBuilt.{is_built_pair}
+use Rattle.parquet_scan.proofs.CauseLemmas.{one_cases}
 
--- ---- numbers in bytes
+-- ---- the selected rows of a page
 
-abbrev pub machine_number : List ℕ → ℤ
-machine_number bytes = cast_signed w32 (from_le_bytes w32 bytes)
+-- a page with some of its rows selected
+abbrev pub content_with : PrimitiveType → Option (List Interval) → ChunkPage → DataContent
+content_with type selected page = record { header = page.header; body = page.body; type = type; selected = selected }
 
-pub same_numbers : (count : ℕ) (bytes : List ℕ) → count * 4 ≤ length bytes → map machine_number (first_chunks 4 count bytes) ≡ map number_of (first_chunks 4 count bytes)
-same_numbers zero bytes h = refl
-same_numbers (suc count) bytes h =
-    let four : length (take 4 bytes) ≡ 4 = length-take-le 4 bytes (omega arith) in
-    let rest : map machine_number (first_chunks 4 count (drop 4 bytes)) ≡ map number_of (first_chunks 4 count (drop 4 bytes)) = same_numbers count (drop 4 bytes) (omega (arith, length-drop 4 bytes)) in
-    λ i. cast_signed w32 (four_bytes (take 4 bytes) four i) ∷ rest i
+same_places : (type : PrimitiveType) (selected : Option (List Interval)) (page : ChunkPage) → places_and_values (content_with type selected page) ≡ places_and_values (content_of type page)
+unfolding places_and_values
+same_places type selected page = refl
 
-pub chunk_count : (count : ℕ) (bytes : List ℕ) → length (first_chunks 4 count bytes) ≡ count
-chunk_count zero bytes = refl
-chunk_count (suc count) bytes = ap suc (chunk_count count (drop 4 bytes))
+same_keys : (type : PrimitiveType) (selected : Option (List Interval)) (page : ChunkPage) → page_keys (content_with type selected page) ≡ page_keys (content_of type page)
+unfolding page_keys
+same_keys type selected page = by (is_keys (encoding_of (header_encoding page.header))) where
+  read : DataContent → Option (List ℕ)
+  read keys_page = places_and_values keys_page >>= λ parts. unless_none (present_count parts.0) (dictionary_keys parts.1 (present_count parts.0))
 
-is_length : (a b : Bool) (xs : List (List ℕ)) → is_some (given b xs) ≡ true → b ≡ true
-is_length a true xs e = refl
-is_length a false xs e = absurd (true≢false (sym e))
+  by : (b : Bool) → (given b (content_with type selected page) >>= read) ≡ (given b (content_of type page) >>= read)
+  by true = ap (λ o. o >>= λ parts. unless_none (present_count parts.0) (dictionary_keys parts.1 (present_count parts.0))) (same_places type selected page)
+  by false = refl
 
-pub plain_length : (count : ℕ) (bytes : List ℕ) → is_some (plain_fixed 4 bytes count) ≡ true → length bytes ≡ count * 4
-unfolding plain_fixed
-plain_length count bytes e = eqb-true (length bytes) (count * 4) (is_length true (length bytes == count * 4) (first_chunks 4 count bytes) e)
+same_spelled : (type : PrimitiveType) (selected : Option (List Interval)) (page : ChunkPage) → spelled (content_with type selected page) None ≡ spelled (content_of type page) None
+unfolding spelled
+same_spelled type selected page =
+    ap (λ o. page_encoding (content_of type page) >>= λ encoding. o >>= λ parts. unless_none (present_count parts.0) (values_in encoding type.physical_type None parts.1 (present_count parts.0)) >>= λ values. placed parts.0 values)
+    (same_places type selected page)
 
--- ---- what a page of plain numbers stands for
-
-counted : (n m : ℕ) → fold (λ (a : ℕ) (x : Bool). a + (if x then 1 else 0)) m (replicate n true) ≡ m + n
-counted zero m = omega arith
-counted (suc n) m = counted n (m + 1) ∙ omega arith
-
-all_present : (n : ℕ) → present_count (replicate n true) ≡ n
-all_present n = counted n 0 ∙ omega arith
-
-in_places : (values : List Stored) → placed (replicate (length values) true) values ≡ Some (map Some values)
-in_places [] = refl
-in_places (value ∷ values) = ap (λ o. o >>= (λ others. Some (Some value ∷ others))) (in_places values)
-
--- a page in a form that is built
-pub record IsPlain (page : DataContent) : Type 0 where
-  pub count : ℕ
-  pub levels : ℤ
-  pub header : page.header ≡ V1 count (pos 0) levels
-  pub int32 : page.type.physical_type ≡ Int32
-  pub required : page.type.repetition ≡ Required
-
-is_int32_type : (t : PhysicalType) → is_int32 t ≡ true → t ≡ Int32
-is_int32_type Int32 e = refl
-is_int32_type Boolean e = absurd (true≢false (sym e))
-is_int32_type Int64 e = absurd (true≢false (sym e))
-is_int32_type Int96 e = absurd (true≢false (sym e))
-is_int32_type Float e = absurd (true≢false (sym e))
-is_int32_type Double e = absurd (true≢false (sym e))
-is_int32_type ByteArray e = absurd (true≢false (sym e))
-is_int32_type (FixedLenByteArray n) e = absurd (true≢false (sym e))
-
-is_required_form : (r : Repetition) → is_required r ≡ true → r ≡ Required
-is_required_form Required e = refl
-is_required_form Optional e = absurd (true≢false (sym e))
-is_required_form Repeated e = absurd (true≢false (sym e))
-
-record IsFirstForm (header : DataPageHeader) : Type 0 where
-  pub count : ℕ
-  pub levels : ℤ
-  pub is : header ≡ V1 count (pos 0) levels
-
-is_first_form : (header : DataPageHeader) → is_built_header header ≡ true → IsFirstForm header
-is_first_form (V1 count (pos encoding) levels) e = record { count = count; levels = levels; is = ap (λ n. V1 count (pos n) levels) (eqb-true encoding 0 e) }
-is_first_form (V1 count (negsuc encoding) levels) e = absurd (true≢false (sym e))
-is_first_form (V2 count encoding definition repetition) e = absurd (true≢false (sym e))
-
-pub is_plain : (page : DataContent) → is_built_page page ≡ true → IsPlain page
-is_plain page e =
-    let front : (is_built_header page.header && is_int32 page.type.physical_type) ≡ true = first_so (is_built_header page.header && is_int32 page.type.physical_type) (is_required page.type.repetition) e in
-    let first = is_first_form page.header (first_so (is_built_header page.header) (is_int32 page.type.physical_type) front) in
-    record {
-      count = first.count;
-      levels = first.levels;
-      header = first.is;
-      int32 = is_int32_type page.type.physical_type (second_so (is_built_header page.header) (is_int32 page.type.physical_type) front);
-      required = is_required_form page.type.repetition (second_so (is_built_header page.header && is_int32 page.type.physical_type) (is_required page.type.repetition) e);
-    }
-
--- ---- plain pages by their parts
-
-abbrev page_with : ℕ → ℤ → List ℕ → Option LogicalType → Option (List Interval) → DataContent
-page_with count levels body logical selected =
-    record { header = V1 count (pos 0) levels; body = body; type = record { physical_type = Int32; logical_type = logical; repetition = Required }; selected = selected }
-
-numbers_at : (count : ℕ) (body : List ℕ) → length body ≡ suc count * 4 → plain_values Int32 body (suc count) ≡ Some (map int32_of (first_chunks 4 (suc count) body))
-unfolding plain_values
-numbers_at count body e = ap (option_map (map int32_of)) (is_exact 4 (suc count) body e)
-
-other_length : (count : ℕ) (body : List ℕ) → is_some (plain_fixed 4 body (suc count)) ≡ false → plain_values Int32 body (suc count) ≡ None
-unfolding plain_values
-other_length count body e = ap (option_map (map int32_of)) (is_none (plain_fixed 4 body (suc count)) e) where
-  is_none : (o : Option (List (List ℕ))) → is_some o ≡ false → o ≡ None
-  is_none None e = refl
-  is_none (Some xs) e = absurd (true≢false e)
-
-abbrev read_places : ℕ → List ℕ → Option (List (Option Stored))
-read_places count body = unless_none (present_count (replicate count true)) (plain_values Int32 body (present_count (replicate count true))) >>= (λ values. placed (replicate count true) values)
-
-spelled_places : (count : ℕ) (levels : ℤ) (body : List ℕ) (logical : Option LogicalType) (selected : Option (List Interval)) → spelled (page_with count levels body logical selected) None ≡ read_places count body
-unfolding spelled places_and_values prefixed_parts presence
-spelled_places count levels body logical selected = refl
-
-read_none : (body : List ℕ) → read_places 0 body ≡ Some []
-read_none body = refl
-
-read_some : (count : ℕ) (body : List ℕ) → length body ≡ suc count * 4 → read_places (suc count) body ≡ Some (map (λ n. Some (Number n)) (numbers_of (suc count) body))
-read_some count body e =
-    ap (λ n. unless_none n (plain_values Int32 body n) >>= (λ values. placed (replicate (suc count) true) values)) (all_present (suc count))
-    ∙ ap (λ o. o >>= (λ values. placed (replicate (suc count) true) values)) (numbers_at count body e)
-    ∙ ap (λ n. placed (replicate n true) (map int32_of (first_chunks 4 (suc count) body))) (sym (length-map (first_chunks 4 (suc count) body) int32_of ∙ chunk_count (suc count) body))
-    ∙ in_places (map int32_of (first_chunks 4 (suc count) body)) ∙ ap Some (twice (first_chunks 4 (suc count) body)) where
-      twice : (chunks : List (List ℕ)) → map Some (map int32_of chunks) ≡ map (λ n. Some (Number n)) (map number_of chunks)
-      twice [] = refl
-      twice (chunk ∷ chunks) = ap (λ rest. Some (int32_of chunk) ∷ rest) (twice chunks)
-
-read_nothing : (count : ℕ) (body : List ℕ) → is_some (plain_fixed 4 body (suc count)) ≡ false → read_places (suc count) body ≡ None
-read_nothing count body e =
-    ap (λ n. unless_none n (plain_values Int32 body n) >>= (λ values. placed (replicate (suc count) true) values)) (all_present (suc count))
-    ∙ ap (λ o. o >>= (λ values. placed (replicate (suc count) true) values)) (other_length count body e)
-
-causes_by : (count : ℕ) (body : List ℕ) → unless (is_some (read_places count body)) ExternalFormat ≡ number_causes count body
-causes_by zero body = refl
-causes_by (suc count) body = by_length (is_some (plain_fixed 4 body (suc count))) refl where
-  by_length : (b : Bool) → is_some (plain_fixed 4 body (suc count)) ≡ b → unless (is_some (read_places (suc count) body)) ExternalFormat ≡ number_causes (suc count) body
-  by_length true e = ap (λ o. unless (is_some o) ExternalFormat) (read_some count body (plain_length (suc count) body e)) ∙ sym (ap (λ b. unless b ExternalFormat) e)
-  by_length false e = ap (λ o. unless (is_some o) ExternalFormat) (read_nothing count body e) ∙ sym (ap (λ b. unless b ExternalFormat) e)
-
-causes_with : (count : ℕ) (levels : ℤ) (body : List ℕ) (logical : Option LogicalType) (selected : Option (List Interval)) → causes_of_data (page_with count levels body logical selected) ≡ number_causes count body
-unfolding page_causes
-causes_with count levels body logical selected = ap (λ o. unless (is_some o) ExternalFormat) (spelled_places count levels body logical selected) ∙ causes_by count body
-
-same_page : (page : DataContent) (plain : IsPlain page) → page ≡ page_with plain.count plain.levels page.body page.type.logical_type page.selected
-same_page page plain = λ i. record { header = plain.header i; body = page.body; type = record { physical_type = plain.int32 i; logical_type = page.type.logical_type; repetition = plain.required i }; selected = page.selected }
-
--- what is wrong with one that is built
-pub plain_causes : (page : DataContent) → is_built_page page ≡ true → causes_of_data page ≡ number_causes (header_values page.header) page.body
-plain_causes page e =
-    let plain = is_plain page e in
-    ap causes_of_data (same_page page plain) ∙ causes_with plain.count plain.levels page.body page.type.logical_type page.selected
-    ∙ sym (ap (λ header. number_causes (header_values header) page.body) plain.header)
+same_spelling : (most entries : Option ℕ) (type : PrimitiveType) (selected : Option (List Interval)) (page : ChunkPage) (encoding : Encoding) → spelling_causes most entries (content_with type selected page) encoding ≡ spelling_causes most entries (content_of type page) encoding
+same_spelling most entries type selected page Keys = ap (λ o. option_map_or (key_causes most entries) o (ExternalFormat ∷ [])) (same_keys type selected page)
+same_spelling most entries type selected page Plain = ap (λ o. unless (is_some o) ExternalFormat) (same_spelled type selected page)
+same_spelling most entries type selected page DeltaPacked = ap (λ o. unless (is_some o) ExternalFormat) (same_spelled type selected page)
+same_spelling most entries type selected page DeltaLengths = ap (λ o. unless (is_some o) ExternalFormat) (same_spelled type selected page)
 
 -- what is wrong with a page does not depend on the rows that are selected of it
-pub any_selection : (page : DataContent) (selected : Option (List Interval)) → causes_of_data (record page { selected = selected }) ≡ causes_of_data page
-any_selection page selected = by (is_built_page page) refl where
-  by : (b : Bool) → is_built_page page ≡ b → causes_of_data (record page { selected = selected }) ≡ causes_of_data page
-  by true e = plain_causes (record page { selected = selected }) e ∙ sym (plain_causes page e)
-  by false e = ap (λ b. and_then (unless b NotYetImplemented) (page_causes None false None (record page { selected = selected }))) e ∙ sym (ap (λ b. and_then (unless b NotYetImplemented) (page_causes None false None page)) e)
+pub any_selection : (most : Option ℕ) (has : Bool) (entries : Option ℕ) (type : PrimitiveType) (selected : Option (List Interval)) (page : ChunkPage) → page_causes most has entries (content_with type selected page) ≡ page_causes most has entries (content_of type page)
+unfolding page_causes
+any_selection most has entries type selected page =
+    λ i. option_map_or (λ encoding. same_spelling most entries type selected page encoding i) (carried_encoding (is_some most) has (content_of type page)) (NotYetImplemented ∷ [])
 
-built_alone : (page : DataContent) (b : Bool) → is_built_page page ≡ b → causes_of_data page ≡ [] → is_built_page page ≡ true
-built_alone page true e none = e
-built_alone page false e none = absurd (some_cause (sym (ap (λ b. and_then (unless b NotYetImplemented) (page_causes None false None page)) e) ∙ none)) where
-  some_cause : NotYetImplemented ∷ [] ≡ [] → ⊥
-  some_cause h = cc
+same_outcomes : (rule : Conversion) (entries : Option (List Cell)) (type : PrimitiveType) (selected : Option (List Interval)) (page : ChunkPage) → place_outcomes rule entries (content_with type selected page) ≡ place_outcomes rule entries (content_of type page)
+unfolding place_outcomes places_and_values
+same_outcomes rule entries type selected page = refl
 
--- Where nothing is wrong with a page, it is built.
-pub is_built : (page : DataContent) → causes_of_data page ≡ [] → is_built_page page ≡ true
-is_built page none = built_alone page (is_built_page page) refl none
+-- ---- a page has as many items as it has places
 
-no_number_cause : (count : ℕ) (body : List ℕ) → number_causes (suc count) body ≡ [] → is_some (plain_fixed 4 body (suc count)) ≡ true
-no_number_cause count body none = by (is_some (plain_fixed 4 body (suc count))) refl where
-  some_cause : ExternalFormat ∷ [] ≡ [] → ⊥
-  some_cause h = cc
+placed_many : {A : Type 0} (places : List Bool) (values : List A) (list : List (Option A)) → placed places values ≡ Some list → length list ≡ length places
+placed_many [] [] list e = ap length (sym (some_is [] list e))
+placed_many [] (value ∷ values) list e = absurd (nothing_is list e)
+placed_many (false ∷ places) values list e =
+    let others = bind_some (placed places values) (λ others. Some (None ∷ others)) list e in
+    ap length (sym (some_is (None ∷ others.0) list others.2)) ∙ ap suc (placed_many places values others.0 others.1)
+placed_many (true ∷ places) [] list e = absurd (nothing_is list e)
+placed_many (true ∷ places) (value ∷ values) list e =
+    let others = bind_some (placed places values) (λ others. Some (Some value ∷ others)) list e in
+    ap length (sym (some_is (Some value ∷ others.0) list others.2)) ∙ ap suc (placed_many places values others.0 others.1)
 
-  by : (b : Bool) → is_some (plain_fixed 4 body (suc count)) ≡ b → is_some (plain_fixed 4 body (suc count)) ≡ true
-  by true e = e
-  by false e = absurd (some_cause (sym (ap (λ b. unless b ExternalFormat) e) ∙ none))
+spelled_many : (page : DataContent) (told : Option (List Stored)) (list : List (Option Stored)) → spelled page told ≡ Some list → length list ≡ header_values page.header
+unfolding spelled
+spelled_many page told list e =
+    let type = page.type.physical_type in
+    let encoding = bind_some (page_encoding page) (λ encoding. places_and_values page >>= λ parts. unless_none (present_count parts.0) (values_in encoding type told parts.1 (present_count parts.0)) >>= λ values. placed parts.0 values) list e in
+    let parts = bind_some (places_and_values page) (λ parts. unless_none (present_count parts.0) (values_in encoding.0 type told parts.1 (present_count parts.0)) >>= λ values. placed parts.0 values) list encoding.2 in
+    let values = bind_some (unless_none (present_count parts.0.0) (values_in encoding.0 type told parts.0.1 (present_count parts.0.0))) (λ values. placed parts.0.0 values) list parts.2 in
+    placed_many parts.0.0 values.0 list values.2 ∙ places-length page parts.0.0 (ap (option_map (λ parts. parts.0)) parts.1)
 
-spelled_by : (count : ℕ) (body : List ℕ) → number_causes count body ≡ [] → read_places count body ≡ Some (map (λ n. Some (Number n)) (numbers_of count body))
-spelled_by zero body none = refl
-spelled_by (suc count) body none = read_some count body (plain_length (suc count) body (no_number_cause count body none))
+pub items_many : (reading : Reading) (page : ChunkPage) (items : List Item) → items_in reading page ≡ Some items → length items ≡ header_values page.header
+unfolding page_items
+items_many reading page items e =
+    let content = content_of reading.stored page in
+    let told = dictionary_content reading.dictionary >>= dictionary_entries reading.stored.physical_type in
+    let rule = bind_some (conversion reading.stored reading.data_type) (λ rule. spelled content told >>= λ places. Some (map (convert_place rule) places)) items e in
+    let places = bind_some (spelled content told) (λ places. Some (map (convert_place rule.0) places)) items rule.2 in
+    ap length (sym (some_is (map (convert_place rule.0) places.0) items places.2)) ∙ length-map places.0 (convert_place rule.0) ∙ spelled_many content told places.0 places.1
 
--- Where nothing is wrong, it stands for its numbers.
-pub plain_spelled : (page : DataContent) → causes_of_data page ≡ [] → spelled page None ≡ Some (map (λ n. Some (Number n)) (data_numbers page))
-plain_spelled page none =
-    let built = is_built page none in
-    let plain = is_plain page built in
-    let fine : number_causes plain.count page.body ≡ [] = ap (λ header. number_causes (header_values header) page.body) (sym plain.header) ∙ sym (plain_causes page built) ∙ none in
-    ap (λ p. spelled p None) (same_page page plain) ∙ spelled_places plain.count plain.levels page.body page.type.logical_type page.selected ∙ spelled_by plain.count page.body fine
-    ∙ ap (λ header. Some (map (λ n. Some (Number n)) (numbers_of (header_values header) page.body))) (sym plain.header)
+-- ---- a pair that is carried
+
+pub pair_rule : (stored : PrimitiveType) (data_type : DataType) → pair_causes stored data_type ≡ [] → (rule : Conversion) × (conversion stored data_type ≡ Some rule)
+pair_rule stored data_type none = by (is_built_pair stored data_type) (conversion stored data_type) none where
+  by : (b : Bool) (o : Option Conversion) → unless (b && is_some o) NotYetImplemented ≡ [] → (rule : Conversion) × (o ≡ Some rule)
+  by true (Some rule) none = (rule, refl)
+  by true None none = absurd cc
+  by false o none = absurd cc
+
+-- ---- the entries of a dictionary
+
+cells_counted : (item : Item) (outcomes : List Outcome) → (causes_in outcomes ≡ [] → length (cells_in outcomes) ≡ length outcomes) → causes_in (outcome_of item ∷ outcomes) ≡ [] → length (cells_in (outcome_of item ∷ outcomes)) ≡ suc (length outcomes)
+cells_counted (Value cell) outcomes others none = ap suc (others none)
+cells_counted NotInRange outcomes others none = absurd cc
+cells_counted NotText outcomes others none = absurd cc
+
+stored_counted : (rule : Conversion) (stored : List Stored) → causes_in (map (stored_outcome rule) stored) ≡ [] → length (cells_in (map (stored_outcome rule) stored)) ≡ length (map (stored_outcome rule) stored)
+stored_counted rule [] none = refl
+stored_counted rule (value ∷ values) none = cells_counted (convert rule value) (map (stored_outcome rule) values) (stored_counted rule values) none
+
+all_given_are : (causes : List Cause) (found cells : List Cell) → (if is_empty causes then Ok found else Err causes) ≡ Ok cells → (causes ≡ []) × (found ≡ cells)
+all_given_are [] found cells e = (refl, cc)
+all_given_are (cause ∷ causes) found cells e = absurd cc
+
+-- a dictionary has as many entries as cells come of them
+pub entries_counted : (rule : Conversion) (type : PhysicalType) (dictionary : Dictionary) (entries : Option (List Cell)) → AreEntriesOf rule type (dictionary_content dictionary) entries → entry_count type dictionary ≡ option_map length entries
+unfolding dictionary_cells
+entries_counted rule type NoDictionary None are = refl
+entries_counted rule type NoDictionary (Some cells) are = absurd are
+entries_counted rule type Undefined None are = refl
+entries_counted rule type Undefined (Some cells) are = absurd are
+entries_counted rule type (Defined page) entries are = by (has_plain_entries page.encoding) entries are where
+  content : DictContent
+  content = record { body = page.body; num_values = page.num_values }
+
+  go : (cells : List Cell) (o : Option (List Stored)) → option_map_or (λ stored. all_given (map (stored_outcome rule) stored)) o (Err (ExternalFormat ∷ [])) ≡ Ok cells → option_map length o ≡ Some (length cells)
+  go cells None e = absurd cc
+  go cells (Some stored) e =
+      let own = all_given_are (causes_in (map (stored_outcome rule) stored)) (cells_in (map (stored_outcome rule) stored)) cells e in
+      let counted : length cells ≡ length stored = ap length (sym own.1) ∙ stored_counted rule stored own.0 ∙ length-map stored (stored_outcome rule) in
+      ap something (sym counted)
+
+  by : (plain : Bool) (entries : Option (List Cell)) → AreEntriesOf rule type (given plain content) entries → option_map length (given plain content >>= dictionary_entries type) ≡ option_map length entries
+  by true None are = absurd are
+  by true (Some cells) are = go cells (dictionary_entries type content) are
+  by false None are = refl
+  by false (Some cells) are = absurd are
+
+-- ---- what is wrong with items
+
+pub items_caused : (items : List Item) → causes_in (map outcome_of items) ≡ flat_map item_causes items
+items_caused [] = refl
+items_caused (Value cell ∷ items) = items_caused items
+items_caused (NotInRange ∷ items) = ap (λ causes. Overflow ∷ causes) (items_caused items)
+items_caused (NotText ∷ items) = ap (λ causes. OutOfSpec ∷ causes) (items_caused items)
+
+-- items with which nothing is wrong are values
+pub all_values : (items : List Item) → flat_map item_causes items ≡ [] → (cells : List Cell) × (items ≡ map Value cells)
+all_values [] none = ([], refl)
+all_values (Value cell ∷ items) none = let others = all_values items none in (cell ∷ others.0, ap (λ rest. Value cell ∷ rest) others.1)
+all_values (NotInRange ∷ items) none = absurd cc
+all_values (NotText ∷ items) none = absurd cc
+
+pub values_given : (cells : List Cell) → map outcome_of (map Value cells) ≡ map Given cells
+values_given [] = refl
+values_given (cell ∷ cells) = ap (λ rest. Given cell ∷ rest) (values_given cells)
+
+-- ---- rows and those behind them
+
+pub some_cause : (cause : Cause) (causes : List Cause) → cause ∷ causes ≡ [] → ⊥
+some_cause cause causes e = cc
+
+followed_none : (first later : List Outcome) → causes_in (followed_by first later) ≡ [] → (causes_in first ≡ []) × (followed_by first later ≡ first ++ later)
+followed_none first later none = by (causes_in first) refl none where
+  by : (causes : List Cause) → causes_in first ≡ causes → causes_in (if is_empty causes then first ++ later else first) ≡ [] → (causes_in first ≡ []) × ((if is_empty causes then first ++ later else first) ≡ first ++ later)
+  by [] e none = (e, refl)
+  by (cause ∷ causes) e none = absurd (some_cause cause causes (sym e ∙ none))
+
+followed_wrong : (first later : List Outcome) (o : Option Cause) → IsOneOf (causes_in (followed_by first later)) o → IsOneOf (causes_in first) o ⊎ IsOneOf (causes_in later) o
+followed_wrong first later o wrong = by (is_empty (causes_in first)) wrong where
+  by : (b : Bool) → IsOneOf (causes_in (if b then first ++ later else first)) o → IsOneOf (causes_in first) o ⊎ IsOneOf (causes_in later) o
+  by true wrong = one_cases (causes_in first) (causes_in later) o (subst (λ causes. IsOneOf causes o) (causes_in-append first later) wrong)
+  by false wrong = inl wrong
+
+-- ---- a page
+
+covered-map : {A B : Type 0} (f : A → B) (runs : List Interval) (row : ℕ) (xs : List A) → covered_from runs row (map f xs) ≡ map f (covered_from runs row xs)
+covered-map f runs row [] = refl
+covered-map f runs row (x ∷ xs) = by (covers runs row) (covered-map f runs (row + 1) xs) where
+  by : (b : Bool) → covered_from runs (row + 1) (map f xs) ≡ map f (covered_from runs (row + 1) xs)
+      → (if b then f x ∷ covered_from runs (row + 1) (map f xs) else covered_from runs (row + 1) (map f xs)) ≡ map f (if b then x ∷ covered_from runs (row + 1) xs else covered_from runs (row + 1) xs)
+  by true rest = ap (λ rest. f x ∷ rest) rest
+  by false rest = rest
+
+selected-map : {A B : Type 0} (f : A → B) (selected : Option (List Interval)) (xs : List A) → selected_of selected (map f xs) ≡ map f (selected_of selected xs)
+selected-map f None xs = refl
+selected-map f (Some runs) xs = covered-map f runs 0 xs
+
+-- What a page gives: its items, as many as its header says, and of selected rows what their items are.
+pub record IsGiven (reading : Reading) (rule : Conversion) (entries : Option (List Cell)) (page : ChunkPage) : Type 0 where
+  pub items : List Item
+  pub are : items_in reading page ≡ Some items
+  pub many : length items ≡ header_values page.header
+  pub outcomes : (selected : Option (List Interval)) → selected_outcomes rule entries (content_with reading.stored selected page) ≡ map outcome_of (selected_of selected items)
+
+-- Selected rows of a page with which nothing is wrong as a whole, all of them values, and what stands behind them.
+pub record BeginsGiven (reading : Reading) (selected : Option (List Interval)) (page : ChunkPage) (own later : List Outcome) : Type 0 where
+  pub none : causes_of_data reading page ≡ []
+  pub items : List Item
+  pub are : items_in reading page ≡ Some items
+  pub many : length items ≡ header_values page.header
+  pub cells : List Cell
+  pub values : selected_of selected items ≡ map Value cells
+  pub outcomes : followed_by own later ≡ map Given cells ++ later
+
+-- something is wrong with the item of a selected row
+pub record HasWrongItem (reading : Reading) (selected : Option (List Interval)) (page : ChunkPage) (o : Option Cause) : Type 0 where
+  pub items : List Item
+  pub are : items_in reading page ≡ Some items
+  pub wrong : IsOneOf (flat_map item_causes (selected_of selected items)) o
+
+outcomes_are : (rule : Conversion) (entries : Option (List Cell)) (page : DataContent) (places : List Outcome) → page_causes None (is_some entries) (option_map length entries) page ≡ []
+    → place_outcomes rule entries page ≡ Some places → selected_outcomes rule entries page ≡ selected_of page.selected places
+unfolding selected_outcomes
+outcomes_are rule entries page places none are = λ i. page_outcomes (none i) page.selected (unwrap_or (are i) [])
+
+causes_are : (rule : Conversion) (entries : Option (List Cell)) (page : DataContent) (cause : Cause) (causes : List Cause) → page_causes None (is_some entries) (option_map length entries) page ≡ cause ∷ causes
+    → selected_outcomes rule entries page ≡ refused (cause ∷ causes)
+unfolding selected_outcomes
+causes_are rule entries page cause causes e = λ i. page_outcomes (e i) page.selected (unwrap_or (place_outcomes rule entries page) [])
+
+module _ (reading : Reading) (rule : Conversion) (entries : Option (List Cell)) (pair : conversion reading.stored reading.data_type ≡ Some rule)
+    (over : AreEntriesOf rule reading.stored.physical_type (dictionary_content reading.dictionary) entries) (has : has_dictionary reading.dictionary ≡ is_some entries) where
+  same_causes : (selected : Option (List Interval)) (page : ChunkPage) → page_causes None (is_some entries) (option_map length entries) (content_with reading.stored selected page) ≡ causes_of_data reading page
+  same_causes selected page =
+      let counted = entries_counted rule reading.stored.physical_type reading.dictionary entries over in
+      any_selection None (is_some entries) (option_map length entries) reading.stored selected page
+      ∙ (λ i. page_causes None (sym has i) (sym counted i) (content_of reading.stored page))
+
+  -- a page with which nothing is wrong as a whole
+  pub page_given : (page : ChunkPage) → causes_of_data reading page ≡ [] → IsGiven reading rule entries page
+  page_given page none = go (items_in reading page) refl where
+    agree : IsSome (place_outcomes rule entries (content_of reading.stored page)) × (place_outcomes rule entries (content_of reading.stored page) ≡ option_map (map outcome_of) (items_in reading page))
+    agree = places_give_items reading.data_type rule (dictionary_content reading.dictionary) entries (content_of reading.stored page) pair over (same_causes None page ∙ none)
+
+    go : (o : Option (List Item)) → items_in reading page ≡ o → IsGiven reading rule entries page
+    go None e =
+        let places = is_something (place_outcomes rule entries (content_of reading.stored page)) agree.0 in
+        absurd (nothing_is places.0 (sym (agree.1 ∙ ap (option_map (map outcome_of)) e) ∙ places.1))
+    go (Some items) e = record {
+      items = items;
+      are = e;
+      many = items_many reading page items e;
+      outcomes = λ selected.
+          outcomes_are rule entries (content_with reading.stored selected page) (map outcome_of items) (same_causes selected page ∙ none)
+          (same_outcomes rule entries reading.stored selected page ∙ agree.1 ∙ ap (option_map (map outcome_of)) e)
+          ∙ selected-map outcome_of selected items;
+    }
+
+  -- one with which something is wrong as a whole
+  pub page_refused : (selected : Option (List Interval)) (page : ChunkPage) (cause : Cause) (causes : List Cause) → causes_of_data reading page ≡ cause ∷ causes
+      → selected_outcomes rule entries (content_with reading.stored selected page) ≡ refused (cause ∷ causes)
+  page_refused selected page cause causes e = causes_are rule entries (content_with reading.stored selected page) cause causes (same_causes selected page ∙ e)
+
+  -- a page in front of others, where nothing is wrong with all that is given
+  pub first_given : (selected : Option (List Interval)) (page : ChunkPage) (later : List Outcome) → causes_in (followed_by (selected_outcomes rule entries (content_with reading.stored selected page)) later) ≡ []
+      → BeginsGiven reading selected page (selected_outcomes rule entries (content_with reading.stored selected page)) later
+  first_given selected page later none = go (causes_of_data reading page) refl where
+    own : List Outcome
+    own = selected_outcomes rule entries (content_with reading.stored selected page)
+
+    split : (causes_in own ≡ []) × (followed_by own later ≡ own ++ later)
+    split = followed_none own later none
+
+    go : (causes : List Cause) → causes_of_data reading page ≡ causes → BeginsGiven reading selected page own later
+    go [] e =
+        let found = page_given page e in
+        let values = all_values (selected_of selected found.items) (sym (items_caused (selected_of selected found.items)) ∙ sym (ap causes_in (found.outcomes selected)) ∙ split.0) in
+        record {
+          none = e;
+          items = found.items;
+          are = found.are;
+          many = found.many;
+          cells = values.0;
+          values = values.1;
+          outcomes = split.1 ∙ ap (λ front. front ++ later) (found.outcomes selected ∙ ap (map outcome_of) values.1 ∙ values_given values.0);
+        }
+    go (cause ∷ causes) e = absurd (some_cause cause (causes ++ []) (sym (ap causes_in (page_refused selected page cause causes e)) ∙ split.0))
+
+  -- what is wrong with all that is given is wrong with the page as a whole, with an item of it, or with what stands behind it
+  pub first_wrong : (selected : Option (List Interval)) (page : ChunkPage) (later : List Outcome) (o : Option Cause)
+      → IsOneOf (causes_in (followed_by (selected_outcomes rule entries (content_with reading.stored selected page)) later)) o
+      → IsOneOf (causes_of_data reading page) o ⊎ (HasWrongItem reading selected page o ⊎ IsOneOf (causes_in later) o)
+  first_wrong selected page later o wrong = elim (followed_wrong own later o wrong) [
+    | inl here ↦ go (causes_of_data reading page) refl here
+    | inr behind ↦ inr (inr behind)
+  ] where
+    own : List Outcome
+    own = selected_outcomes rule entries (content_with reading.stored selected page)
+
+    go : (causes : List Cause) → causes_of_data reading page ≡ causes → IsOneOf (causes_in own) o → IsOneOf (causes_of_data reading page) o ⊎ (HasWrongItem reading selected page o ⊎ IsOneOf (causes_in later) o)
+    go [] e here =
+        let found = page_given page e in
+        inr (inl (record {
+          items = found.items;
+          are = found.are;
+          wrong = subst (λ causes. IsOneOf causes o) (ap causes_in (found.outcomes selected) ∙ items_caused (selected_of selected found.items)) here;
+        }))
+    go (cause ∷ causes) e here = inl (subst (λ causes. IsOneOf causes o) (ap causes_in (page_refused selected page cause causes e) ∙ append-nil (cause ∷ causes) ∙ sym e) here)
+
+-- ---- a dictionary in front of pages
+
+-- the rows behind a dictionary with which nothing is wrong, or behind none
+pub record IsOver (reading : Reading) (rule : Conversion) (others : Lent) : Type 0 where
+  pub entries : Option (List Cell)
+  pub are : AreEntriesOf rule reading.stored.physical_type (dictionary_content reading.dictionary) entries
+  pub has : has_dictionary reading.dictionary ≡ is_some entries
+  pub none : causes_of_dictionary reading reading.dictionary ≡ []
+  pub outcomes : rows_by reading.stored.physical_type (behind_dictionary reading.dictionary others).pages (behind_dictionary reading.dictionary others).causes rule
+      ≡ rows (dictionary_cells rule reading.stored.physical_type) (selected_outcomes rule) entries others.pages others.causes
+
+-- a dictionary with which something is wrong
+pub record IsRefused (reading : Reading) (rule : Conversion) (others : Lent) : Type 0 where
+  pub cause : Cause
+  pub causes : List Cause
+  pub are : causes_of_dictionary reading reading.dictionary ≡ cause ∷ causes
+  pub outcomes : rows_by reading.stored.physical_type (behind_dictionary reading.dictionary others).pages (behind_dictionary reading.dictionary others).causes rule ≡ Refused (cause ∷ causes) ∷ []
+
+-- what is wrong with entries is something
+not_empty : (rule : Conversion) (type : PhysicalType) (page : DictContent) → dictionary_cells rule type page ≡ Err [] → ⊥
+unfolding dictionary_cells
+not_empty rule type page e = go (dictionary_entries type page) e where
+  one : (causes : List Cause) (cells : List Cell) → (if is_empty causes then Ok cells else Err causes) ≡ Err [] → ⊥
+  one [] cells e = cc
+  one (cause ∷ causes) cells e = cc
+
+  go : (o : Option (List Stored)) → option_map_or (λ stored. all_given (map (stored_outcome rule) stored)) o (Err (ExternalFormat ∷ [])) ≡ Err [] → ⊥
+  go None e = cc
+  go (Some stored) e = one (causes_in (map (stored_outcome rule) stored)) (cells_in (map (stored_outcome rule) stored)) e
+
+module _ (stored : PrimitiveType) (data_type : DataType) (rule : Conversion) (pair : conversion stored data_type ≡ Some rule) (others : Lent) where
+  abbrev over : Dictionary → Reading
+  over dictionary = record { stored = stored; dictionary = dictionary; data_type = data_type }
+
+  abbrev held : DictionaryPage → DictContent
+  held page = record { body = page.body; num_values = page.num_values }
+
+  abbrev lent_if : Bool → DictionaryPage → Lent
+  lent_if plain page = if plain then in_front (dictionary_of page) others else record { pages = []; causes = NotYetImplemented ∷ [] }
+
+  caused : (page : DictionaryPage) (plain : Bool) (found : Result (List Cell) (List Cause)) → has_plain_entries page.encoding ≡ plain → dictionary_cells rule stored.physical_type (held page) ≡ found
+      → causes_of_dictionary (over (Defined page)) (Defined page) ≡ and_then (unless plain NotYetImplemented) (causes_of_entries found)
+  caused page plain found is e = ap (λ o. option_map_or (causes_of_defined stored.physical_type page) o []) pair ∙ (λ i. and_then (unless (is i) NotYetImplemented) (causes_of_entries (e i)))
+
+  given_behind : (page : DictionaryPage) (found : Result (List Cell) (List Cause)) → has_plain_entries page.encoding ≡ true → dictionary_cells rule stored.physical_type (held page) ≡ found
+      → rows_by stored.physical_type (behind_dictionary (Defined page) others).pages (behind_dictionary (Defined page) others).causes rule
+      ≡ followed_by (refusal_of found) (rows (dictionary_cells rule stored.physical_type) (selected_outcomes rule) (result_ok found) others.pages others.causes)
+  given_behind page found plain e =
+      ap (λ b. rows_by stored.physical_type (lent_if b page).pages (lent_if b page).causes rule) plain
+      ∙ ap (λ found. followed_by (refusal_of found) (rows (dictionary_cells rule stored.physical_type) (selected_outcomes rule) (result_ok found) others.pages others.causes)) e
+
+  defined_first : (page : DictionaryPage) (plain : Bool) (found : Result (List Cell) (List Cause)) → has_plain_entries page.encoding ≡ plain → dictionary_cells rule stored.physical_type (held page) ≡ found
+      → IsOver (over (Defined page)) rule others ⊎ IsRefused (over (Defined page)) rule others
+  defined_first page true (Ok cells) plain e =
+      inl (record { entries = Some cells; are = subst (λ o. AreEntriesOf rule stored.physical_type o (Some cells)) (sym (ap (λ plain. given plain (held page)) plain)) e; has = refl; none = caused page true (Ok cells) plain e; outcomes = given_behind page (Ok cells) plain e })
+  defined_first page true (Err []) plain e = absurd (not_empty rule stored.physical_type (held page) e)
+  defined_first page true (Err (cause ∷ causes)) plain e =
+      inr (record { cause = cause; causes = causes; are = caused page true (Err (cause ∷ causes)) plain e; outcomes = given_behind page (Err (cause ∷ causes)) plain e })
+  defined_first page false found plain e =
+      inr (record {
+        cause = NotYetImplemented;
+        causes = [];
+        are = caused page false found plain e;
+        outcomes = ap (λ b. rows_by stored.physical_type (lent_if b page).pages (lent_if b page).causes rule) plain;
+      })
+
+  pub dictionary_first : (dictionary : Dictionary) → IsOver (over dictionary) rule others ⊎ IsRefused (over dictionary) rule others
+  dictionary_first NoDictionary = inl (record { entries = None; are = tt; has = refl; none = refl; outcomes = refl })
+  dictionary_first Undefined = inr (record { cause = ExternalFormat; causes = []; are = refl; outcomes = refl })
+  dictionary_first (Defined page) = defined_first page (has_plain_entries page.encoding) (dictionary_cells rule stored.physical_type (held page)) refl refl
 
 -- ---- results
 
@@ -224,21 +402,18 @@ pub if_ok : {T E : Type 0} {P Q : T → Type 0} (r : Result T E) → ((x : T) �
 if_ok (Ok x) f h = f x h
 if_ok (Err e) f h = h
 
-pub both_ok : {T E P : Type 0} {Q R : T → Type 0} (r : Result T E) → (P → (x : T) → Q x → R x) → OnOk r P → IfOk r Q → IfOk r R
-both_ok (Ok x) f p q = f p x q
-both_ok (Err e) f p q = tt
+pub both_if : {T E : Type 0} {P Q R : T → Type 0} (r : Result T E) → ((x : T) → P x → Q x → R x) → IfOk r P → IfOk r Q → IfOk r R
+both_if (Ok x) f p q = f x p q
+both_if (Err e) f p q = tt
 
 pub ok_always : {T E P : Type 0} (r : Result T E) → P → OnOk r P
 ok_always (Ok x) p = p
 ok_always (Err e) p = tt
 
+pub ok_if : {T E Q : Type 0} {P : T → Type 0} (r : Result T E) → ((x : T) → P x → Q) → IfOk r P → OnOk r Q
+ok_if (Ok x) f h = f x h
+ok_if (Err e) f h = h
+
 pub if_err : {T E : Type 0} {P Q : E → Type 0} (r : Result T E) → ((e : E) → P e → Q e) → IfErr r P → IfErr r Q
 if_err (Ok x) f h = h
 if_err (Err e) f h = f e h
-
--- of bytes of the right length all numbers are read
-pub whole_numbers : (count : ℕ) (bytes : List ℕ) → is_some (plain_fixed 4 bytes (suc count)) ≡ true → map number_of (first_chunks 4 (length bytes / 4) bytes) ≡ numbers_of (suc count) bytes
-whole_numbers count bytes e =
-    let long : length bytes ≡ suc count * 4 = plain_length (suc count) bytes e in
-    let quarter : length bytes / 4 ≡ suc count = omega (arith, long) in
-    ap (λ n. map number_of (first_chunks 4 n bytes)) quarter

@@ -1,5 +1,5 @@
 -- Two lists side by side.
-use Rattle.std.proofs.Common.{◌≡◌, ℕ, zero, suc, ◌+◌, ◌<◌, Bool, true, false, List, [], ◌∷◌, ◌++◌, length, map, drop, get_or, refl, sym, ◌∙◌, ap, arith, drop-cons, append_assoc}
+use Rattle.std.proofs.Common.{◌≡◌, ℕ, zero, suc, ◌+◌, ◌<◌, Bool, true, List, [], ◌∷◌, ◌++◌, length, map, drop, get_or, refl, sym, ◌∙◌, ap, arith, drop-cons, append_assoc}
 use Rattle.std.specs.Prelude.{Option, Some, None, IfSome, zip, ◌&&◌}
 use Rattle.columns_core.specs.Causes.{Cause}
 use Rattle.std.specs.List.{flat_map, list_all}
@@ -15,10 +15,6 @@ pair_at xs ys i x y h k =
 pub all_behind : {X Y : Type 0} (p : X × Y → Bool) (xs : List X) (ys : List Y) (i : ℕ) (x : X) (y : Y) → i < length xs → i < length ys → p (get_or xs i x, get_or ys i y) ≡ true
     → list_all p (zip (drop i xs) (drop i ys)) ≡ list_all p (zip (drop (i + 1) xs) (drop (i + 1) ys))
 all_behind p xs ys i x y h k e = ap (list_all p) (pair_at xs ys i x y h k) ∙ ap (λ b. b && list_all p (zip (drop (i + 1) xs) (drop (i + 1) ys))) e
-
-pub not_behind : {X Y : Type 0} (p : X × Y → Bool) (xs : List X) (ys : List Y) (i : ℕ) (x : X) (y : Y) → i < length xs → i < length ys → p (get_or xs i x, get_or ys i y) ≡ false
-    → list_all p (zip (drop i xs) (drop i ys)) ≡ false
-not_behind p xs ys i x y h k e = ap (list_all p) (pair_at xs ys i x y h k) ∙ ap (λ b. b && list_all p (zip (drop (i + 1) xs) (drop (i + 1) ys))) e
 
 pub flat_behind : {X Y Z : Type 0} (f : X × Y → List Z) (xs : List X) (ys : List Y) (i : ℕ) (x : X) (y : Y) → i < length xs → i < length ys
     → flat_map f (zip (drop i xs) (drop i ys)) ≡ f (get_or xs i x, get_or ys i y) ++ flat_map f (zip (drop (i + 1) xs) (drop (i + 1) ys))

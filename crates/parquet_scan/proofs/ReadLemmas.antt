@@ -11,7 +11,8 @@ use Rattle.parquet_meta.specs.Chunks.{chunk_causes, chunk_range}
 use Rattle.parquet_meta.specs.Places.{after, bytes_at, lies_in, part_at}
 use Rattle.parquet_meta.specs.Source.{Finds}
 use Rattle.parquet_scan.specs.Cells.{chunk_of}
-use Rattle.parquet_scan.specs.Column.{chunk_read_causes, has_values}
+use Rattle.parquet_scan.specs.Causes.{chunk_read_causes}
+use Rattle.parquet_scan.specs.Column.{has_values}
 use Rattle.parquet_scan.specs.Located.{part_causes, part_in}
 use Rattle.parquet_scan.specs.Scan.{FailsBy}
 use Rattle.std.proofs.lemmas.Bool.{le-leb, lt-leb}

@@ -1,15 +1,17 @@
 -- Columns of two files that have the same bytes where they are looked at.
 use Rattle.std.proofs.Common.{◌≡◌, ℕ, ◌-◌, ◌<◌, ◌≤◌, min, max, Bool, true, false, cond, List, [], ◌∷◌, ◌++◌, length, map, take, drop, Option, Some, None, refl, sym, subst, ◌∙◌, ap, arith, inl, inr}
-use Rattle.std.specs.Prelude.{filter, find, flat_map, zip, nat_le, ◌==◌, ◌&&◌, option_and_then, unwrap_or, if◌then◌else◌}
+use Rattle.std.specs.Prelude.{IfSome, filter, find, flat_map, is_some, zip, nat_le, nat_lt, ◌==◌, ◌&&◌, ◌||◌, option_and_then, unwrap_or, if◌then◌else◌}
 use Rattle.std.specs.List.{AllByRecursion, list_all}
 use Rattle.std.specs.Option.{option_map_or}
-use Rattle.std.proofs.lemmas.Bool.{and_parts, cases_lt, leb-true, true≢false}
+use Rattle.std.proofs.lemmas.Bool.{and_parts, cases_lt, leb-true, or_right, true≢false}
 use Rattle.std.proofs.lemmas.List.{length-map, length-take, take-take, take_all}
+use Rattle.std.proofs.lemmas.List.Folds.{flat_map-map}
 use Rattle.columns_core.specs.Causes.{Cause, ExternalFormat, NotYetImplemented, and_then, unless}
-use Rattle.columns_core.specs.declared.cell.Cell.{Cell}
+use Rattle.columns_core.specs.declared.cell.Cell.{Cell, Null}
+use Rattle.columns_core.specs.declared.data_type.DataType.{DataType}
 use Rattle.columns_core.specs.declared.data_type.Field.{Field}
 use Rattle.parquet_base.specs.Intervals.{holds}
-use Rattle.parquet_base.specs.Reading.{◌>>=◌}
+use Rattle.parquet_base.specs.Reading.{◌>>=◌, given}
 use Rattle.parquet_base.specs.declared.interval.Interval.{Interval}
 use Rattle.parquet_meta.specs.Chunks.{chunk_causes, chunk_place}
 use Rattle.parquet_meta.specs.Indexes.{index_at, index_in, locations_at, type_of}
@@ -22,14 +24,15 @@ use Rattle.parquet_meta.specs.declared.metadata.PhysicalType.{PhysicalType}
 use Rattle.parquet_meta.specs.declared.metadata.Place.{Place}
 use Rattle.parquet_meta.specs.declared.metadata.PrimitiveType.{PrimitiveType}
 use Rattle.parquet_meta.specs.declared.metadata.RowGroupMetaData.{RowGroupMetaData}
-use Rattle.parquet_page.specs.Chunk.{ChunkPage, Dictionary, DictionaryPage, NoDictionary, Undefined, dictionary_at, if_defined, pages_of_chunk}
+use Rattle.parquet_page.specs.Chunk.{ChunkPage, Dictionary, DictionaryPage, NoDictionary, Undefined, chunk_dictionary, dictionary_at, if_defined, pages_of_chunk}
 use Rattle.parquet_page.specs.Located.{dictionary_in, located_dictionary, page_in}
 use Rattle.parquet_page.specs.Locations.{has_shape, located, part_of}
 use Rattle.parquet_page.proofs.HeaderLemmas.{dictionary_measured}
+use Rattle.flat_values.specs.Conversion.{Item, Value}
 use Rattle.parquet_scan.specs.declared.bound.Bound.{Bound}
 use Rattle.parquet_scan.specs.declared.groups.KnownEnds.{KnownEnds}
-use Rattle.parquet_scan.specs.Causes.{causes_of_chunk, causes_of_column, causes_of_opened, chunk_opened, dictionary_before, first_location, index_causes_of_bound, index_causes_of_group, is_opened, located_causes, offset_causes_of_field, opened_causes, opened_located}
-use Rattle.parquet_scan.specs.Cells.{chunk_of, given_cell, item_among, item_at, item_located, located_item, located_pages, named_page, walked_item, walked_pages}
+use Rattle.parquet_scan.specs.Causes.{causes_of_chunk, causes_of_column, causes_of_opened, causes_of_pages, chunk_read_causes, index_causes_of_bound, index_causes_of_group, is_opened, item_causes, located_causes, offset_causes_of_field, opened_located, pair_causes, row_causes, walked_causes}
+use Rattle.parquet_scan.specs.Cells.{Reading, as_cell, dictionary_by_locations, chunk_of, dictionary_before, first_location, given_cell, is_null_type, item_among, item_at, item_located, located_item, located_pages, located_reading, named_page, walked_item, walked_reading}
 use Rattle.parquet_scan.specs.Costs.{holds_any, names_some, opened_locations}
 use Rattle.parquet_scan.specs.LookedAt.{AgreeAt, AgreeOn, bound_parts, chunk_parts, column_parts, dictionary_length, dictionary_part, front_of, index_parts_of_group, located_parts, offset_parts, part_in_chunk, parts_if, walked_length, walked_parts, with_dictionary}
 use Rattle.parquet_scan.specs.Pages.{column_ends, ends_of_pages, has_count, keeps_row, location_rows, locations, locations_causes, rows_at}
@@ -38,7 +41,7 @@ use Rattle.parquet_scan.specs.Rows.{bound_keeps, column_named}
 use Rattle.parquet_scan.specs.Statistics.{physical_type}
 use Rattle.parquet_scan.proofs.LocatedLemmas.{chunk_length, located_by, page_there}
 use Rattle.parquet_scan.proofs.OpenedLemmas.{chunk_fits, same_opened}
-use Rattle.parquet_scan.proofs.SameWalk.{IsSameWalk, same_dictionary, shorter, walk_alike}
+use Rattle.parquet_scan.proofs.SameWalk.{IsSameWalk, over, same_dictionary, shorter, walk_alike}
 
 -- ---- files that agree on several parts
 
@@ -97,21 +100,37 @@ same_map page other (first ∷ others) same = λ i. same.0 i ∷ same_map page o
 abbrev pub IsAmong : List ℕ → ℕ → Type 0
 IsAmong rows row = (run : Interval) → holds run row ≡ true → holds_any rows run ≡ true
 
-same_item : (type : PrimitiveType) (rows : List ℕ) (row : ℕ) → IsAmong rows row → (page other : Interval × PageLocation → Option ChunkPage) (named : List (Interval × PageLocation)) → AreSame page other (filter (names_some rows) named)
-    → item_located type (pages_by other named) row ≡ item_located type (pages_by page named) row
-same_item type rows row among page other [] same = refl
-same_item type rows row among page other (first ∷ others) same = by (holds first.0 row) (holds_any rows first.0) (same_item type rows row among page other others) refl refl same where
-  item : Interval × Option ChunkPage → Option Cell
-  item named = option_and_then (item_at type (row - (named.0).start)) named.1
+-- what is the same in each of some rows
+pub same_among : {X : Type 0} (rows : List ℕ) (f g : ℕ → X) → ((row : ℕ) → IsAmong rows row → f row ≡ g row) → map f rows ≡ map g rows
+same_among {X} rows f g each = go rows (λ run held. held) where
+  go : (some : List ℕ) → ((run : Interval) → holds_any some run ≡ true → holds_any rows run ≡ true) → map f some ≡ map g some
+  go [] within = refl
+  go (row ∷ others) within =
+      let own : f row ≡ g row = each row (λ run held. within run (ap (λ b. b || holds_any others run) held)) in
+      λ i. own i ∷ go others (λ run held. within run (or_right (holds run row) (holds_any others run) held)) i
 
-  by : (b c : Bool) → (AreSame page other (filter (names_some rows) others) → item_located type (pages_by other others) row ≡ item_located type (pages_by page others) row)
+same_row_causes : (rows : List ℕ) (f g : ℕ → Option Item) → ((row : ℕ) → IsAmong rows row → f row ≡ g row) → row_causes f rows ≡ row_causes g rows
+same_row_causes rows f g each =
+    let told : Option Item → List Cause = λ item. option_map_or item_causes item [] in
+    sym (flat_map-map told f rows) ∙ ap (flat_map told) (same_among rows f g each) ∙ flat_map-map told g rows
+
+-- The dictionary is looked at where a page is opened. In a row that is among others its page is.
+same_item : (one another : Reading) (rows : List ℕ) (row : ℕ) → IsAmong rows row → (page other : Interval × PageLocation → Option ChunkPage) (named : List (Interval × PageLocation)) → AreSame page other (filter (names_some rows) named)
+    → (0 < length (filter (names_some rows) named) → another ≡ one) → item_located another (pages_by other named) row ≡ item_located one (pages_by page named) row
+same_item one another rows row among page other [] same read = refl
+same_item one another rows row among page other (first ∷ others) same read = by (holds first.0 row) (holds_any rows first.0) (same_item one another rows row among page other others) refl refl same read where
+  item : Reading → Interval × Option ChunkPage → Option Item
+  item reading named = option_and_then (item_at reading (row - (named.0).start)) named.1
+
+  by : (b c : Bool) → (AreSame page other (filter (names_some rows) others) → (0 < length (filter (names_some rows) others) → another ≡ one) → item_located another (pages_by other others) row ≡ item_located one (pages_by page others) row)
       → holds first.0 row ≡ b → holds_any rows first.0 ≡ c → AreSame page other (cond c (first ∷ filter (names_some rows) others) (filter (names_some rows) others))
-      → option_and_then item (cond b (Some (first.0, other first)) (find (λ (named : Interval × Option ChunkPage). holds named.0 row) (pages_by other others)))
-      ≡ option_and_then item (cond b (Some (first.0, page first)) (find (λ (named : Interval × Option ChunkPage). holds named.0 row) (pages_by page others)))
-  by true true rest held opened same = ap (λ found. item (first.0, found)) same.0
-  by true false rest held unopened same = absurd (true≢false (sym (among first.0 held) ∙ unopened))
-  by false true rest held opened same = rest same.1
-  by false false rest held opened same = rest same
+      → (0 < length (cond c (first ∷ filter (names_some rows) others) (filter (names_some rows) others)) → another ≡ one)
+      → option_and_then (item another) (cond b (Some (first.0, other first)) (find (λ (named : Interval × Option ChunkPage). holds named.0 row) (pages_by other others)))
+      ≡ option_and_then (item one) (cond b (Some (first.0, page first)) (find (λ (named : Interval × Option ChunkPage). holds named.0 row) (pages_by page others)))
+  by true true rest held opened same read = let own : another ≡ one = read (omega arith) in λ i. item (own i) (first.0, same.0 i)
+  by true false rest held unopened same read = absurd (true≢false (sym (among first.0 held) ∙ unopened))
+  by false true rest held opened same read = rest same.1 (λ some. read (omega arith))
+  by false false rest held opened same read = rest same read
 
 -- parts with a dictionary before them
 with_parts : (first second : List ℕ) (before : Place) (parts : List Place) → AgreeOn first second (with_dictionary before parts) → AgreeOn first second parts
@@ -143,7 +162,7 @@ module _ (first second : List ℕ) (long : length second ≡ length first) where
   offset_index_same None h = refl
   offset_index_same (Some place) h = ap (λ o. o >>= locations_in) (part_same place h.0)
 
-  pub locations_same : (column : ColumnChunkMetaData) → AgreeOn first second (parts_if column.offset_index) → locations second column ≡ locations first column
+  locations_same : (column : ColumnChunkMetaData) → AgreeOn first second (parts_if column.offset_index) → locations second column ≡ locations first column
   locations_same column h = ap (λ o. unwrap_or o []) (offset_index_same column.offset_index h)
 
   index_same : (type : PhysicalType) (place : Option Place) → AgreeOn first second (parts_if place) → index_at type second place ≡ index_at type first place
@@ -153,9 +172,11 @@ module _ (first second : List ℕ) (long : length second ≡ length first) where
   ends_same : (column : ColumnChunkMetaData) → AgreeOn first second (parts_if column.column_index) → column_ends second column ≡ column_ends first column
   ends_same column h = ap (λ o. o >>= ends_of_pages) (index_same (type_of column) column.column_index h)
 
-  pub named_same : (group : RowGroupMetaData) (field : Field) (column : ColumnChunkMetaData) → AgreeOn first second (offset_parts group field) → column_named group field.name ≡ Some column → locations second column ≡ locations first column
-  named_same group field column h named =
-      locations_same column (subst (λ o. AgreeOn first second (option_map_or (λ (column : ColumnChunkMetaData). parts_if column.offset_index) o [])) named h)
+  named_same : (group : RowGroupMetaData) (field : Field) → AgreeOn first second (offset_parts group field) → IfSome (column_named group field.name) (λ column. locations second column ≡ locations first column)
+  named_same group field h = by (column_named group field.name) h where
+    by : (o : Option ColumnChunkMetaData) → AgreeOn first second (option_map_or (λ (column : ColumnChunkMetaData). parts_if column.offset_index) o []) → IfSome o (λ column. locations second column ≡ locations first column)
+    by None h = tt
+    by (Some column) h = locations_same column h
 
   offset_causes_same : (group : RowGroupMetaData) (field : Field) → AgreeOn first second (offset_parts group field) → offset_causes_of_field second group field ≡ offset_causes_of_field first group field
   offset_causes_same group field h = by (column_named group field.name) h where
@@ -277,9 +298,9 @@ module _ (first second : List ℕ) (long : length second ≡ length first) where
 
   -- ---- a chunk
 
-  module _ (group : RowGroupMetaData) (column : ColumnChunkMetaData) (rows : List ℕ) where
-    abbrev type : PrimitiveType
-    type = column.descriptor.primitive_type
+  module _ (group : RowGroupMetaData) (column : ColumnChunkMetaData) (rows : List ℕ) (data_type : DataType) where
+    abbrev stored : PrimitiveType
+    stored = column.descriptor.primitive_type
 
     abbrev named_in : List ℕ → List (Interval × PageLocation)
     named_in bytes = zip (location_rows bytes group column) (locations bytes column)
@@ -290,8 +311,19 @@ module _ (first second : List ℕ) (long : length second ≡ length first) where
     abbrev first_place : Place → Option ℕ
     first_place chunk = first_location chunk.offset (locations first column)
 
-    pages_are : (bytes : List ℕ) (chunk : Place) → chunk_of bytes group column ≡ Some chunk → located_pages bytes group column ≡ pages_by (page_by bytes chunk) (named_in bytes)
-    pages_are bytes chunk placed = ap (λ o. option_map_or (λ place. map (named_page place (bytes_at bytes place)) (named_in bytes)) o []) placed
+    module _ (chunk : Place) where
+      pages_are : (bytes : List ℕ) → chunk_of bytes group column ≡ Some chunk → located_pages bytes group column ≡ pages_by (page_by bytes chunk) (named_in bytes)
+      pages_are bytes placed = ap (λ o. option_map_or (λ place. map (named_page place (bytes_at bytes place)) (named_in bytes)) o []) placed
+
+      before_is : (bytes : List ℕ) → chunk_of bytes group column ≡ Some chunk → dictionary_by_locations bytes group column ≡ dictionary_before chunk.offset (bytes_at bytes chunk) (locations bytes column)
+      before_is bytes placed = ap (λ (o : Option Place). option_map_or (λ (place : Place). dictionary_before place.offset (bytes_at bytes place) (locations bytes column)) o NoDictionary) placed
+
+      walked_is : (bytes : List ℕ) → chunk_of bytes group column ≡ Some chunk → walked_reading bytes group data_type column ≡ over stored data_type (bytes_at bytes chunk)
+      walked_is bytes placed = λ i. record { stored = stored; dictionary = option_map_or (λ place. chunk_dictionary (bytes_at bytes place)) (placed i) NoDictionary; data_type = data_type }
+
+      item_is : (bytes : List ℕ) → chunk_of bytes group column ≡ Some chunk → (row : ℕ)
+          → walked_item bytes group data_type column row ≡ item_among (over stored data_type (bytes_at bytes chunk)) (pages_of_chunk column.num_values (bytes_at bytes chunk)) row
+      item_is bytes placed row = λ i. item_among (walked_is bytes placed i) (option_map_or (λ place. pages_of_chunk column.num_values (bytes_at bytes place)) (placed i) []) row
 
     module _ (chunk : Place) (at_second : chunk_of second group column ≡ Some chunk) (at_first : chunk_of first group column ≡ Some chunk) where
       fits : after chunk ≤ length first
@@ -307,39 +339,45 @@ module _ (first second : List ℕ) (long : length second ≡ length first) where
             dictionary_same chunk (first_place chunk) fits (with_before first second (dictionary_part first chunk (first_place chunk)) (map (part_in_chunk chunk) (opened_locations first group rows column)) h
             (omega (arith, some, length-map (opened_locations first group rows column) (part_in_chunk chunk), length-map opened (λ (named : Interval × PageLocation). named.1))))
 
+        reading_same : 0 < length opened → located_reading second group data_type column ≡ located_reading first group data_type column
+        reading_same some =
+            let dictionary = before_is chunk second at_second ∙ ap (dictionary_before chunk.offset (bytes_at second chunk)) told ∙ (before some).0 ∙ sym (before_is chunk first at_first) in
+            λ i. record { stored = stored; dictionary = dictionary i; data_type = data_type }
+
         are_same : AreSame (page_by first chunk) (page_by second chunk) opened
         are_same = pages_same chunk opened fits in_opened
 
         second_pages : located_pages second group column ≡ pages_by (page_by second chunk) (named_in first)
-        second_pages = pages_are second chunk at_second ∙ (λ i. pages_by (page_by second chunk) (zip (rows_at (told i) group.num_rows) (told i)))
+        second_pages = pages_are chunk second at_second ∙ (λ i. pages_by (page_by second chunk) (zip (rows_at (told i) group.num_rows) (told i)))
 
         found_first : opened_located rows (located_pages first group column) ≡ map (page_by first chunk) opened
-        found_first = ap (opened_located rows) (pages_are first chunk at_first) ∙ opened_by rows (page_by first chunk) (named_in first)
+        found_first = ap (opened_located rows) (pages_are chunk first at_first) ∙ opened_by rows (page_by first chunk) (named_in first)
 
         found_same : opened_located rows (located_pages second group column) ≡ opened_located rows (located_pages first group column)
         found_same =
             ap (opened_located rows) second_pages ∙ opened_by rows (page_by second chunk) (named_in first)
             ∙ same_map (page_by first chunk) (page_by second chunk) opened are_same ∙ sym found_first
 
-        located_causes_same : located_causes second group rows column chunk ≡ located_causes first group rows column chunk
+        located_items_same : (row : ℕ) → IsAmong rows row → located_item second group data_type column row ≡ located_item first group data_type column row
+        located_items_same row among =
+            ap (λ pages. item_located (located_reading second group data_type column) pages row) second_pages
+            ∙ same_item (located_reading first group data_type column) (located_reading second group data_type column) rows row among (page_by first chunk) (page_by second chunk) (named_in first) are_same reading_same
+            ∙ sym (ap (λ pages. item_located (located_reading first group data_type column) pages row) (pages_are chunk first at_first))
+
+        located_causes_same : located_causes second group rows data_type column ≡ located_causes first group rows data_type column
         located_causes_same =
-            let shape = unless (has_shape (locations first column) group.num_rows) ExternalFormat in
-            ap (λ found. and_then (unless (has_shape found group.num_rows) ExternalFormat) (causes_of_opened type (dictionary_before chunk.offset (bytes_at second chunk) found) (opened_located rows (located_pages second group column)))) told
-            ∙ ap (λ pages. and_then shape (causes_of_opened type (dictionary_by second chunk (first_place chunk)) pages)) found_same
-            ∙ ap (and_then shape) (same_opened type (dictionary_by second chunk (first_place chunk)) (dictionary_by first chunk (first_place chunk)) (opened_located rows (located_pages first group column))
-            (λ some. (before (omega (arith, some, ap length found_first, length-map opened (page_by first chunk)))).0))
+            let pages = opened_located rows (located_pages first group column) in
+            let of_pages = ap (causes_of_opened (located_reading second group data_type column)) found_same
+            ∙ same_opened (located_reading second group data_type column) (located_reading first group data_type column) pages
+            (λ some. reading_same (omega (arith, some, ap length found_first, length-map opened (page_by first chunk)))) in
+            let of_rows = same_row_causes rows (located_item second group data_type column) (located_item first group data_type column) located_items_same in
+            λ i. and_then (unless (has_shape (told i) group.num_rows) ExternalFormat) (of_pages i ++ of_rows i)
 
         located_parts_same : located_parts second group rows column chunk ≡ located_parts first group rows column chunk
         located_parts_same =
             ap (λ found. with_dictionary (dictionary_part second chunk (first_location chunk.offset found)) (map (part_in_chunk chunk) (map (λ (named : Interval × PageLocation). named.1) (filter (names_some rows) (zip (rows_at found group.num_rows) found))))) told
             ∙ same_with (dictionary_part second chunk (first_place chunk)) (dictionary_part first chunk (first_place chunk)) (map (part_in_chunk chunk) (opened_locations first group rows column))
             (λ some. (before (omega (arith, some, length-map (opened_locations first group rows column) (part_in_chunk chunk), length-map opened (λ (named : Interval × PageLocation). named.1)))).1)
-
-        located_item_same : (row : ℕ) → IsAmong rows row → located_item second group column row ≡ located_item first group column row
-        located_item_same row among =
-            ap (λ pages. item_located type pages row) second_pages
-            ∙ same_item type rows row among (page_by first chunk) (page_by second chunk) (named_in first) are_same
-            ∙ sym (ap (λ pages. item_located type pages row) (pages_are first chunk at_first))
 
       -- ---- its pages one after another
 
@@ -348,24 +386,29 @@ module _ (first second : List ℕ) (long : length second ≡ length first) where
         walk = walk_alike column.num_values (bytes_at first chunk) (bytes_at second chunk) (chunk_length second chunk (omega (arith, fits, long)) ∙ sym (chunk_length first chunk fits))
             (front_alike (walked_length column.num_values (bytes_at first chunk)) chunk.length (drop chunk.offset first) (drop chunk.offset second) h.0)
 
-        walked_same : walked_pages second group column ≡ walked_pages first group column
-        walked_same =
-            ap (λ o. option_map_or (λ place. pages_of_chunk column.num_values (bytes_at second place)) o []) at_second ∙ walk.pages
-            ∙ sym (ap (λ o. option_map_or (λ place. pages_of_chunk column.num_values (bytes_at first place)) o []) at_first)
+        walked_items_same : (row : ℕ) → walked_item second group data_type column row ≡ walked_item first group data_type column row
+        walked_items_same row = item_is chunk second at_second row ∙ walk.items stored data_type row ∙ sym (item_is chunk first at_first row)
+
+        walked_causes_same : walked_causes second group rows data_type column chunk ≡ walked_causes first group rows data_type column chunk
+        walked_causes_same =
+            let of_pages = ap (λ reading. causes_of_pages reading column.num_values (bytes_at second chunk)) (walked_is chunk second at_second) ∙ walk.causes stored data_type
+            ∙ sym (ap (λ reading. causes_of_pages reading column.num_values (bytes_at first chunk)) (walked_is chunk first at_first)) in
+            let of_rows = same_row_causes rows (walked_item second group data_type column) (walked_item first group data_type column) (λ row among. walked_items_same row) in
+            λ i. of_pages i ++ of_rows i
 
     -- what is found of a column
-    abbrev item_by : Bool → List ℕ → ℕ → Option Cell
-    item_by by_pages bytes row = if by_pages then located_item bytes group column row else walked_item bytes group column row
+    abbrev item_by : Bool → List ℕ → ℕ → Option Item
+    item_by by_pages bytes row = if by_pages then located_item bytes group data_type column row else walked_item bytes group data_type column row
 
     abbrev opened_causes_by : Bool → List ℕ → Place → List Cause
-    opened_causes_by by_pages bytes chunk = if by_pages then located_causes bytes group rows column chunk else opened_causes (chunk_opened column (bytes_at bytes chunk))
+    opened_causes_by by_pages bytes chunk = if by_pages then located_causes bytes group rows data_type column else walked_causes bytes group rows data_type column chunk
 
     abbrev parts_by : Bool → List ℕ → Place → List Place
     parts_by by_pages bytes chunk = if by_pages then located_parts bytes group rows column chunk else walked_parts bytes column chunk
 
     -- a chunk of the second file is as in the first
     pub record IsSameChunk (by_pages : Bool) : Type 0 where
-      pub causes : causes_of_chunk by_pages second group rows column ≡ causes_of_chunk by_pages first group rows column
+      pub causes : causes_of_chunk by_pages second group rows data_type column ≡ causes_of_chunk by_pages first group rows data_type column
       pub parts : chunk_parts by_pages second group rows column ≡ chunk_parts by_pages first group rows column
       pub items : (row : ℕ) → IsAmong rows row → item_by by_pages second row ≡ item_by by_pages first row
 
@@ -375,7 +418,7 @@ module _ (first second : List ℕ) (long : length second ≡ length first) where
       damaged = ExternalFormat ∷ []
 
       causes_from : (b : Bool) (o : Option Place) → chunk_of second group column ≡ o → chunk_of first group column ≡ o → option_map_or (opened_causes_by b second) o damaged ≡ option_map_or (opened_causes_by b first) o damaged
-          → causes_of_chunk b second group rows column ≡ causes_of_chunk b first group rows column
+          → causes_of_chunk b second group rows data_type column ≡ causes_of_chunk b first group rows data_type column
       causes_from b o at_second at_first same =
           ap (λ o. and_then (chunk_causes column) (option_map_or (opened_causes_by b second) o damaged)) at_second ∙ ap (and_then (chunk_causes column)) same
           ∙ sym (ap (λ o. and_then (chunk_causes column) (option_map_or (opened_causes_by b first) o damaged)) at_first)
@@ -385,36 +428,77 @@ module _ (first second : List ℕ) (long : length second ≡ length first) where
       parts_from b o at_second at_first same =
           ap (λ o. option_map_or (parts_by b second) o []) at_second ∙ same ∙ sym (ap (λ o. option_map_or (parts_by b first) o []) at_first)
 
+      -- a column without a chunk has no pages
+      no_located : (bytes : List ℕ) → chunk_of bytes group column ≡ None → (row : ℕ) → located_item bytes group data_type column row ≡ None
+      no_located bytes none row =
+          ap (λ o. item_located (located_reading bytes group data_type column) (option_map_or (λ place. map (named_page place (bytes_at bytes place)) (named_in bytes)) o []) row) none
+
+      no_walked : (bytes : List ℕ) → chunk_of bytes group column ≡ None → (row : ℕ) → walked_item bytes group data_type column row ≡ None
+      no_walked bytes none row =
+          ap (λ o. item_among (walked_reading bytes group data_type column) (option_map_or (λ place. pages_of_chunk column.num_values (bytes_at bytes place)) o []) row) none
+
       go : (b : Bool) → (b ≡ true → locations second column ≡ locations first column) → (o : Option Place) → chunk_of second group column ≡ chunk_of first group column → chunk_of first group column ≡ o
           → AgreeOn first second (option_map_or (parts_by b first) o []) → IsSameChunk b
       go true told None same at h = record {
         causes = causes_from true None (same ∙ at) at refl;
         parts = parts_from true None (same ∙ at) at refl;
-        items = λ row among.
-            ap (λ o. item_located type (option_map_or (λ place. map (named_page place (bytes_at second place)) (named_in second)) o []) row) (same ∙ at)
-            ∙ sym (ap (λ o. item_located type (option_map_or (λ place. map (named_page place (bytes_at first place)) (named_in first)) o []) row) at);
+        items = λ row among. no_located second (same ∙ at) row ∙ sym (no_located first at row);
       }
       go false told None same at h = record {
         causes = causes_from false None (same ∙ at) at refl;
         parts = parts_from false None (same ∙ at) at refl;
-        items = λ row among.
-            ap (λ o. item_among type (option_map_or (λ place. pages_of_chunk column.num_values (bytes_at second place)) o []) row) (same ∙ at)
-            ∙ sym (ap (λ o. item_among type (option_map_or (λ place. pages_of_chunk column.num_values (bytes_at first place)) o []) row) at);
+        items = λ row among. no_walked second (same ∙ at) row ∙ sym (no_walked first at row);
       }
       go true told (Some chunk) same at h = record {
         causes = causes_from true (Some chunk) (same ∙ at) at (located_causes_same chunk (same ∙ at) at (told refl) h);
         parts = parts_from true (Some chunk) (same ∙ at) at (located_parts_same chunk (same ∙ at) at (told refl) h);
-        items = λ row among. located_item_same chunk (same ∙ at) at (told refl) h row among;
+        items = located_items_same chunk (same ∙ at) at (told refl) h;
       }
-      go false told (Some chunk) same at h =
-          let walk = walk chunk (same ∙ at) at h in
-          record {
-            causes = causes_from false (Some chunk) (same ∙ at) at (ap opened_causes (walk.lent type));
-            parts = parts_from false (Some chunk) (same ∙ at) at (ap (λ size. front_of chunk size ∷ []) walk.size);
-            items = λ row among. ap (λ pages. item_among type pages row) (walked_same chunk (same ∙ at) at h);
-          }
+      go false told (Some chunk) same at h = record {
+        causes = causes_from false (Some chunk) (same ∙ at) at (walked_causes_same chunk (same ∙ at) at h);
+        parts = parts_from false (Some chunk) (same ∙ at) at (ap (λ size. front_of chunk size ∷ []) (walk chunk (same ∙ at) at h).size);
+        items = λ row among. walked_items_same chunk (same ∙ at) at h row;
+      }
 
   -- ---- a column
+
+  module _ (by_pages : Bool) (group : RowGroupMetaData) (rows : List ℕ) (data_type : DataType) where
+    -- what a column gives that is read as nulls or not
+    abbrev causes_if : Bool → List ℕ → ColumnChunkMetaData → List Cause
+    causes_if null bytes column =
+        and_then (pair_causes column.descriptor.primitive_type data_type)
+        (if null then chunk_read_causes bytes group column else causes_of_chunk by_pages bytes group rows data_type column)
+
+    abbrev column_parts_if : Bool → List ℕ → Option ColumnChunkMetaData → List Place
+    column_parts_if null bytes column = if null then [] else option_map_or (chunk_parts by_pages bytes group rows) column []
+
+    abbrev cell_if : Bool → List ℕ → ℕ → ColumnChunkMetaData → Option Cell
+    cell_if null bytes row column =
+        option_and_then as_cell
+        (if null then given (nat_lt row group.num_rows) (Value Null)
+        else if by_pages then located_item bytes group data_type column row
+        else walked_item bytes group data_type column row)
+
+    record IsSameRead (null : Bool) (column : Option ColumnChunkMetaData) : Type 0 where
+      causes : option_map_or (causes_if null second) column (ExternalFormat ∷ []) ≡ option_map_or (causes_if null first) column (ExternalFormat ∷ [])
+      parts : column_parts_if null second column ≡ column_parts_if null first column
+      cells : (row : ℕ) → IsAmong rows row → option_and_then (cell_if null second row) column ≡ option_and_then (cell_if null first row) column
+
+    read_is_same : (null : Bool) (column : Option ColumnChunkMetaData) → (by_pages ≡ true → IfSome column (λ column. locations second column ≡ locations first column))
+        → AgreeOn first second (column_parts_if null first column) → IsSameRead null column
+    read_is_same null None told h = record { causes = refl; parts = refl; cells = λ row among. refl }
+    read_is_same true (Some column) told h = record {
+      causes = ap (λ (place : Option Place). and_then (pair_causes column.descriptor.primitive_type data_type) (and_then (chunk_causes column) (unless (is_some place) ExternalFormat))) (chunk_same group column);
+      parts = refl;
+      cells = λ row among. refl;
+    }
+    read_is_same false (Some column) told h =
+        let same = chunk_is_same group column rows data_type by_pages told h in
+        record {
+          causes = ap (and_then (pair_causes column.descriptor.primitive_type data_type)) same.causes;
+          parts = same.parts;
+          cells = λ row among. ap (option_and_then as_cell) (same.items row among);
+        }
 
   -- a column of the second file is as in the first
   pub record IsSameColumn (by_pages : Bool) (group : RowGroupMetaData) (rows : List ℕ) (field : Field) : Type 0 where
@@ -424,21 +508,6 @@ module _ (first second : List ℕ) (long : length second ≡ length first) where
 
   pub column_is_same : (by_pages : Bool) (group : RowGroupMetaData) (rows : List ℕ) (field : Field) → (by_pages ≡ true → AgreeOn first second (offset_parts group field))
       → AgreeOn first second (column_parts by_pages first group rows field) → IsSameColumn by_pages group rows field
-  column_is_same by_pages group rows field indexed h = go (column_named group field.name) refl h where
-    cells_by : (b : Bool) (o : Option ColumnChunkMetaData) → column_named group field.name ≡ o → (bytes : List ℕ) (row : ℕ) → given_cell b bytes group field row ≡ option_and_then (λ column. item_by group column rows b bytes row) o
-    cells_by true o named bytes row = ap (option_and_then (λ column. located_item bytes group column row)) named
-    cells_by false o named bytes row = ap (option_and_then (λ column. walked_item bytes group column row)) named
-
-    go : (o : Option ColumnChunkMetaData) → column_named group field.name ≡ o → AgreeOn first second (option_map_or (chunk_parts by_pages first group rows) o []) → IsSameColumn by_pages group rows field
-    go None named h = record {
-      causes = ap (λ o. option_map_or (causes_of_chunk by_pages second group rows) o (ExternalFormat ∷ [])) named ∙ sym (ap (λ o. option_map_or (causes_of_chunk by_pages first group rows) o (ExternalFormat ∷ [])) named);
-      parts = ap (λ o. option_map_or (chunk_parts by_pages second group rows) o []) named ∙ sym (ap (λ o. option_map_or (chunk_parts by_pages first group rows) o []) named);
-      cells = λ row among. cells_by by_pages None named second row ∙ sym (cells_by by_pages None named first row);
-    }
-    go (Some column) named h =
-        let same = chunk_is_same group column rows by_pages (λ yes. named_same group field column (indexed yes) named) h in
-        record {
-          causes = ap (λ o. option_map_or (causes_of_chunk by_pages second group rows) o (ExternalFormat ∷ [])) named ∙ same.causes ∙ sym (ap (λ o. option_map_or (causes_of_chunk by_pages first group rows) o (ExternalFormat ∷ [])) named);
-          parts = ap (λ o. option_map_or (chunk_parts by_pages second group rows) o []) named ∙ same.parts ∙ sym (ap (λ o. option_map_or (chunk_parts by_pages first group rows) o []) named);
-          cells = λ row among. cells_by by_pages (Some column) named second row ∙ same.items row among ∙ sym (cells_by by_pages (Some column) named first row);
-        }
+  column_is_same by_pages group rows field indexed h =
+      let same = read_is_same by_pages group rows field.data_type (is_null_type field.data_type) (column_named group field.name) (λ yes. named_same group field (indexed yes)) h in
+      record { causes = same.causes; parts = same.parts; cells = same.cells }

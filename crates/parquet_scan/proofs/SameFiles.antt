@@ -3,12 +3,12 @@ use Rattle.std.proofs.Common.{◌≡◌, ℕ, Bool, true, false, not, cond, List
 use Rattle.std.specs.Prelude.{filter, flat_map, zip, nat_lt, ◌&&◌, ◌||◌, option_and_then, option_map, if◌then◌else◌}
 use Rattle.std.specs.List.{AllByRecursion, list_all, range_with_len}
 use Rattle.std.specs.Option.{option_map_or}
-use Rattle.std.proofs.lemmas.Bool.{lt-ltb, or_right, true≢false}
+use Rattle.std.proofs.lemmas.Bool.{lt-ltb, true≢false}
 use Rattle.columns_core.specs.Causes.{Cause, ExternalFormat, and_then, is_empty}
 use Rattle.columns_core.specs.declared.cell.Cell.{Cell}
 use Rattle.columns_core.specs.declared.data_type.DataType.{DataType}
 use Rattle.columns_core.specs.declared.data_type.Field.{Field}
-use Rattle.parquet_base.specs.Intervals.{holds, maximal_runs}
+use Rattle.parquet_base.specs.Intervals.{maximal_runs}
 use Rattle.parquet_base.specs.declared.interval.Interval.{Interval}
 use Rattle.parquet_base.specs.Pieces.{cut}
 use Rattle.parquet_meta.specs.File.{footer, footer_place}
@@ -19,7 +19,6 @@ use Rattle.parquet_meta.proofs.EndLemmas.{same_ends}
 use Rattle.parquet_page.specs.Values.{all_some}
 use Rattle.parquet_scan.specs.Causes.{IsValid, causes, causes_of_column, causes_of_group, file_causes, index_causes, index_causes_of_group, metadata_causes, read_causes}
 use Rattle.parquet_scan.specs.Cells.{given_cell, given_chunk, given_chunks, given_column, group_chunks}
-use Rattle.parquet_scan.specs.Costs.{holds_any}
 use Rattle.parquet_scan.specs.Counting.{every_row}
 use Rattle.parquet_scan.specs.LookedAt.{AgreeOn, HaveSameScan, IsSameScan, bound_parts, column_parts, file_parts, group_parts, index_parts, index_parts_of_group, offset_parts, read_parts}
 use Rattle.parquet_scan.specs.Request.{Request}
@@ -27,7 +26,7 @@ use Rattle.parquet_scan.specs.Rows.{File, bound_keeps, file_with, first_rows, gi
 use Rattle.parquet_scan.specs.Scan.{kept_groups}
 use Rattle.parquet_scan.proofs.FileLemmas.{built_limit, built_size, nothing_first}
 use Rattle.parquet_scan.proofs.KeptLemmas.{all_or_none}
-use Rattle.parquet_scan.proofs.SameColumns.{IsAmong, IsSameColumn, agree_split, column_is_same, group_causes_same, group_keeps_same, same_flat}
+use Rattle.parquet_scan.proofs.SameColumns.{IsSameColumn, agree_split, column_is_same, group_causes_same, group_keeps_same, same_among, same_flat}
 
 -- ---- lists
 
@@ -38,13 +37,6 @@ filtered f test (x ∷ xs) = by (test x) (filtered f test xs) where
       → flat_map f (cond b (x ∷ filter test xs) (filter test xs)) ≡ (if b then f x else []) ++ flat_map (λ x. if test x then f x else []) xs
   by true rest = ap (λ found. f x ++ found) rest
   by false rest = rest
-
--- what is the same in rows that are among others
-among_all : {X : Type 0} (all : List ℕ) (f g : ℕ → X) → ((row : ℕ) → IsAmong all row → f row ≡ g row) → (rows : List ℕ) → ((run : Interval) → holds_any rows run ≡ true → holds_any all run ≡ true) → map f rows ≡ map g rows
-among_all all f g each [] within = refl
-among_all all f g each (row ∷ rows) within =
-    let own : f row ≡ g row = each row (λ run held. within run (ap (λ b. b || holds_any rows run) held)) in
-    λ i. own i ∷ among_all all f g each rows (λ run held. within run (or_right (holds run row) (holds_any rows run) held)) i
 
 module _ (first second : List ℕ) (long : length second ≡ length first) (request : Request) (metadata : FileMetaData) where
   abbrev by_pages : Bool
@@ -132,7 +124,7 @@ module _ (first second : List ℕ) (long : length second ≡ length first) (requ
   column_same : (group : RowGroupMetaData) (rows : List ℕ) (field : Field) → IsSameColumn first second long by_pages group rows field → given_column by_pages second group rows field ≡ given_column by_pages first group rows field
   column_same group rows field same =
       ap (λ cells. option_map (λ found. (field.data_type, found)) (all_some cells))
-      (among_all rows (given_cell by_pages second group field) (given_cell by_pages first group field) same.cells rows (λ run held. held))
+      (same_among rows (given_cell by_pages second group field) (given_cell by_pages first group field) same.cells)
 
   columns_same : (group : RowGroupMetaData) (rows : List ℕ) (fields : List Field) → AreSameFields group rows fields
       → map (given_column by_pages second group rows) fields ≡ map (given_column by_pages first group rows) fields

@@ -6,15 +6,17 @@ use Rattle.std.proofs.lemmas.List.{drop-take, take-append-drop, take-take, take_
 use Rattle.std.proofs.Math.Seq.{drop-append_seam, take-append_seam}
 use Rattle.std.proofs.lemmas.List.Sums.{sum_by-cons}
 use Rattle.parquet_base.specs.Reading.{◌>>=◌, given}
+use Rattle.columns_core.specs.declared.data_type.DataType.{DataType}
 use Rattle.parquet_meta.specs.declared.metadata.PrimitiveType.{PrimitiveType}
 use Rattle.parquet_meta.specs.declared.page_header.PageKind.{PageKind}
 use Rattle.parquet_meta.specs.declared.page_header.PageKind.TheVariants as kind
 use Rattle.parquet_thrift.specs.Front.{IsAtFront}
 use Rattle.parquet_page.specs.Chunk.{AnyPage, ChunkPage, DictionaryPage, NoDictionary, Walk, chunk_dictionary, chunk_pages, data_header, data_page_at, dictionary_at, dictionary_page, dictionary_size, if_defined, page_at, pages_from, pages_of_chunk, placed_pages, walk_on}
 use Rattle.parquet_page.specs.Content.{header_values}
-use Rattle.parquet_page.specs.Lent.{behind_dictionary, chunk_lent, lent_data}
 use Rattle.parquet_page.proofs.AloneLemmas.{before_rest, data_front, dictionary_front, exact_read}
 use Rattle.parquet_page.proofs.HeaderLemmas.{dictionary_measured}
+use Rattle.parquet_scan.specs.Causes.{causes_of_pages, causes_of_walk}
+use Rattle.parquet_scan.specs.Cells.{Reading, item_among}
 use Rattle.parquet_scan.specs.LookedAt.{walked_length}
 
 abbrev pub page_size : ChunkPage → ℕ
@@ -109,10 +111,15 @@ from_same (suc limit) (suc left) first second whole same = go (data_page_at (suc
 
 -- ---- a chunk
 
--- two chunks have the same pages
+-- how the pages of a chunk are read, over the dictionary that it begins with
+abbrev pub over : PrimitiveType → DataType → List ℕ → Reading
+over stored data_type chunk = record { stored = stored; dictionary = chunk_dictionary chunk; data_type = data_type }
+
+-- the pages of two chunks tell the same
 pub record IsSameWalk (count : ℕ) (first second : List ℕ) : Type 0 where
-  pub lent : (type : PrimitiveType) → chunk_lent type count second ≡ chunk_lent type count first
-  pub pages : pages_of_chunk count second ≡ pages_of_chunk count first
+  pub causes : (stored : PrimitiveType) (data_type : DataType) → causes_of_pages (over stored data_type second) count second ≡ causes_of_pages (over stored data_type first) count first
+  pub items : (stored : PrimitiveType) (data_type : DataType) (row : ℕ)
+      → item_among (over stored data_type second) (pages_of_chunk count second) row ≡ item_among (over stored data_type first) (pages_of_chunk count first) row
   pub size : walked_length count second ≡ walked_length count first
 
 -- chunks with the same dictionary and the same walk
@@ -122,10 +129,9 @@ record IsAlike (count : ℕ) (first second : List ℕ) : Type 0 where
   walk : chunk_pages count second ≡ chunk_pages count first
 
 alike : (more : ℕ) (first second : List ℕ) → length second ≡ length first → IsAlike (suc more) first second → IsSameWalk (suc more) first second
-unfolding chunk_lent
 alike more first second long is = record {
-  lent = λ type i. behind_dictionary (is.dictionary i) (lent_data type (is.walk i));
-  pages = λ i. placed_pages (is.size i) 0 (is.walk i).pages;
+  causes = λ stored data_type i. causes_of_walk (record { stored = stored; dictionary = is.dictionary i; data_type = data_type }) (is.walk i);
+  items = λ stored data_type row i. item_among (record { stored = stored; dictionary = is.dictionary i; data_type = data_type }) (placed_pages (is.size i) 0 (is.walk i).pages) row;
   size = λ i. if (is.walk i).is_whole then is.size i + sum_by page_size (is.walk i).pages else long i;
 }
 
@@ -193,8 +199,12 @@ whole_alike more first second long whole same = go (dictionary_at first) refl wh
 
 -- chunks that begin alike as far as they are walked over
 pub walk_alike : (count : ℕ) (first second : List ℕ) → length second ≡ length first → take (walked_length count first) second ≡ take (walked_length count first) first → IsSameWalk count first second
-unfolding chunk_lent
-walk_alike zero first second long same = record { lent = λ type. refl; pages = no_pages second ∙ sym (no_pages first); size = refl }
+walk_alike zero first second long same = record {
+  causes = λ stored data_type. refl;
+  items = λ stored data_type row.
+      ap (λ pages. item_among (over stored data_type second) pages row) (no_pages second) ∙ sym (ap (λ pages. item_among (over stored data_type first) pages row) (no_pages first));
+  size = refl;
+}
 walk_alike (suc more) first second long same = by (chunk_pages (suc more) first).is_whole refl same where
   by : (b : Bool) → (chunk_pages (suc more) first).is_whole ≡ b
       → take (if b then dictionary_size first + sum_by page_size (chunk_pages (suc more) first).pages else length first) second
@@ -203,4 +213,8 @@ walk_alike (suc more) first second long same = by (chunk_pages (suc more) first)
   by true whole same = alike more first second long (whole_alike more first second long whole same)
   by false part same =
       let equal : second ≡ first = sym (take_all (length first) second (omega (arith, long))) ∙ same ∙ take_all (length first) first (omega arith) in
-      record { lent = λ type. ap (chunk_lent type (suc more)) equal; pages = ap (pages_of_chunk (suc more)) equal; size = ap (walked_length (suc more)) equal }
+      record {
+        causes = λ stored data_type. ap (λ chunk. causes_of_pages (over stored data_type chunk) (suc more) chunk) equal;
+        items = λ stored data_type row. ap (λ chunk. item_among (over stored data_type chunk) (pages_of_chunk (suc more) chunk) row) equal;
+        size = ap (walked_length (suc more)) equal;
+      }

@@ -3,6 +3,7 @@ use Rattle.std.proofs.Common.{◌≡◌, ℕ, zero, suc, ◌+◌, ◌<◌, ◌�
 use Rattle.std.specs.Prelude.{Option, Some, None, zip, filter, ◌&&◌, ◌||◌, ◌==◌, nat_lt, IfSome, if◌then◌else◌}
 use Rattle.std.specs.List.{flat_map, list_all}
 use Rattle.columns_core.specs.Causes.{Cause, ExternalFormat, and_then, IsOneOf, IsWantOfMemory, cause_of}
+use Rattle.columns_core.specs.declared.data_type.DataType.{DataType}
 use Rattle.columns_core.specs.declared.data_type.Field.{Field}
 use Rattle.columns_core.specs.declared.error.Error.{Error}
 use Rattle.columns_core.specs.declared.error.Error.TheVariants as error
@@ -15,16 +16,12 @@ use Rattle.parquet_scan.specs.Scan.{FailsBy}
 use Rattle.std.specs.Option.{option_map_or}
 use Rattle.std.proofs.lemmas.Bool.{lt-ltb, eqb-true}
 use Rattle.std.proofs.lemmas.List.{drop_more}
-use Rattle.std.specs.Prelude.{option_map}
 use Rattle.parquet_base.specs.Intervals.{maximal_runs}
-use Rattle.parquet_meta.specs.Chunks.{chunk_causes}
-use Rattle.parquet_meta.specs.Places.{bytes_at}
-use Rattle.parquet_meta.specs.declared.metadata.Place.{Place}
 use Rattle.parquet_meta.specs.declared.metadata.ColumnChunkMetaData.{ColumnChunkMetaData}
-use Rattle.parquet_scan.specs.Causes.{causes_of_chunk, causes_of_column, chunk_opened, opened_causes}
-use Rattle.parquet_scan.specs.Cells.{chunk_of}
+use Rattle.parquet_scan.specs.Causes.{causes_of_chunk, causes_of_column, causes_of_read, chunk_read_causes, pair_causes}
+use Rattle.parquet_scan.specs.Cells.{is_null_type}
 use Rattle.parquet_scan.specs.Rows.{column_named}
-use Rattle.parquet_scan.proofs.CauseLemmas.{TellsOf, one_left, one_right, then_next}
+use Rattle.parquet_scan.proofs.CauseLemmas.{TellsOf, among_first, one_left, one_right, then_next}
 
 -- ---- pruning by pages
 
@@ -126,36 +123,31 @@ in_pair {X} {Y} (Some bytes) f xs ys i x y d h k e e' = λ o one.
     let same : (x, y) ≡ (get_or xs i x, get_or ys i d) = λ j. (e j, e' j) in
     pair_in xs ys i x d (f bytes) o h k (subst P same one)
 
-pub same_if : (told : Option (List ℕ)) (f : List ℕ → List Cause) → IfSome told (λ bytes. f bytes ≡ f bytes)
-same_if None f = tt
-same_if (Some bytes) f = refl
-
 -- no row passes a test that none passes
 pub no_runs : (rows : ℕ) → maximal_runs (λ row. false) rows ≡ []
 no_runs zero = refl
 no_runs (suc rows) = no_runs rows
 
--- ---- a column: its chunk, and the pages of it
+-- ---- a column
 
--- what is wrong with a column of a name is what is wrong with its chunk
+-- what is wrong with a column of a name is what is wrong with it as it is read
 pub of_column : (told : Option (List ℕ)) (by_pages : Bool) (group : RowGroupMetaData) (rows : List ℕ) (field : Field) (column : ColumnChunkMetaData) → column_named group field.name ≡ Some column
-    → IfSome told (λ bytes. causes_of_column by_pages bytes group rows field ≡ causes_of_chunk by_pages bytes group rows column)
+    → IfSome told (λ bytes. causes_of_column by_pages bytes group rows field ≡ causes_of_read by_pages bytes group rows field.data_type column)
 of_column None by_pages group rows field column named = tt
-of_column (Some bytes) by_pages group rows field column named = ap (λ found. option_map_or (causes_of_chunk by_pages bytes group rows) found (ExternalFormat ∷ [])) named
+of_column (Some bytes) by_pages group rows field column named = ap (λ found. option_map_or (causes_of_read by_pages bytes group rows field.data_type) found (ExternalFormat ∷ [])) named
 
-opened : (bytes : List ℕ) (group : RowGroupMetaData) (column : ColumnChunkMetaData) (o : Option Place) (chunk : List ℕ) → option_map (bytes_at bytes) o ≡ Some chunk
-    → option_map_or (λ place. opened_causes (chunk_opened column (bytes_at bytes place))) o (ExternalFormat ∷ []) ≡ opened_causes (chunk_opened column chunk)
-opened bytes group column None chunk e = absurd cc
-opened bytes group column (Some place) chunk e = ap (λ found. opened_causes (chunk_opened column found)) (some_same e) where
-  some_same : {x y : List ℕ} → Some x ≡ Some y → x ≡ y
-  some_same {x} {y} h = ap (λ o. option_map_or (λ found. found) o x) h
+-- what is wrong with one that is carried, read as nulls or not
+pub of_read : (told : Option (List ℕ)) (by_pages : Bool) (group : RowGroupMetaData) (rows : List ℕ) (data_type : DataType) (column : ColumnChunkMetaData) (nulls : Bool) → pair_causes column.descriptor.primitive_type data_type ≡ [] → is_null_type data_type ≡ nulls
+    → IfSome told (λ bytes. causes_of_read by_pages bytes group rows data_type column ≡ (if nulls then chunk_read_causes bytes group column else causes_of_chunk by_pages bytes group rows data_type column))
+of_read None by_pages group rows data_type column nulls pair is = tt
+of_read (Some bytes) by_pages group rows data_type column nulls pair is =
+    then_next (pair_causes column.descriptor.primitive_type data_type) (if is_null_type data_type then chunk_read_causes bytes group column else causes_of_chunk by_pages bytes group rows data_type column) pair
+    ∙ ap (λ b. if b then chunk_read_causes bytes group column else causes_of_chunk by_pages bytes group rows data_type column) is
 
--- what is wrong with a chunk that was read is what is wrong with its pages
-pub chunk_causes_are : (told : Option (List ℕ)) (group : RowGroupMetaData) (column : ColumnChunkMetaData) (rows chunk : List ℕ) → chunk_causes column ≡ []
-    → IfSome told (λ bytes. option_map (bytes_at bytes) (chunk_of bytes group column) ≡ Some chunk)
-    → IfSome told (λ bytes. causes_of_chunk false bytes group rows column ≡ opened_causes (chunk_opened column chunk))
-chunk_causes_are None group column rows chunk none e = tt
-chunk_causes_are (Some bytes) group column rows chunk none e = then_next (chunk_causes column) _ none ∙ opened bytes group column (chunk_of bytes group column) chunk e
+-- what is wrong with a first step is wrong with it and the next
+pub in_step : (told : Option (List ℕ)) (first : List Cause) (next : List ℕ → List Cause) → IfSome told (λ bytes. (o : Option Cause) → IsOneOf first o → IsOneOf (and_then first (next bytes)) o)
+in_step None first next = tt
+in_step (Some bytes) first next = among_first first (next bytes)
 
 -- want of memory may come at any time
 pub fails_by_memory : (told : Option (List ℕ)) (before now : ℕ) (whole : List ℕ → List Cause) (e : Error) → IsWantOfMemory e → FailsBy told before now whole e

@@ -27,9 +27,9 @@ use Rattle.parquet_scan.specs.declared.bound.Bound.{Bound}
 use Rattle.parquet_scan.specs.declared.groups.KnownEnds.{KnownEnds}
 use Rattle.parquet_scan.specs.Bound.{ends_keep, meets}
 use Rattle.parquet_scan.specs.Causes.{file_causes, index_causes, index_causes_of_bound, index_causes_of_group, metadata_causes, offset_causes_of_field, read_causes}
-use Rattle.parquet_scan.specs.Cells.{cell, walked_item}
+use Rattle.parquet_scan.specs.Cells.{cell, column_cell}
 use Rattle.parquet_scan.specs.Laws.{LosesNoRowOfValidFiles}
-use Rattle.parquet_scan.specs.NotBuilt.{is_built_field, is_built_request}
+use Rattle.parquet_scan.specs.NotBuilt.{is_built_bound, is_built_request, is_int32_field}
 use Rattle.parquet_scan.specs.Pages.{column_index_causes, location_rows, locations, locations_causes, page_ends, page_keeps, row_keeps}
 use Rattle.parquet_scan.specs.Request.{Request, are_values_of, bound_type, field_of, is_legal, is_legal_bound_of}
 use Rattle.parquet_scan.specs.Rows.{File, bound_keeps, column_named, file_with, group_counts, group_keeps, groups_of, kept, prunes_pages}
@@ -101,7 +101,7 @@ met_by : (fields : List Field) (bytes : List ℕ) (group : RowGroupMetaData) (ro
     → field_of fields bound ≡ Some field → cell bytes group field row ≡ o → IsSomeAnd o (λ item. IsTrue (meets bound item)) → Met fields bytes group row bound
 met_by fields bytes group row bound field None found e h = absurd h
 met_by fields bytes group row bound field (Some item) found e h =
-    let there = of_column (column_named group field.name) (λ column. walked_item bytes group column row) item e in
+    let there = of_column (column_named group field.name) (λ column. column_cell false bytes group field.data_type column row) item e in
     record { field = field; found = found; item = item; is_item = e; is_met = h; column = there.0; is_column = there.1 }
 
 met_in : (fields : List Field) (bytes : List ℕ) (group : RowGroupMetaData) (row : ℕ) (bound : Bound) (o : Option Field)
@@ -109,20 +109,19 @@ met_in : (fields : List Field) (bytes : List ℕ) (group : RowGroupMetaData) (ro
 met_in fields bytes group row bound None found h = absurd h
 met_in fields bytes group row bound (Some field) found h = met_by fields bytes group row bound field (cell bytes group field row) found refl h
 
-module _ (fields : List Field) (built : list_all is_built_field fields ≡ true) (bytes : List ℕ) (group : RowGroupMetaData) (row : ℕ) (below : row < group.num_rows) (bound : Bound)
-    (legal : is_legal_bound_of fields bound ≡ true) (met : Met fields bytes group row bound) where
+module _ (fields : List Field) (bytes : List ℕ) (group : RowGroupMetaData) (row : ℕ) (below : row < group.num_rows) (bound : Bound)
+    (built : is_built_bound fields bound ≡ true) (legal : is_legal_bound_of fields bound ≡ true) (met : Met fields bytes group row bound) where
   names : bound.field ≡ met.field.name
   names = (bytes_eq-Decides bound.field met.field.name).0 (find_passes (λ (field : Field). bytes_eq bound.field field.name) fields met.field met.found)
 
   is_column : column_named group bound.field ≡ Some met.column
   is_column = ap (column_named group) names ∙ met.is_column
 
-  is_built : is_built_field met.field ≡ true
-  is_built = find_holds (λ (field : Field). is_built_field field ≡ true) (λ (field : Field). bytes_eq bound.field field.name) fields met.field met.found
-      (recursion_from_All _ fields (AllPass-from_list_all is_built_field fields built))
+  is_int32 : is_int32_field met.field ≡ true
+  is_int32 = sym (ap (λ (o : Option Field). option_map_or is_int32_field o false) met.found) ∙ built
 
   numbers : IfSome bound.low IsNumber × IfSome bound.high IsNumber
-  numbers = bound_is_numbers met.field bound is_built (sym (ap (λ (o : Option Field). option_map_or (λ (field : Field). are_values_of (bound_type field) bound) o false) met.found) ∙ legal)
+  numbers = bound_is_numbers met.field bound is_int32 (sym (ap (λ (o : Option Field). option_map_or (λ (field : Field). are_values_of (bound_type field) bound) o false) met.found) ∙ legal)
 
   -- ends that are true of rows among which this one is keep it
   kept_by : (ends : KnownEnds) (start n : ℕ) → AreNumbers ends → start ≤ row → row < start + n → are_true ends (items_of bytes group met.field (range_with_len start n)) ≡ true → ends_keep ends n bound ≡ true
@@ -130,7 +129,7 @@ module _ (fields : List Field) (built : list_all is_built_field fields ≡ true)
       from_items IsNumber both_numbers ends.low ends.high ends.nulls n bound of_type.0 of_type.1 numbers.0 numbers.1
       (items_of bytes group met.field (range_with_len start n))
       (omega (arith, fewer_found (cell bytes group met.field) (range_with_len start n), length-range_with_len start n))
-      (items_are_numbers bytes group met.field (range_with_len start n)) true_of
+      (items_are_numbers bytes group met.field is_int32 (range_with_len start n)) true_of
       (any_found (meets bound) (cell bytes group met.field) start n row met.item low high met.is_item met.is_met)
 
   -- what is true of the column of the bound
@@ -161,29 +160,32 @@ module _ (fields : List Field) (built : list_all is_built_field fields ≡ true)
 
 -- ---- all bounds
 
-module _ (request : Request) (file : File) (built : list_all is_built_field request.fields ≡ true) (legal : list_all (is_legal_bound_of request.fields) request.bounds ≡ true)
+module _ (request : Request) (file : File) (built : list_all (is_built_bound request.fields) request.bounds ≡ true) (legal : list_all (is_legal_bound_of request.fields) request.bounds ≡ true)
     (group : RowGroupMetaData) (row : ℕ) (below : row < group.num_rows) (meets_all : MeetsAll request file.bytes group row) where
   met_at : (k : ℕ) (d : Bound) → k < length request.bounds → Met request.fields file.bytes group row (get_or request.bounds k d)
   met_at k d h = met_in request.fields file.bytes group row (get_or request.bounds k d) _ refl (meets_all k d h)
+
+  built_at : (k : ℕ) (d : Bound) → k < length request.bounds → is_built_bound request.fields (get_or request.bounds k d) ≡ true
+  built_at = AllPass-from_list_all (is_built_bound request.fields) request.bounds built
 
   legal_at : (k : ℕ) (d : Bound) → k < length request.bounds → is_legal_bound_of request.fields (get_or request.bounds k d) ≡ true
   legal_at = AllPass-from_list_all (is_legal_bound_of request.fields) request.bounds legal
 
   counts : All (OnBound (has_true_statistics file.bytes) request.fields group) request.bounds → group_counts request group ≡ true
   counts true_of = list_all-from_AllPass (group_keeps group) request.bounds (λ k d h.
-      group_kept request.fields built file.bytes group row below (get_or request.bounds k d) (legal_at k d h) (met_at k d h) (true_of k d h))
+      group_kept request.fields file.bytes group row below (get_or request.bounds k d) (built_at k d h) (legal_at k d h) (met_at k d h) (true_of k d h))
 
   pages_kept : index_causes_of_group request.fields request.bounds file.bytes group ≡ [] → All (OnBound (has_true_index file.bytes) request.fields group) request.bounds
       → list_all (bound_keeps file.bytes group row) request.bounds ≡ true
   pages_kept none true_of =
       let parts = append_nil (flat_map (offset_causes_of_field file.bytes group) request.fields) (flat_map (index_causes_of_bound file.bytes group) request.bounds) none in
       list_all-from_AllPass (bound_keeps file.bytes group row) request.bounds (λ k d h.
-      page_kept request.fields built file.bytes group row below (get_or request.bounds k d) (legal_at k d h) (met_at k d h)
+      page_kept request.fields file.bytes group row below (get_or request.bounds k d) (built_at k d h) (legal_at k d h) (met_at k d h)
       (nothing_of_each (offset_causes_of_field file.bytes group) request.fields parts.0) (nothing_of_each (index_causes_of_bound file.bytes group) request.bounds parts.1 k d h) (true_of k d h))
 
 -- ---- a valid file
 
-module _ (request : Request) (file : File) (built : list_all is_built_field request.fields ≡ true) (legal : list_all (is_legal_bound_of request.fields) request.bounds ≡ true)
+module _ (request : Request) (file : File) (built : list_all (is_built_bound request.fields) request.bounds ≡ true) (legal : list_all (is_legal_bound_of request.fields) request.bounds ≡ true)
     (none : index_causes request file ≡ []) (statistics : HasTrueStatistics request file) where
   -- the indexes of a group that counts have no cause
   index_at : (k : ℕ) (d : RowGroupMetaData) → k < length (groups_of file) → prunes_pages request (groups_of file) ≡ true → group_counts request (get_or (groups_of file) k d) ≡ true
@@ -214,7 +216,7 @@ of_metadata : (request : Request) (bytes : List ℕ) (damaged : List Cause) (o :
 of_metadata request bytes damaged None legal none = tt
 of_metadata request bytes damaged (Some metadata) legal none = λ statistics.
     let file = file_with bytes metadata in
-    let built = second_so (is_built_request request) (list_all is_built_field request.fields) (built_request request metadata (nothing_first (metadata_causes request metadata) _ none)) in
+    let built = second_so (is_built_request request) (list_all (is_built_bound request.fields) request.bounds) (built_request request metadata (nothing_first (metadata_causes request metadata) _ none)) in
     let indexes = nothing_first (index_causes request file) (read_causes request file) (nothing_next (metadata_causes request metadata) _ none) in
     loses_no_row request file built legal indexes statistics
 

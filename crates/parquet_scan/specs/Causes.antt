@@ -1,30 +1,32 @@
 -- What is wrong with a file for a request: the causes that the parts have which a scan has to look at. Each
 -- error comes only where its cause is among them, and a file without a cause is valid.
-use Rattle.std.specs.Prelude.{◌≡◌, ℕ, ◌-◌, Bool, false, Option, None, option_map, if◌then◌else◌, List, [], ◌∷◌, ◌++◌, filter, flat_map, length, map}
+use Rattle.std.specs.Prelude.{◌≡◌, ℕ, zero, suc, ◌&&◌, Bool, true, false, is_some, Option, None, option_and_then, option_map, if◌then◌else◌, List, [], ◌∷◌, ◌++◌, filter, flat_map, length, map, Result, Ok, Err}
 use Rattle.std.specs.List.{list_any}
 use Rattle.std.specs.Option.{option_map_or}
-use Rattle.columns_core.specs.Causes.{Cause, NotYetImplemented, ExternalFormat, unless, and_then}
+use Rattle.columns_core.specs.Causes.{Cause, NotYetImplemented, ExternalFormat, OutOfSpec, Overflow, unless, and_then}
+use Rattle.columns_core.specs.declared.cell.Cell.{Cell}
+use Rattle.columns_core.specs.declared.data_type.DataType.{DataType}
 use Rattle.columns_core.specs.declared.data_type.Field.{Field}
 use Rattle.parquet_base.specs.declared.interval.Interval.{Interval}
 use Rattle.parquet_base.specs.Intervals.{holds}
 use Rattle.parquet_meta.specs.declared.metadata.ColumnChunkMetaData.{ColumnChunkMetaData}
 use Rattle.parquet_meta.specs.declared.metadata.ColumnDescriptor.{ColumnDescriptor}
 use Rattle.parquet_meta.specs.declared.metadata.FileMetaData.{FileMetaData}
-use Rattle.parquet_meta.specs.declared.metadata.PageLocation.{PageLocation}
+use Rattle.parquet_meta.specs.declared.metadata.PhysicalType.{PhysicalType}
 use Rattle.parquet_meta.specs.declared.metadata.Place.{Place}
 use Rattle.parquet_meta.specs.declared.metadata.PrimitiveType.{PrimitiveType}
 use Rattle.parquet_meta.specs.declared.metadata.RowGroupMetaData.{RowGroupMetaData}
 use Rattle.parquet_meta.specs.Chunks.{chunk_causes}
 use Rattle.parquet_meta.specs.Places.{bytes_at}
-use Rattle.parquet_page.specs.Chunk.{ChunkPage, Dictionary, NoDictionary, Undefined, Defined}
-use Rattle.parquet_page.specs.Content.{Content, DataContent, DataOf, DictOf}
-use Rattle.parquet_page.specs.Lent.{Lent, chunk_lent}
-use Rattle.parquet_page.specs.Located.{located_dictionary}
-use Rattle.parquet_page.specs.Locations.{part_of}
+use Rattle.parquet_page.specs.Chunk.{ChunkPage, Dictionary, NoDictionary, Undefined, Defined, DictionaryPage, Walk, chunk_pages}
 use Rattle.parquet_page.specs.Opened.{page_causes}
+use Rattle.parquet_page.specs.Spelling.{dictionary_entries, has_plain_entries}
+use Rattle.flat_values.specs.Conversion.{Conversion, Item, Value, NotInRange, NotText}
+use Rattle.flat_values.specs.Outcomes.{dictionary_cells}
+use Rattle.flat_values.specs.Pairs.{conversion}
 use Rattle.parquet_scan.specs.declared.bound.Bound.{Bound}
-use Rattle.parquet_scan.specs.Cells.{chunk_of, content_of, located_pages}
-use Rattle.parquet_scan.specs.NotBuilt.{not_built, not_built_dictionary, not_built_page}
+use Rattle.parquet_scan.specs.Cells.{Reading, chunk_of, content_of, dictionary_content, is_null_type, located_item, located_pages, located_reading, walked_item, walked_reading}
+use Rattle.parquet_scan.specs.NotBuilt.{is_built_pair, not_built}
 use Rattle.parquet_scan.specs.Request.{Request, begins}
 use Rattle.parquet_scan.specs.Pages.{column_index_causes, locations, locations_causes}
 use Rattle.parquet_scan.specs.Rows.{File, file_of, groups_of, column_named, group_counts, prunes_pages, groups_read}
@@ -32,14 +34,18 @@ use Rattle.parquet_scan.specs.Statistics.{statistics_causes}
 
 -- ---- the requested fields, in the schema
 
--- A field that names columns has exactly one, which is flat.
-abbrev pub descriptor_causes : List ColumnDescriptor → List Cause
-descriptor_causes [] = []
-descriptor_causes (column ∷ []) = unless column.flat NotYetImplemented
-descriptor_causes (column ∷ more ∷ columns) = NotYetImplemented ∷ []
+-- a pair of types that is carried
+abbrev pub pair_causes : PrimitiveType → DataType → List Cause
+pair_causes stored data_type = unless (is_built_pair stored data_type && is_some (conversion stored data_type)) NotYetImplemented
+
+-- A field that names columns has exactly one, which is flat and may be read as the field's type.
+abbrev pub descriptor_causes : DataType → List ColumnDescriptor → List Cause
+descriptor_causes data_type [] = []
+descriptor_causes data_type (column ∷ []) = and_then (unless column.flat NotYetImplemented) (pair_causes column.primitive_type data_type)
+descriptor_causes data_type (column ∷ more ∷ columns) = NotYetImplemented ∷ []
 
 abbrev pub field_causes : List ColumnDescriptor → Field → List Cause
-field_causes columns field = descriptor_causes (filter (begins field.name) columns)
+field_causes columns field = descriptor_causes field.data_type (filter (begins field.name) columns)
 
 -- ---- the statistics of bounded fields, in every group
 
@@ -68,40 +74,64 @@ abbrev pub index_causes : Request → File → List Cause
 index_causes request file =
     if prunes_pages request (groups_of file) then flat_map (index_causes_of_group request.fields request.bounds file.bytes) (filter (group_counts request) (groups_of file)) else []
 
--- ---- the pages that are opened in a group that is read, and their dictionary
+-- ---- what is opened of a column
 
-abbrev pub causes_of_data : DataContent → List Cause
-causes_of_data page = and_then (not_built_page page) (page_causes None false None page)
+-- what is wrong with entries that are converted
+abbrev pub causes_of_entries : Result (List Cell) (List Cause) → List Cause
+causes_of_entries (Ok cells) = []
+causes_of_entries (Err causes) = causes
 
-abbrev pub causes_of_page : Content → List Cause
-causes_of_page (DataOf page) = causes_of_data page
-causes_of_page (DictOf page) = not_built_dictionary
+-- what is wrong with a dictionary page that is read by a rule: the encoding of its entries, or one of them
+abbrev pub causes_of_defined : PhysicalType → DictionaryPage → Conversion → List Cause
+causes_of_defined type page rule =
+    and_then (unless (has_plain_entries page.encoding) NotYetImplemented) (causes_of_entries (dictionary_cells rule type (record { body = page.body; num_values = page.num_values })))
 
--- All pages of a chunk are opened, and where one does not stand at its place the chunk is damaged. (Not yet: a limit, before
--- which only the first pages are opened.)
-abbrev pub opened_causes : Lent → List Cause
-opened_causes lent = flat_map causes_of_page lent.pages ++ lent.causes
+-- A dictionary that has to stand at the start of a chunk and does not is damaged.
+abbrev pub causes_of_dictionary : Reading → Dictionary → List Cause
+causes_of_dictionary reading NoDictionary = []
+causes_of_dictionary reading Undefined = ExternalFormat ∷ []
+causes_of_dictionary reading (Defined page) = option_map_or (causes_of_defined reading.stored.physical_type page) (conversion reading.stored reading.data_type) []
 
--- what is opened of a chunk
-abbrev pub chunk_opened : ColumnChunkMetaData → List ℕ → Lent
-chunk_opened column chunk = chunk_lent column.descriptor.primitive_type column.num_values chunk
+abbrev pub has_dictionary : Dictionary → Bool
+has_dictionary NoDictionary = false
+has_dictionary _ = true
 
--- ---- the located pages that are opened, and their dictionary
+-- how many entries a dictionary has, as far as they are spelled
+abbrev pub entry_count : PhysicalType → Dictionary → Option ℕ
+entry_count type dictionary = option_map length (option_and_then (dictionary_entries type) (dictionary_content dictionary))
 
--- No dictionary is read yet; one that has to stand at the start of the chunk and does not is damaged.
-abbrev pub causes_of_dictionary : Dictionary → List Cause
-causes_of_dictionary NoDictionary = []
-causes_of_dictionary Undefined = ExternalFormat ∷ []
-causes_of_dictionary (Defined page) = not_built_dictionary
+-- what is wrong with a data page as a whole
+abbrev pub causes_of_data : Reading → ChunkPage → List Cause
+causes_of_data reading page =
+    page_causes None (has_dictionary reading.dictionary) (entry_count reading.stored.physical_type reading.dictionary) (content_of reading.stored page)
 
--- how far behind the start of a chunk the first page is named; a chunk has nothing before its start
-abbrev pub first_location : ℕ → List PageLocation → Option ℕ
-first_location start [] = None
-first_location start (first ∷ others) = option_map (λ (part : Place). part.offset - start) (part_of first)
+-- what is wrong with an item
+abbrev pub item_causes : Item → List Cause
+item_causes (Value cell) = []
+item_causes NotInRange = Overflow ∷ []
+item_causes NotText = OutOfSpec ∷ []
 
--- the dictionary of a chunk that is read by locations
-abbrev pub dictionary_before : ℕ → List ℕ → List PageLocation → Dictionary
-dictionary_before start chunk locations = option_map_or (located_dictionary chunk) (first_location start locations) Undefined
+-- with the items of rows, as far as pages stand for them
+abbrev pub row_causes : (ℕ → Option Item) → List ℕ → List Cause
+row_causes item rows = flat_map (λ row. option_map_or item_causes (item row) []) rows
+
+-- ---- the pages of a chunk, one after another
+
+-- All pages of a chunk that has values are opened, and where one does not stand at its place the chunk is damaged. (Not yet: a
+-- limit, before which only the first pages are opened.)
+abbrev pub causes_of_walk : Reading → Walk → List Cause
+causes_of_walk reading walk = causes_of_dictionary reading reading.dictionary ++ flat_map (causes_of_data reading) walk.pages ++ unless walk.is_whole ExternalFormat
+
+abbrev pub causes_of_pages : Reading → ℕ → List ℕ → List Cause
+causes_of_pages reading zero chunk = []
+causes_of_pages reading (suc more) chunk = causes_of_walk reading (chunk_pages (suc more) chunk)
+
+abbrev pub walked_causes : List ℕ → RowGroupMetaData → List ℕ → DataType → ColumnChunkMetaData → Place → List Cause
+walked_causes bytes group rows data_type column place =
+    causes_of_pages (walked_reading bytes group data_type column) column.num_values (bytes_at bytes place)
+    ++ row_causes (walked_item bytes group data_type column) rows
+
+-- ---- located pages
 
 -- a page that holds one of these rows is opened
 abbrev pub is_opened : List ℕ → Interval × Option ChunkPage → Bool
@@ -111,32 +141,44 @@ abbrev pub opened_located : List ℕ → List (Interval × Option ChunkPage) →
 opened_located rows pages = map (λ (named : Interval × Option ChunkPage). named.1) (filter (is_opened rows) pages)
 
 -- It stands where it is named.
-abbrev pub causes_of_found : PrimitiveType → Option ChunkPage → List Cause
-causes_of_found type page = option_map_or (λ page. causes_of_data (content_of type page)) page (ExternalFormat ∷ [])
+abbrev pub causes_of_found : Reading → Option ChunkPage → List Cause
+causes_of_found reading page = option_map_or (causes_of_data reading) page (ExternalFormat ∷ [])
 
 -- Where a page is opened, so is the dictionary.
-abbrev pub causes_of_opened : PrimitiveType → Dictionary → List (Option ChunkPage) → List Cause
-causes_of_opened type before [] = []
-causes_of_opened type before (page ∷ pages) = causes_of_dictionary before ++ flat_map (causes_of_found type) (page ∷ pages)
+abbrev pub causes_of_opened : Reading → List (Option ChunkPage) → List Cause
+causes_of_opened reading [] = []
+causes_of_opened reading (page ∷ pages) = causes_of_dictionary reading reading.dictionary ++ flat_map (causes_of_found reading) (page ∷ pages)
 
 -- Which pages are opened is known only where the locations have their shape.
-abbrev pub located_causes : List ℕ → RowGroupMetaData → List ℕ → ColumnChunkMetaData → Place → List Cause
-located_causes bytes group rows column place =
+abbrev pub located_causes : List ℕ → RowGroupMetaData → List ℕ → DataType → ColumnChunkMetaData → List Cause
+located_causes bytes group rows data_type column =
     and_then (locations_causes bytes group column)
-    (causes_of_opened column.descriptor.primitive_type (dictionary_before place.offset (bytes_at bytes place) (locations bytes column)) (opened_located rows (located_pages bytes group column)))
+    (causes_of_opened (located_reading bytes group data_type column) (opened_located rows (located_pages bytes group column))
+    ++ row_causes (located_item bytes group data_type column) rows)
 
 -- ---- groups that are read
 
--- A chunk is one that is read, it has its place in the file, and what is opened of it has no cause.
-abbrev pub causes_of_chunk : Bool → List ℕ → RowGroupMetaData → List ℕ → ColumnChunkMetaData → List Cause
-causes_of_chunk by_pages bytes group rows column =
+-- what is wrong with a chunk before its pages are looked at: it is one that is read, and it has its place in the file
+abbrev pub chunk_read_causes : List ℕ → RowGroupMetaData → ColumnChunkMetaData → List Cause
+chunk_read_causes bytes group column = and_then (chunk_causes column) (unless (is_some (chunk_of bytes group column)) ExternalFormat)
+
+-- with what is opened of it
+abbrev pub causes_of_chunk : Bool → List ℕ → RowGroupMetaData → List ℕ → DataType → ColumnChunkMetaData → List Cause
+causes_of_chunk by_pages bytes group rows data_type column =
     and_then (chunk_causes column)
-    (option_map_or (λ place. if by_pages then located_causes bytes group rows column place else opened_causes (chunk_opened column (bytes_at bytes place)))
+    (option_map_or (λ place. if by_pages then located_causes bytes group rows data_type column else walked_causes bytes group rows data_type column place)
     (chunk_of bytes group column) (ExternalFormat ∷ []))
+
+-- No page of a column that is read as nulls is opened.
+abbrev pub causes_of_read : Bool → List ℕ → RowGroupMetaData → List ℕ → DataType → ColumnChunkMetaData → List Cause
+causes_of_read by_pages bytes group rows data_type column =
+    and_then (pair_causes column.descriptor.primitive_type data_type)
+    (if is_null_type data_type then chunk_read_causes bytes group column else causes_of_chunk by_pages bytes group rows data_type column)
 
 -- A group has a chunk for each column of the file.
 abbrev pub causes_of_column : Bool → List ℕ → RowGroupMetaData → List ℕ → Field → List Cause
-causes_of_column by_pages bytes group rows field = option_map_or (causes_of_chunk by_pages bytes group rows) (column_named group field.name) (ExternalFormat ∷ [])
+causes_of_column by_pages bytes group rows field =
+    option_map_or (causes_of_read by_pages bytes group rows field.data_type) (column_named group field.name) (ExternalFormat ∷ [])
 
 abbrev pub causes_of_group : Bool → List Field → List ℕ → RowGroupMetaData × List ℕ → List Cause
 causes_of_group by_pages fields bytes read = flat_map (causes_of_column by_pages bytes read.0 read.1) fields
@@ -149,7 +191,7 @@ read_causes request file = flat_map (causes_of_group (prunes_pages request (grou
 -- what is wrong with the metadata
 abbrev pub metadata_causes : Request → FileMetaData → List Cause
 metadata_causes request metadata =
-    and_then (not_built request metadata.columns) (flat_map (field_causes metadata.columns) request.fields ++ bounded_causes request.bounds metadata.row_groups)
+    and_then (not_built request) (flat_map (field_causes metadata.columns) request.fields ++ bounded_causes request.bounds metadata.row_groups)
 
 -- Which groups count is known only where the fields and the statistics have no cause, and which are read only where the indexes have none.
 abbrev pub file_causes : Request → File → List Cause

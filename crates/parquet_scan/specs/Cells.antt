@@ -1,13 +1,16 @@
 -- The cells of a file, each found alone in the page that holds its row.
-use Rattle.std.specs.Prelude.{ℕ, ◌-◌, Bool, List, [], length, map, find, flat_map, slice_get, zip, Option, Some, None, option_map, option_and_then, if◌then◌else◌}
+use Rattle.std.specs.Prelude.{ℕ, ◌-◌, nat_lt, Bool, true, false, List, [], ◌∷◌, length, map, find, flat_map, slice_get, zip, Option, Some, None, option_map, option_and_then, if◌then◌else◌}
 use Rattle.std.specs.Option.{option_map_or}
 use Rattle.parquet_base.specs.declared.interval.Interval.{Interval}
 use Rattle.parquet_base.specs.Intervals.{interval, holds}
 use Rattle.parquet_base.specs.Pieces.{cut}
+use Rattle.parquet_base.specs.Reading.{given}
 use Rattle.columns_core.specs.Array.{column_of}
 use Rattle.columns_core.specs.declared.array.Array.{Array}
-use Rattle.columns_core.specs.declared.cell.Cell.{Cell, Null, Int}
-use Rattle.columns_core.specs.declared.data_type.DataType.{DataType}
+use Rattle.columns_core.specs.Types.{Layer}
+use Rattle.columns_core.specs.declared.cell.Cell.{Cell, Null}
+use Rattle.columns_core.specs.declared.data_type.DataType.{DataType, out-DataType}
+use Rattle.columns_core.specs.declared.data_type.DataType.TheOpen.{DataType-F}
 use Rattle.columns_core.specs.declared.data_type.Field.{Field}
 use Rattle.parquet_meta.specs.declared.metadata.ColumnChunkMetaData.{ColumnChunkMetaData}
 use Rattle.parquet_meta.specs.declared.metadata.PageLocation.{PageLocation}
@@ -16,12 +19,14 @@ use Rattle.parquet_meta.specs.declared.metadata.PrimitiveType.{PrimitiveType}
 use Rattle.parquet_meta.specs.declared.metadata.RowGroupMetaData.{RowGroupMetaData}
 use Rattle.parquet_meta.specs.Chunks.{chunk_place}
 use Rattle.parquet_meta.specs.Places.{bytes_at}
-use Rattle.parquet_page.specs.Chunk.{ChunkPage, PlacedPage, pages_of_chunk}
-use Rattle.parquet_page.specs.Content.{DataContent, header_values}
-use Rattle.parquet_page.specs.Locations.{located}
-use Rattle.parquet_page.specs.Spelling.{spelled}
+use Rattle.parquet_page.specs.Chunk.{ChunkPage, Dictionary, NoDictionary, Undefined, Defined, PlacedPage, chunk_dictionary, pages_of_chunk}
+use Rattle.parquet_page.specs.Content.{DataContent, DictContent, header_values}
+use Rattle.parquet_page.specs.Located.{located_dictionary}
+use Rattle.parquet_page.specs.Locations.{located, part_of}
+use Rattle.parquet_page.specs.Spelling.{has_plain_entries}
 use Rattle.parquet_page.specs.Values.{all_some}
-use Rattle.parquet_page.specs.Stored.{Stored, Number}
+use Rattle.flat_values.specs.Conversion.{Item, Value, NotInRange, NotText}
+use Rattle.flat_values.specs.Items.{page_items}
 use Rattle.parquet_scan.specs.Request.{Request}
 use Rattle.parquet_scan.specs.Pages.{location_rows, locations}
 use Rattle.parquet_scan.specs.Rows.{File, column_named, given_groups, groups_of, prunes_pages}
@@ -36,45 +41,52 @@ chunk_of bytes group column = chunk_place (length bytes) group.num_rows column
 abbrev pub walked_pages : List ℕ → RowGroupMetaData → ColumnChunkMetaData → List PlacedPage
 walked_pages bytes group column = option_map_or (λ chunk. pages_of_chunk column.num_values (bytes_at bytes chunk)) (chunk_of bytes group column) []
 
--- ---- items
+-- ---- items of pages
 
--- A number is read as it is. (Not yet: other values.)
-abbrev pub converted : Stored → Option Cell
-converted (Number n) = Some (Int n)
-converted _ = None
-
-abbrev pub item_of : Option Stored → Option Cell
-item_of None = Some Null
-item_of (Some value) = converted value
+-- How the pages of a column are read: what they store, over which dictionary, and as which type.
+pub record Reading : Type 0 where
+  pub stored : PrimitiveType
+  pub dictionary : Dictionary
+  pub data_type : DataType
 
 abbrev pub content_of : PrimitiveType → ChunkPage → DataContent
-content_of type page = record { header = page.header; body = page.body; type = type; selected = None }
+content_of stored page = record { header = page.header; body = page.body; type = stored; selected = None }
 
--- what a page stands for (Not yet: keys of a dictionary.)
-abbrev pub page_values : PrimitiveType → ChunkPage → Option (List (Option Stored))
-page_values type page = spelled (content_of type page) None
+-- a dictionary, where one is defined and the encoding of its entries is read
+abbrev pub dictionary_content : Dictionary → Option DictContent
+dictionary_content (Defined page) = given (has_plain_entries page.encoding) (record { body = page.body; num_values = page.num_values })
+dictionary_content _ = None
+
+-- the items that a page stands for
+abbrev pub items_in : Reading → ChunkPage → Option (List Item)
+items_in reading page = page_items reading.data_type (dictionary_content reading.dictionary) (content_of reading.stored page)
 
 -- the item at a place of a page
-abbrev pub item_at : PrimitiveType → ℕ → ChunkPage → Option Cell
-item_at type place page = option_and_then (λ values. option_and_then item_of (slice_get values place)) (page_values type page)
+abbrev pub item_at : Reading → ℕ → ChunkPage → Option Item
+item_at reading place page = option_and_then (λ items. slice_get items place) (items_in reading page)
 
 -- the item of a row in a page
-abbrev pub item_in : PrimitiveType → ℕ → PlacedPage → Option Cell
-item_in type row placed = item_at type (row - placed.first_row) placed.page
+abbrev pub item_in : Reading → ℕ → PlacedPage → Option Item
+item_in reading row placed = item_at reading (row - placed.first_row) placed.page
+
+-- ---- pages that stand one after another
 
 abbrev pub rows_of : PlacedPage → Interval
 rows_of placed = interval placed.first_row (header_values placed.page.header)
 
--- the item of a row, in the page that holds it among those that stand one after another
-abbrev pub item_among : PrimitiveType → List PlacedPage → ℕ → Option Cell
-item_among type pages row = option_and_then (item_in type row) (find (λ (placed : PlacedPage). holds (rows_of placed) row) pages)
+-- the item of a row, in the page that holds it
+abbrev pub item_among : Reading → List PlacedPage → ℕ → Option Item
+item_among reading pages row = option_and_then (item_in reading row) (find (λ (placed : PlacedPage). holds (rows_of placed) row) pages)
 
-abbrev pub walked_item : List ℕ → RowGroupMetaData → ColumnChunkMetaData → ℕ → Option Cell
-walked_item bytes group column row = item_among column.descriptor.primitive_type (walked_pages bytes group column) row
+-- the dictionary page that a column's chunk begins with
+abbrev pub walked_dictionary : List ℕ → RowGroupMetaData → ColumnChunkMetaData → Dictionary
+walked_dictionary bytes group column = option_map_or (λ place. chunk_dictionary (bytes_at bytes place)) (chunk_of bytes group column) NoDictionary
 
--- the cell of a field in a row of a group
-abbrev pub cell : List ℕ → RowGroupMetaData → Field → ℕ → Option Cell
-cell bytes group field row = option_and_then (λ column. walked_item bytes group column row) (column_named group field.name)
+abbrev pub walked_reading : List ℕ → RowGroupMetaData → DataType → ColumnChunkMetaData → Reading
+walked_reading bytes group data_type column = record { stored = column.descriptor.primitive_type; dictionary = walked_dictionary bytes group column; data_type = data_type }
+
+abbrev pub walked_item : List ℕ → RowGroupMetaData → DataType → ColumnChunkMetaData → ℕ → Option Item
+walked_item bytes group data_type column row = item_among (walked_reading bytes group data_type column) (walked_pages bytes group column) row
 
 -- ---- located pages
 
@@ -87,20 +99,67 @@ located_pages bytes group column =
     option_map_or (λ place. map (named_page place (bytes_at bytes place)) (zip (location_rows bytes group column) (locations bytes column))) (chunk_of bytes group column) []
 
 -- the item of a row, in the page of the location that names it
-abbrev pub item_located : PrimitiveType → List (Interval × Option ChunkPage) → ℕ → Option Cell
-item_located type pages row =
-    option_and_then (λ (named : Interval × Option ChunkPage). option_and_then (item_at type (row - (named.0).start)) named.1)
+abbrev pub item_located : Reading → List (Interval × Option ChunkPage) → ℕ → Option Item
+item_located reading pages row =
+    option_and_then (λ (named : Interval × Option ChunkPage). option_and_then (item_at reading (row - (named.0).start)) named.1)
     (find (λ (named : Interval × Option ChunkPage). holds named.0 row) pages)
 
-abbrev pub located_item : List ℕ → RowGroupMetaData → ColumnChunkMetaData → ℕ → Option Cell
-located_item bytes group column row = item_located column.descriptor.primitive_type (located_pages bytes group column) row
+-- how far behind the start of a chunk the first page is named; a chunk has nothing before its start
+abbrev pub first_location : ℕ → List PageLocation → Option ℕ
+first_location start [] = None
+first_location start (first ∷ others) = option_map (λ (part : Place). part.offset - start) (part_of first)
 
-abbrev pub located_cell : List ℕ → RowGroupMetaData → Field → ℕ → Option Cell
-located_cell bytes group field row = option_and_then (λ column. located_item bytes group column row) (column_named group field.name)
+-- the dictionary of a chunk that is read by locations: it stands before the first of them
+abbrev pub dictionary_before : ℕ → List ℕ → List PageLocation → Dictionary
+dictionary_before start chunk locations = option_map_or (located_dictionary chunk) (first_location start locations) Undefined
 
--- the cell that is given: the located one, where rows are pruned by pages
+abbrev pub dictionary_by_locations : List ℕ → RowGroupMetaData → ColumnChunkMetaData → Dictionary
+dictionary_by_locations bytes group column = option_map_or (λ place. dictionary_before place.offset (bytes_at bytes place) (locations bytes column)) (chunk_of bytes group column) NoDictionary
+
+abbrev pub located_reading : List ℕ → RowGroupMetaData → DataType → ColumnChunkMetaData → Reading
+located_reading bytes group data_type column = record { stored = column.descriptor.primitive_type; dictionary = dictionary_by_locations bytes group column; data_type = data_type }
+
+abbrev pub located_item : List ℕ → RowGroupMetaData → DataType → ColumnChunkMetaData → ℕ → Option Item
+located_item bytes group data_type column row = item_located (located_reading bytes group data_type column) (located_pages bytes group column) row
+
+-- ---- cells
+
+abbrev pub is_null_at : Layer → Bool
+is_null_at DataType-F.Null = true
+is_null_at _ = false
+
+-- the type whose only items are nulls
+abbrev pub is_null_type : DataType → Bool
+is_null_type data_type = is_null_at (out-DataType data_type)
+
+-- The item of a row of a column: that of the located page, where rows are pruned by pages, and otherwise that of the page in the
+-- chunk's own order. A column that is read as nulls has one for each row of its group, whatever its pages are.
+abbrev pub column_item : Bool → List ℕ → RowGroupMetaData → DataType → ColumnChunkMetaData → ℕ → Option Item
+column_item by_pages bytes group data_type column row =
+    if is_null_type data_type then given (nat_lt row group.num_rows) (Value Null)
+    else if by_pages then located_item bytes group data_type column row
+    else walked_item bytes group data_type column row
+
+-- an item that is a cell
+abbrev pub as_cell : Item → Option Cell
+as_cell (Value cell) = Some cell
+as_cell NotInRange = None
+as_cell NotText = None
+
+abbrev pub column_cell : Bool → List ℕ → RowGroupMetaData → DataType → ColumnChunkMetaData → ℕ → Option Cell
+column_cell by_pages bytes group data_type column row = option_and_then as_cell (column_item by_pages bytes group data_type column row)
+
+-- the cell that is given for a field in a row of a group
 abbrev pub given_cell : Bool → List ℕ → RowGroupMetaData → Field → ℕ → Option Cell
-given_cell by_pages bytes group field row = if by_pages then located_cell bytes group field row else cell bytes group field row
+given_cell by_pages bytes group field row = option_and_then (λ column. column_cell by_pages bytes group field.data_type column row) (column_named group field.name)
+
+-- the cell of a field in a row of a group, in the page that stands in the chunk's own order
+abbrev pub cell : List ℕ → RowGroupMetaData → Field → ℕ → Option Cell
+cell = given_cell false
+
+-- the cell in the page of the location that names the row
+abbrev pub located_cell : List ℕ → RowGroupMetaData → Field → ℕ → Option Cell
+located_cell = given_cell true
 
 -- ---- chunks
 

@@ -2,6 +2,7 @@
 use Rattle.std.specs.Prelude.{ℕ, ◌+◌, ◌*◌, ◌==◌, ◌||◌, Bool, List, [], ◌∷◌, length, map, filter, sum_by, unwrap_or, zip, Option, if◌then◌else◌}
 use Rattle.std.specs.List.{list_any}
 use Rattle.std.specs.Option.{option_map_or}
+use Rattle.columns_core.specs.declared.data_type.DataType.{DataType}
 use Rattle.columns_core.specs.declared.data_type.Field.{Field}
 use Rattle.parquet_base.specs.declared.interval.Interval.{Interval}
 use Rattle.parquet_base.specs.Intervals.{holds}
@@ -15,8 +16,7 @@ use Rattle.parquet_page.specs.Chunk.{PlacedPage}
 use Rattle.parquet_page.specs.Content.{header_values}
 use Rattle.parquet_page.specs.Locations.{part_of}
 use Rattle.parquet_scan.specs.declared.bound.Bound.{Bound}
-use Rattle.parquet_scan.specs.Causes.{first_location}
-use Rattle.parquet_scan.specs.Cells.{rows_of, walked_pages}
+use Rattle.parquet_scan.specs.Cells.{first_location, is_null_type, rows_of, walked_pages}
 use Rattle.parquet_scan.specs.Pages.{location_rows, locations}
 use Rattle.parquet_scan.specs.Request.{Request}
 use Rattle.parquet_scan.specs.Rows.{File, column_named, group_counts, groups_of, groups_read, prunes_pages}
@@ -49,8 +49,12 @@ abbrev pub lent_of_chunk : Bool → List ℕ → RowGroupMetaData → List ℕ �
 lent_of_chunk by_pages bytes group rows column =
     (if by_pages then length (opened_locations bytes group rows column) else length (pages_walked bytes group rows column)) + 1
 
+-- of a column that is read as nulls none
+abbrev pub lent_of_read : Bool → List ℕ → RowGroupMetaData → List ℕ → DataType → ColumnChunkMetaData → ℕ
+lent_of_read by_pages bytes group rows data_type column = if is_null_type data_type then 0 else lent_of_chunk by_pages bytes group rows column
+
 abbrev pub lent_of_column : Bool → List ℕ → RowGroupMetaData → List ℕ → Field → ℕ
-lent_of_column by_pages bytes group rows field = option_map_or (lent_of_chunk by_pages bytes group rows) (column_named group field.name) 0
+lent_of_column by_pages bytes group rows field = option_map_or (lent_of_read by_pages bytes group rows field.data_type) (column_named group field.name) 0
 
 -- of a group with the rows that it gives
 abbrev pub lent_of_group : Bool → List Field → List ℕ → RowGroupMetaData × List ℕ → ℕ
@@ -86,8 +90,12 @@ abbrev pub taken_of_chunk : Bool → List ℕ → RowGroupMetaData → List ℕ 
 taken_of_chunk by_pages bytes group rows column =
     if by_pages then located_bytes (first_location (chunk_range column).offset (locations bytes column)) (opened_locations bytes group rows column) else (chunk_range column).length
 
+-- nothing of a column that is read as nulls
+abbrev pub taken_of_read : Bool → List ℕ → RowGroupMetaData → List ℕ → DataType → ColumnChunkMetaData → ℕ
+taken_of_read by_pages bytes group rows data_type column = if is_null_type data_type then 0 else taken_of_chunk by_pages bytes group rows column
+
 abbrev pub taken_of_column : Bool → List ℕ → RowGroupMetaData → List ℕ → Field → ℕ
-taken_of_column by_pages bytes group rows field = option_map_or (taken_of_chunk by_pages bytes group rows) (column_named group field.name) 0
+taken_of_column by_pages bytes group rows field = option_map_or (taken_of_read by_pages bytes group rows field.data_type) (column_named group field.name) 0
 
 abbrev pub taken_of_group : Bool → List Field → List ℕ → RowGroupMetaData × List ℕ → ℕ
 taken_of_group by_pages fields bytes read = sum_by (taken_of_column by_pages bytes read.0 read.1) fields

@@ -1,9 +1,8 @@
 -- Groups beside whether they count, and beside the runs of their rows that are kept.
-use Rattle.std.specs.Prelude.{ℕ, ℤ, Option, Some, map, Bool, not, ◌&&◌, ◌||◌, ◌==◌, ◌+◌, nat_lt, if◌then◌else◌, List, [], ◌∷◌, length, zip, flat_map, sum_by}
+use Rattle.std.specs.Prelude.{ℕ, Option, Some, map, Bool, not, ◌&&◌, ◌||◌, ◌==◌, ◌+◌, nat_lt, if◌then◌else◌, List, [], ◌∷◌, length, zip, flat_map, sum_by}
 use Rattle.std.specs.List.{list_all, range_with_len}
 use Rattle.columns_core.specs.Causes.{Cause, and_then}
 use Rattle.columns_core.specs.declared.array.Array.{Array}
-use Rattle.columns_core.specs.declared.array.Array.TheVariants as array
 use Rattle.columns_core.specs.declared.cell.Cell.{Cell}
 use Rattle.columns_core.specs.declared.data_type.DataType.{DataType}
 use Rattle.columns_core.specs.declared.data_type.Field.{Field}
@@ -15,7 +14,6 @@ use Rattle.parquet_scan.specs.declared.scanning.GroupKept.{GroupKept}
 use Rattle.parquet_scan.specs.Causes.{causes_of_group, index_causes_of_group}
 use Rattle.parquet_scan.specs.Cells.{columns_of, given_chunk}
 use Rattle.parquet_scan.specs.Costs.{column_index_of, lent_of_group, offset_index_of, taken_of_column}
-use Rattle.parquet_scan.specs.NotBuilt.{is_built_field}
 use Rattle.parquet_scan.specs.Rows.{has_column_index, has_offset_index, pages_keep}
 
 abbrev pub has_indexes_for : List Bound → List Field → RowGroupMetaData → Bool
@@ -132,14 +130,6 @@ scan_taken by_pages fields bounds bytes groups counts =
     indexes_taken_of_groups by_pages fields bounds groups counts + taken_of_groups by_pages fields bytes groups (kept_of_groups by_pages bounds bytes groups counts)
 
 -- ---- what was read
-
--- there is a field, and each is one of those that are built
-abbrev pub are_built : List Field → Bool
-are_built fields = nat_lt 0 (length fields) && list_all is_built_field fields
-
--- an array of numbers, none of them null
-abbrev pub number_array : DataType → List ℤ → Array
-number_array data_type numbers = array.Int32 (record { data_type = data_type; items = map Some numbers })
 
 -- chunks that were read, each as its columns
 abbrev pub shown : List (List Array) → List (Option (List (DataType × List Cell)))

@@ -4,12 +4,12 @@ pub mod Cells
 pub mod Column
 pub mod Costs
 pub mod Counting
+pub mod Decoded
 pub mod Exact
 pub mod Laws
 pub mod Located
 pub mod LookedAt
 pub mod NotBuilt
-pub mod Numbers
 pub mod Pages
 pub mod Request
 pub mod Rows

@@ -13,8 +13,8 @@ use Rattle.parquet_meta.specs.declared.metadata.RowGroupMetaData.{RowGroupMetaDa
 use Rattle.parquet_page.specs.Chunk.{ChunkPage, DictionaryPage, chunk_pages, dictionary_at, dictionary_size}
 use Rattle.parquet_page.specs.Locations.{part_of}
 use Rattle.parquet_scan.specs.declared.bound.Bound.{Bound}
-use Rattle.parquet_scan.specs.Causes.{IsValid, causes, first_location, index_causes, metadata_causes}
-use Rattle.parquet_scan.specs.Cells.{chunk_of, given_chunks}
+use Rattle.parquet_scan.specs.Causes.{IsValid, causes, index_causes, metadata_causes}
+use Rattle.parquet_scan.specs.Cells.{chunk_of, first_location, given_chunks, is_null_type}
 use Rattle.parquet_scan.specs.Costs.{opened_locations}
 use Rattle.parquet_scan.specs.Pages.{locations}
 use Rattle.parquet_scan.specs.Request.{Request}
@@ -86,8 +86,10 @@ abbrev pub chunk_parts : Bool → List ℕ → RowGroupMetaData → List ℕ →
 chunk_parts by_pages bytes group rows column =
     option_map_or (λ chunk. if by_pages then located_parts bytes group rows column chunk else walked_parts bytes column chunk) (chunk_of bytes group column) []
 
+-- Of a column that is read as nulls only the place of its chunk counts.
 abbrev pub column_parts : Bool → List ℕ → RowGroupMetaData → List ℕ → Field → List Place
-column_parts by_pages bytes group rows field = option_map_or (chunk_parts by_pages bytes group rows) (column_named group field.name) []
+column_parts by_pages bytes group rows field =
+    if is_null_type field.data_type then [] else option_map_or (chunk_parts by_pages bytes group rows) (column_named group field.name) []
 
 abbrev pub group_parts : Bool → List Field → List ℕ → RowGroupMetaData × List ℕ → List Place
 group_parts by_pages fields bytes read = flat_map (column_parts by_pages bytes read.0 read.1) fields

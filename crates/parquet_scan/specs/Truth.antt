@@ -40,7 +40,7 @@ are_true_ends low high nulls items =
 abbrev pub are_true : KnownEnds → List Cell → Bool
 are_true ends items = are_true_ends ends.low ends.high ends.nulls items
 
--- the items of some rows of a field, as far as pages spell them
+-- the cells of some rows of a field, for as many of them as have one
 abbrev pub items_of : List ℕ → RowGroupMetaData → Field → List ℕ → List Cell
 items_of bytes group field rows = filter_map (cell bytes group field) rows
 

@@ -1,16 +1,17 @@
 //! Which row groups count.
-ghost use Rattle.std.specs.Prelude.{◌≡◌, ◌&&◌, [], OnOk, IfOk, length, map, zip, flat_map, option_copied};
+ghost use Rattle.std.specs.Prelude.{◌≡◌, ◌&&◌, [], ◌∷◌, OnOk, IfOk, length, map, zip, flat_map, option_copied};
 ghost use Rattle.std.specs.List.{list_all};
 ghost use Rattle.columns_core.specs.Causes.{ComesOf};
 ghost use Rattle.parquet_scan.specs.Bound.{ends_keep as ends_keep_by};
-ghost use Rattle.parquet_scan.specs.Causes.{bounded_causes, bounded_causes_of_group, field_causes};
+ghost use Rattle.parquet_scan.specs.Causes.{bounded_causes, bounded_causes_of_group, descriptor_causes, field_causes};
 ghost use Rattle.parquet_scan.specs.Counting.{are_pruned as are_pruned_by, has_indexes_for, has_indexes_if_counting as has_indexes_if_counting_by};
 ghost use Rattle.parquet_scan.specs.Rows as spec;
 ghost use Rattle.parquet_scan.specs.Statistics as statistics;
 
+use crate::built::check_pair;
 use crate::request::begins;
 use crate::{Bound, Scalar, keeps};
-use columns_core::{Error, Field, Name, Part};
+use columns_core::{DataType, Error, Field, Name, Part};
 use parquet_meta::{ColumnChunkMetaData, ColumnDescriptor, RawStatistics, RowGroupMetaData};
 use std::alloc::Global;
 
@@ -22,7 +23,7 @@ pub(crate) struct KnownEnds {
     pub(crate) nulls: Option<u64>,
 }
 
-/// Refuses a field whose name begins several columns, or one that is not flat.
+/// Refuses a field whose name begins several columns, and one whose column is not flat or not read as its type.
 pub(crate) fn check_field(columns: &[ColumnDescriptor], field: &Field) -> Result<(), Error>
     ensures ok { OnOk result (field_causes columns.now field.now ≡ []) }
     ensures cause { ComesOf result (field_causes columns.now field.now) }
@@ -37,9 +38,19 @@ pub(crate) fn check_field(columns: &[ColumnDescriptor], field: &Field) -> Result
         }
     }
     match found {
-        Some(column) if !column.flat => Err(Error::NotYetImplemented(Part::Schema)),
-        _ => Ok(()),
+        Some(column) => check_descriptor(column, &field.data_type),
+        None => Ok(()),
     }
+}
+
+fn check_descriptor(column: &ColumnDescriptor, data_type: &DataType) -> Result<(), Error>
+    ensures ok { OnOk result (descriptor_causes data_type.now (column.now ∷ []) ≡ []) }
+    ensures cause { ComesOf result (descriptor_causes data_type.now (column.now ∷ [])) }
+{
+    if !column.flat {
+        return Err(Error::NotYetImplemented(Part::Schema));
+    }
+    check_pair(&column.primitive_type, data_type)
 }
 
 /// The column of this name in a group, where exactly one has it.
@@ -152,7 +163,7 @@ pub(crate) fn scalar_of(number: Option<i32>) -> Option<Scalar>
     }
 }
 
-/// Refuses fields whose names begin several columns, or one that is not flat.
+/// Refuses fields whose names begin several columns, or one that is not flat or not read as its type.
 pub(crate) fn check_fields(columns: &[ColumnDescriptor], fields: &[Field]) -> Result<(), Error>
     ensures ok { OnOk result (flat_map (field_causes columns.now) fields.now ≡ []) }
     ensures cause { ComesOf result (flat_map (field_causes columns.now) fields.now) }

@@ -4,7 +4,10 @@
 mod bound;
 mod built;
 mod column;
+mod decode;
+mod decode_pages;
 mod groups;
+mod into_column;
 mod kept;
 pub mod laws;
 mod located;

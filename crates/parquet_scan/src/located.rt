@@ -1,44 +1,51 @@
 //! Columns that are read by the locations of their pages.
-ghost use Rattle.std.specs.Prelude.{◌≡◌, ◌+◌, ◌-◌, ◌^◌, ◌≤◌, [], Some, true, filter, min, map, flat_map, length, sum_by, if◌then◌else◌, IfOk, IfErr, IfSome, IsTrue, OnOk};
+ghost use Rattle.std.specs.Prelude.{◌≡◌, ◌+◌, ◌-◌, ◌^◌, ◌≤◌, [], Some, true, filter, min, map, flat_map, length, sum_by, false, if◌then◌else◌, IfOk, IfErr, IfSome, IsTrue, OnOk};
+ghost use Rattle.columns_core.specs.Array.{cells, data_type_of};
 ghost use Rattle.columns_core.specs.Causes.{ComesOf};
-ghost use Rattle.columns_core.specs.declared.cell.Cell.{Int};
 ghost use Rattle.parquet_base.specs.Intervals.{is_well_shaped, rows_of};
 ghost use Rattle.parquet_meta.specs.Indexes.{offset_index_length};
 ghost use Rattle.parquet_meta.specs.Places.{lies_in as lies_in_by};
-ghost use Rattle.parquet_page.specs.Lent.{are_well_shaped, first_start as first_start_by, has_parts, is_wanted as is_wanted_by, located_parts, selected_count};
-ghost use Rattle.parquet_scan.specs.Causes.{causes_of_chunk, opened_causes};
-ghost use Rattle.parquet_scan.specs.Cells.{located_item};
+ghost use Rattle.parquet_page.specs.Lent.{are_well_shaped, first_start as first_start_by, has_parts, is_wanted as is_wanted_by, located_parts};
+ghost use Rattle.column_values.specs.Outcome.{Given, causes_in};
+ghost use Rattle.flat_values.specs.Conversion.{Value};
+ghost use Rattle.parquet_scan.specs.Causes.{causes_of_chunk, pair_causes};
+ghost use Rattle.parquet_scan.specs.Cells.{is_null_type, located_item};
 ghost use Rattle.parquet_scan.specs.Costs.{lent_of_chunk, taken_of_chunk};
+ghost use Rattle.parquet_scan.specs.Decoded.{column_rows};
 ghost use Rattle.parquet_scan.specs.Located.{entry_causes, entry_part, entry_place, part_causes, part_in, place_before as place_before_by};
-ghost use Rattle.parquet_scan.specs.Numbers.{all_numbers};
 ghost use Rattle.parquet_scan.specs.Scan.{FailsBy, RisesBy};
 
-use crate::column::{decode_pages, place_of_chunk};
+use crate::column::place_of_chunk;
+use crate::decode::decode_column;
 use crate::locations::read_locations;
-use columns_core::{Error, Part};
+use columns_core::{Array, DataType, Error, Part};
 use parquet_base::{Interval, Steps};
 use parquet_meta::{ColumnChunkMetaData, Place, RowGroupMetaData, Source, read_exact_at};
 use parquet_page::{FilteredPage, IndexedPageReader, Pages, select_pages};
 use std::alloc::Global;
 use std::sync::ledger::Ledger;
 
-/// The numbers of a column in these rows of a group, and how many pages were lent.
+/// The array of a column in these rows of a group, and how many pages were lent.
 pub(crate) fn read_located<S: Source, L: Ledger>(
     alloc: Global,
     source: &mut S,
     group: &RowGroupMetaData,
     intervals: &[Interval],
     column: &ColumnChunkMetaData,
+    data_type: &DataType,
     steps: &mut Steps<L>,
-) -> Result<(Vec<i32>, usize), Error>
+) -> Result<(Array, usize), Error>
     requires shaped { is_well_shaped intervals.now group.now.num_rows ≡ true }
+    requires pair { pair_causes column.now.descriptor.primitive_type data_type.now ≡ [] }
+    requires not_null { is_null_type data_type.now ≡ false }
     ensures same { S.told source.new ≡ S.told source.old }
     ensures same_source { S.kept source.new ≡ S.kept source.old }
     ensures later { S.faults source.old ≤ S.faults source.new }
-    ensures ok { OnOk result (IfSome (S.told source.old) (λ bytes. causes_of_chunk true bytes group.now (rows_of intervals.now) column.now ≡ [])) }
-    ensures fails { IfErr result (FailsBy (S.told source.old) (S.faults source.old) (S.faults source.new) (λ bytes. causes_of_chunk true bytes group.now (rows_of intervals.now) column.now)) }
-    ensures count { IfOk result (λ found. length found.0.items ≡ length (rows_of intervals.now)) }
-    ensures numbers { IfOk result (λ found. IfSome (S.told source.old) (λ bytes. map (located_item bytes group.now column.now) (rows_of intervals.now) ≡ map (λ n. Some (Int n)) found.0.items)) }
+    ensures ok { OnOk result (IfSome (S.told source.old) (λ bytes. causes_of_chunk true bytes group.now (rows_of intervals.now) data_type.now column.now ≡ [])) }
+    ensures fails { IfErr result (FailsBy (S.told source.old) (S.faults source.old) (S.faults source.new) (λ bytes. causes_of_chunk true bytes group.now (rows_of intervals.now) data_type.now column.now)) }
+    ensures typed { IfOk result (λ found. data_type_of found.0 ≡ data_type.now) }
+    ensures count { IfOk result (λ found. length (cells found.0) ≡ length (rows_of intervals.now)) }
+    ensures cells { IfOk result (λ found. IfSome (S.told source.old) (λ bytes. map (located_item bytes group.now data_type.now column.now) (rows_of intervals.now) ≡ map (λ cell. Some (Value cell)) (cells found.0))) }
     ensures ticks { steps.old ≤ steps.new }
     ensures pages { IfOk result (λ found. found.1 ≡ min (steps.new - steps.old) (2 ^ 64 - 1)) }
     ensures lent { OnOk result (RisesBy (S.told source.old) steps.old steps.new (λ bytes. lent_of_chunk true bytes group.now (rows_of intervals.now) column.now)) }
@@ -49,7 +56,7 @@ pub(crate) fn read_located<S: Source, L: Ledger>(
     let pages = select_pages(alloc, intervals, &locations, group.num_rows)?;
     let bodies = read_bodies(alloc, source, chunk, &pages)?;
     let before = read_before(alloc, source, chunk, &pages, !bodies.is_empty())?;
-    decode_located(alloc, column, before, bodies, pages, steps)
+    decode_located(alloc, column, data_type, before, bodies, pages, steps)
 }
 
 /// The parts of the pages that have selected rows, one by one.
@@ -160,28 +167,30 @@ fn lies_in(outer: Place, part: Place) -> bool
         && part.offset as u128 + part.length as u128 <= outer.offset as u128 + outer.length as u128
 }
 
-/// The numbers of the selected rows of pages in their parts, and how many pages were lent.
+/// The array of the selected rows of pages in their parts, and how many pages were lent.
 fn decode_located<L: Ledger>(
     alloc: Global,
     column: &ColumnChunkMetaData,
+    data_type: &DataType,
     before: Vec<u8>,
     bodies: Vec<Vec<u8>>,
     pages: Vec<FilteredPage>,
     steps: &mut Steps<L>,
-) -> Result<(Vec<i32>, usize), Error>
+) -> Result<(Array, usize), Error>
     requires shaped { are_well_shaped pages.items ≡ true }
     requires parts { has_parts pages.items (map (λ body. body.items) bodies.items) ≡ true }
-    ensures ok { OnOk result (opened_causes (located_parts column.now.descriptor.primitive_type (Some before.items) pages.items (map (λ body. body.items) bodies.items)) ≡ []) }
-    ensures cause { ComesOf result (opened_causes (located_parts column.now.descriptor.primitive_type (Some before.items) pages.items (map (λ body. body.items) bodies.items))) }
-    ensures numbers { IfOk result (λ found. found.0.items ≡ all_numbers (located_parts column.now.descriptor.primitive_type (Some before.items) pages.items (map (λ body. body.items) bodies.items)).pages) }
-    ensures count { IfOk result (λ found. length found.0.items ≡ selected_count pages.items) }
+    requires pair { pair_causes column.now.descriptor.primitive_type data_type.now ≡ [] }
+    requires not_null { is_null_type data_type.now ≡ false }
+    ensures typed { IfOk result (λ found. data_type_of found.0 ≡ data_type.now) }
+    ensures rows { IfOk result (λ found. let lent = located_parts column.now.descriptor.primitive_type (Some before.items) pages.items (map (λ body. body.items) bodies.items) in
+        map Given (cells found.0) ≡ column_rows column.now.descriptor.primitive_type data_type.now lent.pages lent.causes) }
+    ensures cause { let lent = located_parts column.now.descriptor.primitive_type (Some before.items) pages.items (map (λ body. body.items) bodies.items) in
+        ComesOf result (causes_in (column_rows column.now.descriptor.primitive_type data_type.now lent.pages lent.causes)) }
     ensures ticks { steps.old ≤ steps.new }
     ensures pages { IfOk result (λ found. found.1 ≡ min (steps.new - steps.old) (2 ^ 64 - 1)) }
     ensures lent { OnOk result (steps.new ≤ steps.old + (length (filter is_wanted_by pages.items) + 1)) }
 {
     let mut reader = IndexedPageReader::from_ranges(alloc, Some(before), bodies, column, pages)?;
-    let _rows = reader.rows();
-    let mut numbers = Vec::new(alloc);
-    let count = decode_pages(&mut reader, &mut numbers, steps)?;
-    Ok((numbers, count))
+    let stored = &column.descriptor.primitive_type;
+    decode_column(alloc, &mut reader, stored, data_type, steps)
 }

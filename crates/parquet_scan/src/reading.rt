@@ -1,25 +1,28 @@
 //! The chunks of groups.
-ghost use Rattle.std.specs.Prelude.{◌≡◌, ◌+◌, ◌-◌, ◌^◌, ◌≤◌, ◌++◌, [], ◌∷◌, Some, min, map, length, true, false, nat_lt, IfOk, IfErr, IfSome, IsTrue, OnOk};
-ghost use Rattle.columns_core.specs.Array.{cells, column_of};
+ghost use Rattle.std.specs.Prelude.{◌≡◌, ◌+◌, ◌-◌, ◌<◌, ◌^◌, ◌≤◌, ◌++◌, [], ◌∷◌, Some, min, map, length, replicate, true, false, nat_lt, if◌then◌else◌, IfOk, IfErr, IfSome, OnOk};
+ghost use Rattle.columns_core.specs.Array.{cells, column_of, data_type_of};
 ghost use Rattle.columns_core.specs.Causes.{IsWantOfMemory};
 ghost use Rattle.columns_core.specs.Chunk.{AreEqualLengths, rows_of as chunk_rows};
-ghost use Rattle.columns_core.specs.declared.cell.Cell.{Int};
-ghost use Rattle.columns_core.specs.ElementType.{stores_i32};
+ghost use Rattle.columns_core.specs.declared.cell.Cell.{Null};
+ghost use Rattle.columns_core.specs.declared.data_type.DataType as type;
+ghost use Rattle.flat_values.specs.Conversion.{Value};
 ghost use Rattle.parquet_base.specs.Intervals.{is_well_shaped};
 ghost use Rattle.parquet_meta.specs.Chunks.{chunk_range};
-ghost use Rattle.parquet_scan.specs.Causes.{causes_of_chunk, causes_of_column, causes_of_group};
-ghost use Rattle.parquet_scan.specs.Cells.{given_cell, given_chunk, given_column, walked_item};
-ghost use Rattle.parquet_scan.specs.Costs.{lent_of_chunk, lent_of_column, lent_of_group};
-ghost use Rattle.parquet_scan.specs.Counting.{are_built, are_shaped, causes_if_read, causes_of_groups, chunks_if_read, chunks_of_groups, column_taken, columns_taken, every_row, is_shaped, lent_if_read, lent_of_groups, number_array, rows_if_read, rows_of_groups, rows_read, shown, taken_if_read, taken_of_groups};
-ghost use Rattle.parquet_scan.specs.NotBuilt.{is_built_field};
+ghost use Rattle.parquet_meta.specs.Indexes.{offset_index_length};
+ghost use Rattle.parquet_scan.specs.Causes.{causes_of_chunk, causes_of_column, causes_of_group, causes_of_read, chunk_read_causes, pair_causes};
+ghost use Rattle.parquet_scan.specs.Cells.{column_cell, given_chunk, given_column, is_null_type as is_null_type_by, walked_item};
+ghost use Rattle.parquet_scan.specs.Costs.{lent_of_chunk, lent_of_column, lent_of_group, lent_of_read, taken_of_read};
+ghost use Rattle.parquet_scan.specs.Counting.{are_shaped, causes_if_read, causes_of_groups, chunks_if_read, chunks_of_groups, column_taken, columns_taken, every_row, is_shaped, lent_if_read, lent_of_groups, rows_if_read, rows_of_groups, rows_read, shown, taken_if_read, taken_of_groups};
 ghost use Rattle.parquet_scan.specs.Scan.{FailsBy, RisesBy, rows_in};
 
 use crate::GroupKept;
-use crate::column::{decode_pages, read_chunk};
+use crate::built::{check_pair, is_null_type};
+use crate::column::{place_of_chunk, read_chunk};
+use crate::decode::decode_column;
 use crate::groups::column_named;
 use crate::located::read_located;
-use columns_core::{Array, Chunk, DataType, Error, Field, Part, PrimitiveArray};
-use parquet_base::Steps;
+use columns_core::{Array, Chunk, DataType, Error, Field, NullArray, Part};
+use parquet_base::{Interval, Steps};
 use parquet_meta::{ColumnChunkMetaData, RowGroupMetaData, Source};
 use parquet_page::PageReader;
 use std::alloc::Global;
@@ -46,7 +49,7 @@ pub(crate) fn read_groups<S: Source, L: Ledger>(
 ) -> Result<(), Error>
     requires lengths { length kept.now ≡ length groups.now }
     requires shaped { are_shaped groups.now kept.now ≡ true }
-    requires built { IsTrue (are_built fields.now) }
+    requires some { 0 < length fields.now }
     ensures same { S.told source.new ≡ S.told source.old }
     ensures same_source { S.kept source.new ≡ S.kept source.old }
     ensures later { S.faults source.old ≤ S.faults source.new }
@@ -81,7 +84,7 @@ fn read_if_kept<S: Source, L: Ledger>(
     steps: &mut Steps<L>,
 ) -> Result<(), Error>
     requires shaped { is_shaped (group.now, kept.now) ≡ true }
-    requires built { IsTrue (are_built fields.now) }
+    requires some { 0 < length fields.now }
     ensures same { S.told source.new ≡ S.told source.old }
     ensures same_source { S.kept source.new ≡ S.kept source.old }
     ensures later { S.faults source.old ≤ S.faults source.new }
@@ -120,7 +123,7 @@ fn read_group<S: Source, L: Ledger>(
     steps: &mut Steps<L>,
 ) -> Result<(), Error>
     requires shaped { is_well_shaped kept.now.intervals group.now.num_rows ≡ true }
-    requires built { IsTrue (are_built fields.now) }
+    requires some { 0 < length fields.now }
     ensures same { S.told source.new ≡ S.told source.old }
     ensures same_source { S.kept source.new ≡ S.kept source.old }
     ensures later { S.faults source.old ≤ S.faults source.new }
@@ -149,7 +152,7 @@ fn read_arrays<S: Source, L: Ledger>(
     steps: &mut Steps<L>,
 ) -> Result<(Vec<Array>, usize), Error>
     requires shaped { is_well_shaped kept.now.intervals group.now.num_rows ≡ true }
-    requires built { IsTrue (are_built fields.now) }
+    requires some { 0 < length fields.now }
     ensures same { S.told source.new ≡ S.told source.old }
     ensures same_source { S.kept source.new ≡ S.kept source.old }
     ensures later { S.faults source.old ≤ S.faults source.new }
@@ -184,7 +187,6 @@ fn read_array<S: Source, L: Ledger>(
     steps: &mut Steps<L>,
 ) -> Result<(Array, usize), Error>
     requires shaped { is_well_shaped kept.now.intervals group.now.num_rows ≡ true }
-    requires built { IsTrue (is_built_field field.now) }
     ensures same { S.told source.new ≡ S.told source.old }
     ensures same_source { S.kept source.new ≡ S.kept source.old }
     ensures later { S.faults source.old ≤ S.faults source.new }
@@ -197,75 +199,77 @@ fn read_array<S: Source, L: Ledger>(
     ensures lent { OnOk result (RisesBy (S.told source.old) steps.old steps.new (λ bytes. lent_of_column by_pages bytes group.now (rows_read by_pages group.now kept.now.intervals) field.now)) }
     ensures taken { OnOk result (RisesBy (S.told source.old) (S.taken source.old) (S.taken source.new) (λ bytes. column_taken by_pages bytes group.now (rows_read by_pages group.now kept.now.intervals) field.now)) }
 {
-    let (numbers, pages) = read_column(alloc, source, group, kept, by_pages, field, steps)?;
-    let array = array_of(field.data_type.try_clone(alloc)?, numbers)?;
-    Ok((array, pages))
+    let Some(column) = column_named(group, &field.name) else {
+        return Err(Error::ExternalFormat(Part::Group));
+    };
+    read_column(
+        alloc,
+        source,
+        group,
+        kept,
+        by_pages,
+        column,
+        &field.data_type,
+        steps,
+    )
 }
 
-/// The array of numbers of a type that stores them.
-fn array_of(data_type: DataType, numbers: Vec<i32>) -> Result<Array, Error>
-    requires { IsTrue (stores_i32 data_type) }
-    ensures array { IfOk result (λ array. array ≡ number_array data_type numbers.items) }
-    ensures stored { IfErr result (λ _. ⊥) }
-{
-    let array = PrimitiveArray::try_new(data_type, numbers, None)?;
-    Ok(Array::Int32(array))
-}
-
-/// The numbers of a column in the rows of a group that are read, and how many pages were lent.
+/// The array of a column in the rows of a group that are read, and how many pages were lent.
 fn read_column<S: Source, L: Ledger>(
     alloc: Global,
     source: &mut S,
     group: &RowGroupMetaData,
     kept: &GroupKept,
     by_pages: bool,
-    field: &Field,
+    column: &ColumnChunkMetaData,
+    data_type: &DataType,
     steps: &mut Steps<L>,
-) -> Result<(Vec<i32>, usize), Error>
+) -> Result<(Array, usize), Error>
     requires shaped { is_well_shaped kept.now.intervals group.now.num_rows ≡ true }
     ensures same { S.told source.new ≡ S.told source.old }
     ensures same_source { S.kept source.new ≡ S.kept source.old }
     ensures later { S.faults source.old ≤ S.faults source.new }
-    ensures ok { OnOk result (IfSome (S.told source.old) (λ bytes. causes_of_column by_pages bytes group.now (rows_read by_pages group.now kept.now.intervals) field.now ≡ [])) }
-    ensures fails { IfErr result (FailsBy (S.told source.old) (S.faults source.old) (S.faults source.new) (λ bytes. causes_of_column by_pages bytes group.now (rows_read by_pages group.now kept.now.intervals) field.now)) }
-    ensures count { IfOk result (λ found. length found.0.items ≡ length (rows_read by_pages group.now kept.now.intervals)) }
-    ensures numbers { IfOk result (λ found. IfSome (S.told source.old) (λ bytes. map (given_cell by_pages bytes group.now field.now) (rows_read by_pages group.now kept.now.intervals) ≡ map (λ n. Some (Int n)) found.0.items)) }
+    ensures ok { OnOk result (IfSome (S.told source.old) (λ bytes. causes_of_read by_pages bytes group.now (rows_read by_pages group.now kept.now.intervals) data_type.now column.now ≡ [])) }
+    ensures fails { IfErr result (FailsBy (S.told source.old) (S.faults source.old) (S.faults source.new) (λ bytes. causes_of_read by_pages bytes group.now (rows_read by_pages group.now kept.now.intervals) data_type.now column.now)) }
+    ensures typed { IfOk result (λ found. data_type_of found.0 ≡ data_type.now) }
+    ensures count { IfOk result (λ found. length (cells found.0) ≡ length (rows_read by_pages group.now kept.now.intervals)) }
+    ensures cells { IfOk result (λ found. IfSome (S.told source.old) (λ bytes. map (column_cell by_pages bytes group.now data_type.now column.now) (rows_read by_pages group.now kept.now.intervals) ≡ map Some (cells found.0))) }
     ensures ticks { steps.old ≤ steps.new }
     ensures pages { IfOk result (λ found. found.1 ≡ min (steps.new - steps.old) (2 ^ 64 - 1)) }
-    ensures lent { OnOk result (RisesBy (S.told source.old) steps.old steps.new (λ bytes. lent_of_column by_pages bytes group.now (rows_read by_pages group.now kept.now.intervals) field.now)) }
-    ensures taken { OnOk result (RisesBy (S.told source.old) (S.taken source.old) (S.taken source.new) (λ bytes. column_taken by_pages bytes group.now (rows_read by_pages group.now kept.now.intervals) field.now)) }
+    ensures lent { OnOk result (RisesBy (S.told source.old) steps.old steps.new (λ bytes. lent_of_read by_pages bytes group.now (rows_read by_pages group.now kept.now.intervals) data_type.now column.now)) }
+    ensures taken { OnOk result (RisesBy (S.told source.old) (S.taken source.old) (S.taken source.new) (λ bytes. (if by_pages then offset_index_length column.now else 0) + taken_of_read by_pages bytes group.now (rows_read by_pages group.now kept.now.intervals) data_type.now column.now)) }
 {
-    let Some(column) = column_named(group, &field.name) else {
-        return Err(Error::ExternalFormat(Part::Group));
-    };
-    if by_pages {
-        return read_located(
-            alloc,
-            source,
-            group,
-            kept.intervals.as_slice(),
-            column,
-            steps,
-        );
+    check_pair(&column.descriptor.primitive_type, data_type)?;
+    if is_null_type(data_type) {
+        let rows = count_of_rows(group, kept.intervals.as_slice(), by_pages);
+        return read_nulls(source, group, column, rows);
     }
-    read_whole(alloc, source, group, column, steps)
+    if by_pages {
+        let intervals = kept.intervals.as_slice();
+        return read_located(alloc, source, group, intervals, column, data_type, steps);
+    }
+    read_whole(alloc, source, group, column, data_type, steps)
 }
 
-/// The numbers of a column in all rows of a group, and how many pages were lent.
+/// The array of a column in all rows of a group, and how many pages were lent.
 fn read_whole<S: Source, L: Ledger>(
     alloc: Global,
     source: &mut S,
     group: &RowGroupMetaData,
     column: &ColumnChunkMetaData,
+    data_type: &DataType,
     steps: &mut Steps<L>,
-) -> Result<(Vec<i32>, usize), Error>
+) -> Result<(Array, usize), Error>
+    requires pair { pair_causes column.now.descriptor.primitive_type data_type.now ≡ [] }
+    requires not_null { is_null_type_by data_type.now ≡ false }
     ensures same { S.told source.new ≡ S.told source.old }
     ensures same_source { S.kept source.new ≡ S.kept source.old }
     ensures later { S.faults source.old ≤ S.faults source.new }
-    ensures ok { OnOk result (IfSome (S.told source.old) (λ bytes. causes_of_chunk false bytes group.now (every_row group.now) column.now ≡ [])) }
-    ensures fails { IfErr result (FailsBy (S.told source.old) (S.faults source.old) (S.faults source.new) (λ bytes. causes_of_chunk false bytes group.now (every_row group.now) column.now)) }
-    ensures count { IfOk result (λ found. length found.0.items ≡ group.now.num_rows) }
-    ensures numbers { IfOk result (λ found. IfSome (S.told source.old) (λ bytes. map (walked_item bytes group.now column.now) (every_row group.now) ≡ map (λ n. Some (Int n)) found.0.items)) }
+    ensures ok { OnOk result (IfSome (S.told source.old) (λ bytes. causes_of_chunk false bytes group.now (every_row group.now) data_type.now column.now ≡ [])) }
+    ensures fails { IfErr result (FailsBy (S.told source.old) (S.faults source.old) (S.faults source.new) (λ bytes. causes_of_chunk false bytes group.now (every_row group.now) data_type.now column.now)) }
+    ensures typed { IfOk result (λ found. data_type_of found.0 ≡ data_type.now) }
+    ensures count { IfOk result (λ found. length (cells found.0) ≡ group.now.num_rows) }
+    ensures cells { IfOk result (λ found. IfSome (S.told source.old) (λ bytes. map (walked_item bytes group.now data_type.now column.now) (every_row group.now) ≡ map (λ cell. Some (Value cell)) (cells found.0))) }
     ensures ticks { steps.old ≤ steps.new }
     ensures pages { IfOk result (λ found. found.1 ≡ min (steps.new - steps.old) (2 ^ 64 - 1)) }
     ensures lent { OnOk result (RisesBy (S.told source.old) steps.old steps.new (λ bytes. lent_of_chunk false bytes group.now (every_row group.now) column.now)) }
@@ -273,9 +277,41 @@ fn read_whole<S: Source, L: Ledger>(
 {
     let bytes = read_chunk(alloc, source, group, column)?;
     let mut reader = PageReader::new(alloc, bytes, column)?;
-    let mut numbers = Vec::new(alloc);
-    let pages = decode_pages(&mut reader, &mut numbers, steps)?;
-    Ok((numbers, pages))
+    let stored = &column.descriptor.primitive_type;
+    decode_column(alloc, &mut reader, stored, data_type, steps)
+}
+
+/// How many rows of a group are read.
+fn count_of_rows(group: &RowGroupMetaData, intervals: &[Interval], by_pages: bool) -> usize
+    requires { is_well_shaped intervals.now group.now.num_rows ≡ true }
+    ensures { result ≡ length (rows_read by_pages group.now intervals.now) }
+{
+    let all = group.num_rows;
+    if by_pages {
+        intervals.iter().map(|run| run.length).sum()
+    } else {
+        all
+    }
+}
+
+/// The nulls of a column that is read as nulls, of which no page is looked at.
+fn read_nulls<S: Source>(
+    source: &mut S,
+    group: &RowGroupMetaData,
+    column: &ColumnChunkMetaData,
+    rows: usize,
+) -> Result<(Array, usize), Error>
+    ensures same { S.told source.new ≡ S.told source.old }
+    ensures same_source { S.kept source.new ≡ S.kept source.old }
+    ensures later { S.faults source.old ≤ S.faults source.new }
+    ensures ok { OnOk result (IfSome (S.told source.old) (λ bytes. chunk_read_causes bytes group.now column.now ≡ [])) }
+    ensures fails { IfErr result (FailsBy (S.told source.old) (S.faults source.old) (S.faults source.new) (λ bytes. chunk_read_causes bytes group.now column.now)) }
+    ensures nulls { IfOk result (λ found. column_of found.0 ≡ (type.Null, replicate rows Null)) }
+    ensures pages { IfOk result (λ found. found.1 ≡ 0) }
+    ensures taken { S.taken source.new ≡ S.taken source.old }
+{
+    place_of_chunk(source, group, column)?;
+    Ok((Array::Null(NullArray::new(rows)), 0))
 }
 
 /// Adds the chunk of a group, and how many rows it has and pages were lent for it.

@@ -125,7 +125,7 @@ fn are_values_of(bound: &Bound, data_type: &DataType) -> bool
 }
 
 /// The first field that a bound names.
-fn field_of<'a>(bound: &Bound, fields: &'a [Field]) -> Option<&'a Field>
+pub(crate) fn field_of<'a>(bound: &Bound, fields: &'a [Field]) -> Option<&'a Field>
     ensures { option_copied result ≡ spec.field_of fields.now bound.now }
 {
     fields.iter().find(|field| bound.field == field.name)

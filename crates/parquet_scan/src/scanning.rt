@@ -1,5 +1,5 @@
 //! Scans.
-ghost use Rattle.std.specs.Prelude.{◌≡◌, ◌+◌, ◌-◌, ◌^◌, ◌≤◌, [], Some, min, map, length, Contains, IfOk, IfErr, IfSome, IsTrue, IsFalse, OnOk, All, true};
+ghost use Rattle.std.specs.Prelude.{◌≡◌, ◌+◌, ◌-◌, ◌<◌, ◌^◌, ◌≤◌, [], Some, min, map, length, Contains, IfOk, IfErr, IfSome, IsTrue, IsFalse, OnOk, All, true};
 ghost use Rattle.std.specs.List.{list_all};
 ghost use Rattle.columns_core.specs.Causes.{ComesOf, cause_of, is_invalid_argument};
 ghost use Rattle.parquet_base.specs.Failures.{MayFail};
@@ -7,7 +7,7 @@ ghost use Rattle.parquet_meta.specs.File.{footer};
 ghost use Rattle.parquet_scan.specs.Causes.{causes, metadata_causes, IsValid};
 ghost use Rattle.parquet_scan.specs.Cells.{columns_of, given_chunks};
 ghost use Rattle.parquet_scan.specs.Costs.{most_bytes, most_pages};
-ghost use Rattle.parquet_scan.specs.Counting.{are_built, are_pruned as are_pruned_by, chunks_of_groups, kept_of_groups, lent_of_groups, rows_of_groups, scan_causes, scan_taken, shown};
+ghost use Rattle.parquet_scan.specs.Counting.{are_pruned as are_pruned_by, chunks_of_groups, kept_of_groups, lent_of_groups, rows_of_groups, scan_causes, scan_taken, shown};
 ghost use Rattle.parquet_scan.specs.Request.{is_legal as is_legal_by, is_legal_bound_of};
 ghost use Rattle.parquet_scan.specs.Rows.{given_count, group_counts};
 ghost use Rattle.parquet_scan.specs.Scan.{request_of, rows_in, FailsBy, IsApart, IsSound, OnFile, RisesBy, kept_of, kept_groups as kept_by};
@@ -126,7 +126,7 @@ fn check_metadata(
 {
     let (columns, groups) = (metadata.columns.as_slice(), metadata.row_groups.as_slice());
     let fields = schema.fields.as_slice();
-    check_built(columns, schema, bounds, chunk_size, limit)?;
+    check_built(schema, bounds, chunk_size, limit)?;
     check_fields(columns, fields)?;
     counting_groups(alloc, groups, bounds)
 }
@@ -143,7 +143,7 @@ fn scan_groups<S: Source, L: Ledger>(
 ) -> Result<Scan, Error>
     requires lengths { length counts.now ≡ length groups.now }
     requires legal { list_all (is_legal_bound_of fields.now) bounds.now ≡ true }
-    requires built { IsTrue (are_built fields.now) }
+    requires some { 0 < length fields.now }
     ensures same { S.told source.new ≡ S.told source.old }
     ensures same_source { S.kept source.new ≡ S.kept source.old }
     ensures later { S.faults source.old ≤ S.faults source.new }

@@ -1,24 +1,34 @@
-use Rattle.std.proofs.Common.{◌≡◌, ◌∙◌, ◌+◌, ◌-◌, ◌<◌, ◌≤◌, Bool, List, ◌∷◌, ℕ, suc, not, Some, true, false, [], length, map, ap, sym, subst, arith, refl, Vec, Global}
-use Rattle.std.specs.Prelude.{◌==◌, vec_len, Option, IfSome, filter, flat_map, sum_by, if◌then◌else◌}
+use Rattle.std.proofs.Common.{◌≡◌, ◌∙◌, ◌+◌, ◌-◌, ◌<◌, ◌≤◌, Bool, List, [], ◌∷◌, ℕ, suc, not, Some, true, false, length, map, ap, sym, subst, arith, refl, Vec, Global}
+use Rattle.std.specs.Prelude.{◌==◌, vec_len, Option, IfSome, filter, flat_map, sum_by, if◌then◌else◌, Result, Ok, Err, IfOk, OnOk}
 use Rattle.std.proofs.lemmas.Bool.{eq-eqb, eqb-true, true≢false}
 use Rattle.std.proofs.lemmas.List.{length-map}
 use Rattle.std.proofs.lemmas.Result.{err_from_is_err_and}
+use Rattle.columns_core.specs.Array.{cells}
 use Rattle.columns_core.specs.Causes.{Cause}
-use Rattle.parquet_base.specs.Intervals.{is_well_shaped, rows_of}
 use Rattle.columns_core.specs.Refusals.{Refuses}
+use Rattle.columns_core.specs.declared.data_type.DataType.{DataType}
+use Rattle.parquet_base.specs.Intervals.{is_well_shaped, rows_of}
+use Rattle.parquet_base.specs.declared.interval.Interval.{Interval}
+use Rattle.parquet_meta.specs.Chunks.{chunk_causes}
 use Rattle.parquet_meta.specs.Indexes.{offset_index_length}
+use Rattle.parquet_meta.specs.declared.metadata.ColumnChunkMetaData.{ColumnChunkMetaData}
+use Rattle.parquet_meta.specs.declared.metadata.PageLocation.{PageLocation}
+use Rattle.parquet_meta.specs.declared.metadata.Place.{Place}
+use Rattle.parquet_meta.specs.declared.metadata.RowGroupMetaData.{RowGroupMetaData}
 use Rattle.parquet_page.specs.Lent.{first_start, is_wanted, located_parts}
 use Rattle.parquet_page.specs.Locations.{selected_pages}
 use Rattle.parquet_page.specs.declared.page.FilteredPage.{FilteredPage}
-use Rattle.parquet_scan.specs.Causes.{causes_of_chunk, opened_causes}
-use Rattle.parquet_scan.specs.Column.{chunk_read_causes}
+use Rattle.column_values.specs.Outcome.{causes_in}
+use Rattle.parquet_scan.specs.Causes.{causes_of_chunk, chunk_read_causes, pair_causes, row_causes}
+use Rattle.parquet_scan.specs.Cells.{Reading, chunk_of, located_item}
+use Rattle.parquet_scan.specs.Decoded.{column_rows}
 use Rattle.parquet_scan.specs.Located.{entry_causes, entry_part, part_in, place_before}
 use Rattle.parquet_scan.specs.Pages.{locations, locations_causes}
 use Rattle.parquet_scan.specs.Scan.{FailsBy}
 use Rattle.parquet_scan.proofs.CostLemmas.{lent_located, taken_located}
 use Rattle.parquet_scan.proofs.LocationLemmas.{selection_fails}
-use Rattle.parquet_scan.proofs.OpenedLemmas.{IsSelected, before_causes, before_in, bodies_in, decode_none, decode_within, entries_shaped, locations_in, opened_by, read_in, selected_total, told_causes, told_located, told_parts, within_opened}
-use Rattle.parquet_scan.proofs.PageLemmas.{both_ok, if_err, if_ok, ok_always, on_ok}
+use Rattle.parquet_scan.proofs.OpenedLemmas.{IsRead, IsSelected, before_causes, before_in, bodies_in, entries_shaped, locations_in, opened_by, read_count, read_fine, read_in, read_items, read_wrong, reading_of, told_causes, told_parts, within_opened}
+use Rattle.parquet_scan.proofs.PageLemmas.{if_err, if_ok, ok_always, on_ok}
 use Rattle.parquet_scan.proofs.ScanLemmas.{fails_by_memory, fails_more, fails_within}
 use Rattle.parquet_scan.proofs.located.read_located.Goals as goal
 
@@ -37,6 +47,37 @@ some_wanted wanted (body ∷ bodies) pages is count some = is ∙ ap not (by (le
   by true e = absurd (not_none (length bodies) e)
   by false e = e
 
+ok_if : {T E Q : Type 0} {P : T → Type 0} (r : Result T E) → ((x : T) → P x → Q) → IfOk r P → OnOk r Q
+ok_if (Ok x) f h = f x h
+ok_if (Err e) f h = h
+
+abbrev body_items : Vec ℕ Global → List ℕ
+body_items body = body.items
+
+-- what the calls before the last gave
+was_read : (told at_chunk at_locations at_bodies : Option (List ℕ)) (group : RowGroupMetaData) (column : ColumnChunkMetaData) (data_type : DataType) (intervals : List Interval) (chunk : Place) (list : List PageLocation) (entries : List FilteredPage)
+    (before : List ℕ) (bodies : List (Vec ℕ Global)) (wanted : Bool) → at_chunk ≡ told → at_locations ≡ at_chunk → at_bodies ≡ at_locations → pair_causes column.descriptor.primitive_type data_type ≡ [] → is_well_shaped intervals group.num_rows ≡ true
+    → chunk_causes column ≡ [] → IsSelected group intervals list entries → wanted ≡ not (length bodies == 0) → length bodies ≡ length (filter is_wanted entries)
+    → IfSome told (λ bytes. chunk_of bytes group column ≡ Some chunk) → IfSome at_chunk (λ bytes. locations bytes column ≡ list)
+    → IfSome at_locations (λ bytes. map (entry_part bytes chunk) (filter is_wanted entries) ≡ map (λ body. Some (body_items body)) bodies)
+    → (wanted ≡ true → IfSome at_bodies (λ bytes. part_in bytes chunk (place_before chunk entries) ≡ Some before))
+    → IsRead told group column data_type intervals chunk list entries before (map body_items bodies)
+was_read told at_chunk at_locations at_bodies group column data_type intervals chunk list entries before bodies wanted same_chunk same_locations same_bodies pair shaped none selected wanted_is count placed at each first =
+    let located = same_locations ∙ same_chunk in
+    let parts = told_parts told chunk entries before body_items bodies
+    (subst (λ (told : Option (List ℕ)). IfSome told (λ bytes. map (entry_part bytes chunk) (filter is_wanted entries) ≡ map (λ body. Some (body_items body)) bodies)) located each)
+    (λ some. subst (λ (told : Option (List ℕ)). IfSome told (λ bytes. part_in bytes chunk (place_before chunk entries) ≡ Some before)) (same_bodies ∙ located) (first (some_wanted wanted bodies entries wanted_is count some))) in
+    record {
+      pair = pair;
+      shaped = shaped;
+      none = none;
+      selected = selected;
+      counted = length-map bodies body_items ∙ count;
+      placed = placed;
+      at = subst (λ (told : Option (List ℕ)). IfSome told (λ bytes. locations bytes column ≡ list)) same_chunk at;
+      parts = parts;
+    }
+
 pub returns-in_err-chunk-clause-fails : goal.returns-in_err-chunk-clause-fails
 returns-in_err-chunk-clause-fails g c =
     let p = err_from_is_err_and c.from_residual.result c.from_residual.ensures.1 in
@@ -44,10 +85,11 @@ returns-in_err-chunk-clause-fails g c =
     let start = g.S.Source.faults c.args.source.now in
     let group = c.args.group.now in
     let column = c.args.column.now in
+    let data_type = c.args.data_type.now in
     let intervals = c.args.intervals.now in
-    let whole : List ℕ → List Cause = λ bytes. causes_of_chunk true bytes group (rows_of intervals) column in
+    let whole : List ℕ → List Cause = λ bytes. causes_of_chunk true bytes group (rows_of intervals) data_type column in
     rw (p.1, p.2) (fails_more told start start (g.S.Source.faults c.place_of_chunk.new.source) (λ bytes. chunk_read_causes bytes group column) whole c.in_err-chunk.field-0.0 (omega arith)
-    (read_in told group column (rows_of intervals)) c.in_err-chunk.ensures.fails)
+    (read_in told group column data_type (rows_of intervals)) c.in_err-chunk.ensures.fails)
 
 pub returns-in_err-locations-clause-fails : goal.returns-in_err-locations-clause-fails
 returns-in_err-locations-clause-fails g c =
@@ -56,13 +98,14 @@ returns-in_err-locations-clause-fails g c =
     let start = g.S.Source.faults c.args.source.now in
     let group = c.args.group.now in
     let column = c.args.column.now in
+    let data_type = c.args.data_type.now in
     let intervals = c.args.intervals.now in
-    let whole : List ℕ → List Cause = λ bytes. causes_of_chunk true bytes group (rows_of intervals) column in
+    let whole : List ℕ → List Cause = λ bytes. causes_of_chunk true bytes group (rows_of intervals) data_type column in
     let mid = g.S.Source.faults c.place_of_chunk.new.source in
     let now = g.S.Source.faults c.read_locations.new.source in
     let fails = subst (λ (told : Option (List ℕ)). FailsBy told mid now (λ bytes. locations_causes bytes group column) c.in_err-locations.field-0.0) c.in_ok-chunk.ensures.same c.in_err-locations.ensures.fails in
     rw (p.1, p.2) (fails_more told start mid now (λ bytes. locations_causes bytes group column) whole c.in_err-locations.field-0.0 c.in_ok-chunk.ensures.later
-    (locations_in told group column (rows_of intervals) c.in_ok-chunk.chunk c.in_ok-chunk.ensures.readable c.in_ok-chunk.ensures.place) fails)
+    (locations_in told group column data_type (rows_of intervals) c.in_ok-chunk.chunk c.in_ok-chunk.ensures.readable c.in_ok-chunk.ensures.place) fails)
 
 pub returns-in_err-pages-clause-fails : goal.returns-in_err-pages-clause-fails
 returns-in_err-pages-clause-fails g c =
@@ -71,8 +114,9 @@ returns-in_err-pages-clause-fails g c =
     let start = g.S.Source.faults c.args.source.now in
     let group = c.args.group.now in
     let column = c.args.column.now in
+    let data_type = c.args.data_type.now in
     let intervals = c.args.intervals.now in
-    let whole : List ℕ → List Cause = λ bytes. causes_of_chunk true bytes group (rows_of intervals) column in
+    let whole : List ℕ → List Cause = λ bytes. causes_of_chunk true bytes group (rows_of intervals) data_type column in
     let refuses = subst (λ found. Refuses (is_well_shaped intervals group.num_rows) (selected_pages intervals found group.num_rows) c.in_err-pages.field-0.0) c.deref.ensures.value c.in_err-pages.ensures.refusal in
     rw (p.1, p.2) (fails_by_memory told start (g.S.Source.faults c.read_locations.new.source) whole c.in_err-pages.field-0.0
     (selection_fails intervals c.in_ok-locations.locations.items group.num_rows c.in_err-pages.field-0.0 c.in_ok-locations.ensures.shaped c.requires.shaped refuses))
@@ -84,21 +128,24 @@ returns-in_err-bodies-clause-fails g c =
     let start = g.S.Source.faults c.args.source.now in
     let group = c.args.group.now in
     let column = c.args.column.now in
+    let data_type = c.args.data_type.now in
     let intervals = c.args.intervals.now in
-    let whole : List ℕ → List Cause = λ bytes. causes_of_chunk true bytes group (rows_of intervals) column in
+    let whole : List ℕ → List Cause = λ bytes. causes_of_chunk true bytes group (rows_of intervals) data_type column in
     let chunk = c.in_ok-chunk.chunk in
     let at = subst (λ (told : Option (List ℕ)). IfSome told (λ bytes. locations bytes column ≡ c.in_ok-locations.locations.items)) c.in_ok-chunk.ensures.same c.in_ok-locations.ensures.locations in
     let list = c.in_ok-locations.locations.items in
     let entries = c.in_ok-pages.pages.items in
     let selected : IsSelected group intervals list entries = record { shape = c.in_ok-locations.ensures.shaped; are = ap (λ found. selected_pages intervals found group.num_rows) (sym c.deref.ensures.value) ∙ c.in_ok-pages.ensures.pages } in
-    let opened = told_causes group column intervals chunk list entries selected told c.in_ok-chunk.ensures.readable c.in_ok-chunk.ensures.place at in
+    let opened = told_causes group column data_type intervals chunk list entries selected told c.in_ok-chunk.ensures.readable c.in_ok-chunk.ensures.place at in
+    let reading : List ℕ → Reading = λ bytes. reading_of bytes column.descriptor.primitive_type data_type chunk entries in
+    let items : List ℕ → List Cause = λ bytes. row_causes (located_item bytes group data_type column) (rows_of intervals) in
     let mid = g.S.Source.faults c.read_locations.new.source in
     let now = g.S.Source.faults c.read_bodies.new.source in
     let part : List FilteredPage → List ℕ → List Cause = λ entries bytes. flat_map (entry_causes bytes chunk) (filter is_wanted entries) in
     let fails = subst (λ (told : Option (List ℕ)). FailsBy told mid now (part entries) c.in_err-bodies.field-0.0) (c.in_ok-locations.ensures.same ∙ c.in_ok-chunk.ensures.same)
     (subst (λ entries. FailsBy (g.S.Source.told c.read_locations.new.source) mid now (part entries) c.in_err-bodies.field-0.0) c.deref-2.ensures.value c.in_err-bodies.ensures.fails) in
     rw (p.1, p.2) (fails_more told start mid now (part entries) whole c.in_err-bodies.field-0.0 (omega (arith, c.in_ok-chunk.ensures.later, c.in_ok-locations.ensures.later))
-    (within_opened told whole (λ bytes. opened_by bytes column.descriptor.primitive_type chunk entries) (part entries) opened (λ bytes. bodies_in bytes column.descriptor.primitive_type chunk entries)) fails)
+    (within_opened told whole (λ bytes. opened_by bytes (reading bytes) chunk entries) items (part entries) opened (λ bytes. bodies_in bytes (reading bytes) chunk entries)) fails)
 
 pub returns-in_err-before-clause-fails : goal.returns-in_err-before-clause-fails
 returns-in_err-before-clause-fails g c =
@@ -107,27 +154,29 @@ returns-in_err-before-clause-fails g c =
     let start = g.S.Source.faults c.args.source.now in
     let group = c.args.group.now in
     let column = c.args.column.now in
-    let type = column.descriptor.primitive_type in
+    let data_type = c.args.data_type.now in
     let intervals = c.args.intervals.now in
-    let whole : List ℕ → List Cause = λ bytes. causes_of_chunk true bytes group (rows_of intervals) column in
+    let whole : List ℕ → List Cause = λ bytes. causes_of_chunk true bytes group (rows_of intervals) data_type column in
     let chunk = c.in_ok-chunk.chunk in
     let at = subst (λ (told : Option (List ℕ)). IfSome told (λ bytes. locations bytes column ≡ c.in_ok-locations.locations.items)) c.in_ok-chunk.ensures.same c.in_ok-locations.ensures.locations in
     let list = c.in_ok-locations.locations.items in
     let entries = c.in_ok-pages.pages.items in
     let selected : IsSelected group intervals list entries = record { shape = c.in_ok-locations.ensures.shaped; are = ap (λ found. selected_pages intervals found group.num_rows) (sym c.deref.ensures.value) ∙ c.in_ok-pages.ensures.pages } in
-    let opened = told_causes group column intervals chunk list entries selected told c.in_ok-chunk.ensures.readable c.in_ok-chunk.ensures.place at in
+    let opened = told_causes group column data_type intervals chunk list entries selected told c.in_ok-chunk.ensures.readable c.in_ok-chunk.ensures.place at in
     let count = c.in_ok-bodies.ensures.length ∙ ap (λ pages. length (filter is_wanted pages)) c.deref-2.ensures.value in
     let wanted = not c.is_empty.result in
     let long : vec_len c.in_ok-bodies.bodies ≡ length c.in_ok-bodies.bodies.items = omega arith in
     let wanted_is : not c.is_empty.result ≡ not (length c.in_ok-bodies.bodies.items == 0) = ap not (c.is_empty.ensures ∙ ap (λ n. n == 0) long) in
+    let reading : List ℕ → Reading = λ bytes. reading_of bytes column.descriptor.primitive_type data_type chunk entries in
+    let items : List ℕ → List Cause = λ bytes. row_causes (located_item bytes group data_type column) (rows_of intervals) in
     let mid = g.S.Source.faults c.read_bodies.new.source in
     let now = g.S.Source.faults c.read_before.new.source in
     let part : List FilteredPage → List ℕ → List Cause = λ entries bytes. before_causes bytes chunk entries wanted in
     let fails = subst (λ (told : Option (List ℕ)). FailsBy told mid now (part entries) c.in_err-before.field-0.0) (c.in_ok-bodies.ensures.same ∙ c.in_ok-locations.ensures.same ∙ c.in_ok-chunk.ensures.same)
     (subst (λ entries. FailsBy (g.S.Source.told c.read_bodies.new.source) mid now (part entries) c.in_err-before.field-0.0) c.deref-3.ensures.value c.in_err-before.ensures.fails) in
     rw (p.1, p.2) (fails_more told start mid now (part entries) whole c.in_err-before.field-0.0 (omega (arith, c.in_ok-chunk.ensures.later, c.in_ok-locations.ensures.later, c.in_ok-bodies.ensures.later))
-    (within_opened told whole (λ bytes. opened_by bytes type chunk entries) (part entries) opened
-    (λ bytes o. before_in bytes type chunk entries wanted o (wanted_some wanted c.in_ok-bodies.bodies.items entries wanted_is count))) fails)
+    (within_opened told whole (λ bytes. opened_by bytes (reading bytes) chunk entries) items (part entries) opened
+    (λ bytes o. before_in bytes column.descriptor.primitive_type data_type chunk entries wanted o (wanted_some wanted c.in_ok-bodies.bodies.items entries wanted_is count))) fails)
 
 pub decode_located-requires : goal.decode_located-requires
 decode_located-requires g c =
@@ -137,11 +186,12 @@ decode_located-requires g c =
     let list = c.in_ok-locations.locations.items in
     let entries = c.in_ok-pages.pages.items in
     let selected : IsSelected group intervals list entries = record { shape = c.in_ok-locations.ensures.shaped; are = ap (λ found. selected_pages intervals found group.num_rows) (sym c.deref.ensures.value) ∙ c.in_ok-pages.ensures.pages } in
-    let items : Vec ℕ Global → List ℕ = λ body. body.items in
     let count = c.in_ok-bodies.ensures.length ∙ ap (λ pages. length (filter is_wanted pages)) c.deref-2.ensures.value in
     record {
       shaped = entries_shaped group intervals list entries selected c.requires.shaped (omega arith);
-      parts = eq-eqb _ _ (length-map c.in_ok-bodies.bodies.items items ∙ count);
+      parts = eq-eqb _ _ (length-map c.in_ok-bodies.bodies.items body_items ∙ count);
+      pair = c.requires.pair;
+      not_null = c.requires.not_null;
     }
 
 pub returns-clause-ok : goal.returns-clause-ok
@@ -149,106 +199,90 @@ returns-clause-ok g c =
     let told = g.S.Source.told c.args.source.now in
     let group = c.args.group.now in
     let column = c.args.column.now in
-    let type = column.descriptor.primitive_type in
+    let data_type = c.args.data_type.now in
     let intervals = c.args.intervals.now in
-    let whole : List ℕ → List Cause = λ bytes. causes_of_chunk true bytes group (rows_of intervals) column in
-    let chunk = c.in_ok-chunk.chunk in
-    let at = subst (λ (told : Option (List ℕ)). IfSome told (λ bytes. locations bytes column ≡ c.in_ok-locations.locations.items)) c.in_ok-chunk.ensures.same c.in_ok-locations.ensures.locations in
-    let list = c.in_ok-locations.locations.items in
     let entries = c.in_ok-pages.pages.items in
-    let selected : IsSelected group intervals list entries = record { shape = c.in_ok-locations.ensures.shaped; are = ap (λ found. selected_pages intervals found group.num_rows) (sym c.deref.ensures.value) ∙ c.in_ok-pages.ensures.pages } in
-    let opened = told_causes group column intervals chunk list entries selected told c.in_ok-chunk.ensures.readable c.in_ok-chunk.ensures.place at in
-    let count = c.in_ok-bodies.ensures.length ∙ ap (λ pages. length (filter is_wanted pages)) c.deref-2.ensures.value in
-    let wanted = not c.is_empty.result in
-    let long : vec_len c.in_ok-bodies.bodies ≡ length c.in_ok-bodies.bodies.items = omega arith in
-    let wanted_is : not c.is_empty.result ≡ not (length c.in_ok-bodies.bodies.items == 0) = ap not (c.is_empty.ensures ∙ ap (λ n. n == 0) long) in
-    let before = c.in_ok-before.before.items in
     let bodies = c.in_ok-bodies.bodies.items in
-    let items : Vec ℕ Global → List ℕ = λ body. body.items in
-    let same_here = c.in_ok-locations.ensures.same ∙ c.in_ok-chunk.ensures.same in
-    let each = subst (λ (told : Option (List ℕ)). IfSome told (λ bytes. map (entry_part bytes chunk) (filter is_wanted entries) ≡ map (λ body. Some (items body)) bodies)) same_here
-    (subst (λ pages. IfSome (g.S.Source.told c.read_locations.new.source) (λ bytes. map (entry_part bytes chunk) (filter is_wanted pages) ≡ map (λ body. Some (items body)) bodies)) c.deref-2.ensures.value c.in_ok-bodies.ensures.bodies) in
-    let first : 0 < length (filter is_wanted entries) → IfSome told (λ bytes. part_in bytes chunk (place_before chunk entries) ≡ Some before) = λ some.
-    subst (λ (told : Option (List ℕ)). IfSome told (λ bytes. part_in bytes chunk (place_before chunk entries) ≡ Some before)) (c.in_ok-bodies.ensures.same ∙ same_here)
-    (subst (λ pages. IfSome (g.S.Source.told c.read_bodies.new.source) (λ bytes. part_in bytes chunk (place_before chunk pages) ≡ Some before)) c.deref-3.ensures.value
-    (c.in_ok-before.ensures.part (some_wanted wanted bodies entries wanted_is count some))) in
-    let parts = told_parts told chunk entries before items bodies each first in
-    on_ok c.decode_located.result (λ none. decode_none told type chunk entries before (map items bodies) whole opened parts none) c.decode_located.ensures.ok
+    let selected : IsSelected group intervals c.in_ok-locations.locations.items entries
+    = record { shape = c.in_ok-locations.ensures.shaped; are = ap (λ found. selected_pages intervals found group.num_rows) (sym c.deref.ensures.value) ∙ c.in_ok-pages.ensures.pages } in
+    let long : vec_len c.in_ok-bodies.bodies ≡ length bodies = omega arith in
+    let each = subst (λ pages. IfSome (g.S.Source.told c.read_locations.new.source) (λ bytes. map (entry_part bytes c.in_ok-chunk.chunk) (filter is_wanted pages) ≡ map (λ body. Some body.items) bodies)) c.deref-2.ensures.value c.in_ok-bodies.ensures.bodies in
+    let first : not c.is_empty.result ≡ true → IfSome (g.S.Source.told c.read_bodies.new.source) (λ bytes. part_in bytes c.in_ok-chunk.chunk (place_before c.in_ok-chunk.chunk entries) ≡ Some c.in_ok-before.before.items) = λ some.
+    subst (λ pages. IfSome (g.S.Source.told c.read_bodies.new.source) (λ bytes. part_in bytes c.in_ok-chunk.chunk (place_before c.in_ok-chunk.chunk pages) ≡ Some c.in_ok-before.before.items)) c.deref-3.ensures.value (c.in_ok-before.ensures.part some) in
+    let read = was_read told (g.S.Source.told c.place_of_chunk.new.source) (g.S.Source.told c.read_locations.new.source) (g.S.Source.told c.read_bodies.new.source) group column data_type intervals c.in_ok-chunk.chunk
+    c.in_ok-locations.locations.items entries c.in_ok-before.before.items bodies (not c.is_empty.result) c.in_ok-chunk.ensures.same c.in_ok-locations.ensures.same c.in_ok-bodies.ensures.same c.requires.pair c.requires.shaped
+    c.in_ok-chunk.ensures.readable selected (ap not (c.is_empty.ensures ∙ ap (λ n. n == 0) long)) (c.in_ok-bodies.ensures.length ∙ ap (λ pages. length (filter is_wanted pages)) c.deref-2.ensures.value)
+    c.in_ok-chunk.ensures.place c.in_ok-locations.ensures.locations each first in
+    ok_if c.decode_located.result (λ found rows. read_fine group column data_type intervals c.in_ok-chunk.chunk c.in_ok-locations.locations.items entries c.in_ok-before.before.items (map body_items bodies) told read (cells found.0) rows) c.decode_located.ensures.rows
 
 pub returns-clause-fails : goal.returns-clause-fails
 returns-clause-fails g c =
     let told = g.S.Source.told c.args.source.now in
-    let start = g.S.Source.faults c.args.source.now in
     let group = c.args.group.now in
     let column = c.args.column.now in
-    let type = column.descriptor.primitive_type in
+    let data_type = c.args.data_type.now in
     let intervals = c.args.intervals.now in
-    let whole : List ℕ → List Cause = λ bytes. causes_of_chunk true bytes group (rows_of intervals) column in
-    let chunk = c.in_ok-chunk.chunk in
-    let at = subst (λ (told : Option (List ℕ)). IfSome told (λ bytes. locations bytes column ≡ c.in_ok-locations.locations.items)) c.in_ok-chunk.ensures.same c.in_ok-locations.ensures.locations in
-    let list = c.in_ok-locations.locations.items in
     let entries = c.in_ok-pages.pages.items in
-    let selected : IsSelected group intervals list entries = record { shape = c.in_ok-locations.ensures.shaped; are = ap (λ found. selected_pages intervals found group.num_rows) (sym c.deref.ensures.value) ∙ c.in_ok-pages.ensures.pages } in
-    let opened = told_causes group column intervals chunk list entries selected told c.in_ok-chunk.ensures.readable c.in_ok-chunk.ensures.place at in
-    let count = c.in_ok-bodies.ensures.length ∙ ap (λ pages. length (filter is_wanted pages)) c.deref-2.ensures.value in
-    let wanted = not c.is_empty.result in
-    let long : vec_len c.in_ok-bodies.bodies ≡ length c.in_ok-bodies.bodies.items = omega arith in
-    let wanted_is : not c.is_empty.result ≡ not (length c.in_ok-bodies.bodies.items == 0) = ap not (c.is_empty.ensures ∙ ap (λ n. n == 0) long) in
-    let before = c.in_ok-before.before.items in
     let bodies = c.in_ok-bodies.bodies.items in
-    let items : Vec ℕ Global → List ℕ = λ body. body.items in
-    let same_here = c.in_ok-locations.ensures.same ∙ c.in_ok-chunk.ensures.same in
-    let each = subst (λ (told : Option (List ℕ)). IfSome told (λ bytes. map (entry_part bytes chunk) (filter is_wanted entries) ≡ map (λ body. Some (items body)) bodies)) same_here
-    (subst (λ pages. IfSome (g.S.Source.told c.read_locations.new.source) (λ bytes. map (entry_part bytes chunk) (filter is_wanted pages) ≡ map (λ body. Some (items body)) bodies)) c.deref-2.ensures.value c.in_ok-bodies.ensures.bodies) in
-    let first : 0 < length (filter is_wanted entries) → IfSome told (λ bytes. part_in bytes chunk (place_before chunk entries) ≡ Some before) = λ some.
-    subst (λ (told : Option (List ℕ)). IfSome told (λ bytes. part_in bytes chunk (place_before chunk entries) ≡ Some before)) (c.in_ok-bodies.ensures.same ∙ same_here)
-    (subst (λ pages. IfSome (g.S.Source.told c.read_bodies.new.source) (λ bytes. part_in bytes chunk (place_before chunk pages) ≡ Some before)) c.deref-3.ensures.value
-    (c.in_ok-before.ensures.part (some_wanted wanted bodies entries wanted_is count some))) in
-    let parts = told_parts told chunk entries before items bodies each first in
+    let selected : IsSelected group intervals c.in_ok-locations.locations.items entries
+    = record { shape = c.in_ok-locations.ensures.shaped; are = ap (λ found. selected_pages intervals found group.num_rows) (sym c.deref.ensures.value) ∙ c.in_ok-pages.ensures.pages } in
+    let long : vec_len c.in_ok-bodies.bodies ≡ length bodies = omega arith in
+    let each = subst (λ pages. IfSome (g.S.Source.told c.read_locations.new.source) (λ bytes. map (entry_part bytes c.in_ok-chunk.chunk) (filter is_wanted pages) ≡ map (λ body. Some body.items) bodies)) c.deref-2.ensures.value c.in_ok-bodies.ensures.bodies in
+    let first : not c.is_empty.result ≡ true → IfSome (g.S.Source.told c.read_bodies.new.source) (λ bytes. part_in bytes c.in_ok-chunk.chunk (place_before c.in_ok-chunk.chunk entries) ≡ Some c.in_ok-before.before.items) = λ some.
+    subst (λ pages. IfSome (g.S.Source.told c.read_bodies.new.source) (λ bytes. part_in bytes c.in_ok-chunk.chunk (place_before c.in_ok-chunk.chunk pages) ≡ Some c.in_ok-before.before.items)) c.deref-3.ensures.value (c.in_ok-before.ensures.part some) in
+    let read = was_read told (g.S.Source.told c.place_of_chunk.new.source) (g.S.Source.told c.read_locations.new.source) (g.S.Source.told c.read_bodies.new.source) group column data_type intervals c.in_ok-chunk.chunk
+    c.in_ok-locations.locations.items entries c.in_ok-before.before.items bodies (not c.is_empty.result) c.in_ok-chunk.ensures.same c.in_ok-locations.ensures.same c.in_ok-bodies.ensures.same c.requires.pair c.requires.shaped
+    c.in_ok-chunk.ensures.readable selected (ap not (c.is_empty.ensures ∙ ap (λ n. n == 0) long)) (c.in_ok-bodies.ensures.length ∙ ap (λ pages. length (filter is_wanted pages)) c.deref-2.ensures.value)
+    c.in_ok-chunk.ensures.place c.in_ok-locations.ensures.locations each first in
+    let start = g.S.Source.faults c.args.source.now in
+    let now = g.S.Source.faults c.read_before.new.source in
+    let stored = column.descriptor.primitive_type in
+    let lent = located_parts stored (Some c.in_ok-before.before.items) entries (map body_items bodies) in
     if_err c.decode_located.result
-    (λ e tells. fails_within told start (g.S.Source.faults c.read_before.new.source) (opened_causes (located_parts type (Some before) entries (map items bodies))) whole e
-    (decode_within told type chunk entries before (map items bodies) whole opened parts) tells)
+    (λ e tells. fails_within told start now (causes_in (column_rows stored data_type lent.pages lent.causes)) (λ bytes. causes_of_chunk true bytes group (rows_of intervals) data_type column) e (read_wrong group column data_type intervals c.in_ok-chunk.chunk c.in_ok-locations.locations.items entries c.in_ok-before.before.items (map body_items bodies) told read) tells)
     c.decode_located.ensures.cause
 
 pub returns-clause-count : goal.returns-clause-count
 returns-clause-count g c =
-    let group = c.args.group.now in
-    let intervals = c.args.intervals.now in
-    let list = c.in_ok-locations.locations.items in
-    let entries = c.in_ok-pages.pages.items in
-    let selected : IsSelected group intervals list entries = record { shape = c.in_ok-locations.ensures.shaped; are = ap (λ found. selected_pages intervals found group.num_rows) (sym c.deref.ensures.value) ∙ c.in_ok-pages.ensures.pages } in
-    if_ok c.decode_located.result (λ found e. e ∙ selected_total group intervals list entries selected c.requires.shaped) c.decode_located.ensures.count
-
-pub returns-clause-numbers : goal.returns-clause-numbers
-returns-clause-numbers g c =
     let told = g.S.Source.told c.args.source.now in
     let group = c.args.group.now in
     let column = c.args.column.now in
-    let type = column.descriptor.primitive_type in
+    let data_type = c.args.data_type.now in
     let intervals = c.args.intervals.now in
-    let chunk = c.in_ok-chunk.chunk in
-    let at = subst (λ (told : Option (List ℕ)). IfSome told (λ bytes. locations bytes column ≡ c.in_ok-locations.locations.items)) c.in_ok-chunk.ensures.same c.in_ok-locations.ensures.locations in
-    let list = c.in_ok-locations.locations.items in
     let entries = c.in_ok-pages.pages.items in
-    let selected : IsSelected group intervals list entries = record { shape = c.in_ok-locations.ensures.shaped; are = ap (λ found. selected_pages intervals found group.num_rows) (sym c.deref.ensures.value) ∙ c.in_ok-pages.ensures.pages } in
-    let count = c.in_ok-bodies.ensures.length ∙ ap (λ pages. length (filter is_wanted pages)) c.deref-2.ensures.value in
-    let wanted = not c.is_empty.result in
-    let long : vec_len c.in_ok-bodies.bodies ≡ length c.in_ok-bodies.bodies.items = omega arith in
-    let wanted_is : not c.is_empty.result ≡ not (length c.in_ok-bodies.bodies.items == 0) = ap not (c.is_empty.ensures ∙ ap (λ n. n == 0) long) in
-    let before = c.in_ok-before.before.items in
     let bodies = c.in_ok-bodies.bodies.items in
-    let items : Vec ℕ Global → List ℕ = λ body. body.items in
-    let same_here = c.in_ok-locations.ensures.same ∙ c.in_ok-chunk.ensures.same in
-    let each = subst (λ (told : Option (List ℕ)). IfSome told (λ bytes. map (entry_part bytes chunk) (filter is_wanted entries) ≡ map (λ body. Some (items body)) bodies)) same_here
-    (subst (λ pages. IfSome (g.S.Source.told c.read_locations.new.source) (λ bytes. map (entry_part bytes chunk) (filter is_wanted pages) ≡ map (λ body. Some (items body)) bodies)) c.deref-2.ensures.value c.in_ok-bodies.ensures.bodies) in
-    let first : 0 < length (filter is_wanted entries) → IfSome told (λ bytes. part_in bytes chunk (place_before chunk entries) ≡ Some before) = λ some.
-    subst (λ (told : Option (List ℕ)). IfSome told (λ bytes. part_in bytes chunk (place_before chunk entries) ≡ Some before)) (c.in_ok-bodies.ensures.same ∙ same_here)
-    (subst (λ pages. IfSome (g.S.Source.told c.read_bodies.new.source) (λ bytes. part_in bytes chunk (place_before chunk pages) ≡ Some before)) c.deref-3.ensures.value
-    (c.in_ok-before.ensures.part (some_wanted wanted bodies entries wanted_is count some))) in
-    let parts = told_parts told chunk entries before items bodies each first in
-    both_ok c.decode_located.result
-    (λ none found are. told_located told group intervals list entries selected column chunk before (map items bodies) found.0.items c.requires.shaped c.in_ok-chunk.ensures.place at parts none are)
-    c.decode_located.ensures.ok c.decode_located.ensures.numbers
+    let selected : IsSelected group intervals c.in_ok-locations.locations.items entries
+    = record { shape = c.in_ok-locations.ensures.shaped; are = ap (λ found. selected_pages intervals found group.num_rows) (sym c.deref.ensures.value) ∙ c.in_ok-pages.ensures.pages } in
+    let long : vec_len c.in_ok-bodies.bodies ≡ length bodies = omega arith in
+    let each = subst (λ pages. IfSome (g.S.Source.told c.read_locations.new.source) (λ bytes. map (entry_part bytes c.in_ok-chunk.chunk) (filter is_wanted pages) ≡ map (λ body. Some body.items) bodies)) c.deref-2.ensures.value c.in_ok-bodies.ensures.bodies in
+    let first : not c.is_empty.result ≡ true → IfSome (g.S.Source.told c.read_bodies.new.source) (λ bytes. part_in bytes c.in_ok-chunk.chunk (place_before c.in_ok-chunk.chunk entries) ≡ Some c.in_ok-before.before.items) = λ some.
+    subst (λ pages. IfSome (g.S.Source.told c.read_bodies.new.source) (λ bytes. part_in bytes c.in_ok-chunk.chunk (place_before c.in_ok-chunk.chunk pages) ≡ Some c.in_ok-before.before.items)) c.deref-3.ensures.value (c.in_ok-before.ensures.part some) in
+    let read = was_read told (g.S.Source.told c.place_of_chunk.new.source) (g.S.Source.told c.read_locations.new.source) (g.S.Source.told c.read_bodies.new.source) group column data_type intervals c.in_ok-chunk.chunk
+    c.in_ok-locations.locations.items entries c.in_ok-before.before.items bodies (not c.is_empty.result) c.in_ok-chunk.ensures.same c.in_ok-locations.ensures.same c.in_ok-bodies.ensures.same c.requires.pair c.requires.shaped
+    c.in_ok-chunk.ensures.readable selected (ap not (c.is_empty.ensures ∙ ap (λ n. n == 0) long)) (c.in_ok-bodies.ensures.length ∙ ap (λ pages. length (filter is_wanted pages)) c.deref-2.ensures.value)
+    c.in_ok-chunk.ensures.place c.in_ok-locations.ensures.locations each first in
+    if_ok c.decode_located.result (λ found rows. read_count group column data_type intervals c.in_ok-chunk.chunk c.in_ok-locations.locations.items entries c.in_ok-before.before.items (map body_items bodies) told read (cells found.0) rows) c.decode_located.ensures.rows
+
+pub returns-clause-cells : goal.returns-clause-cells
+returns-clause-cells g c =
+    let told = g.S.Source.told c.args.source.now in
+    let group = c.args.group.now in
+    let column = c.args.column.now in
+    let data_type = c.args.data_type.now in
+    let intervals = c.args.intervals.now in
+    let entries = c.in_ok-pages.pages.items in
+    let bodies = c.in_ok-bodies.bodies.items in
+    let selected : IsSelected group intervals c.in_ok-locations.locations.items entries
+    = record { shape = c.in_ok-locations.ensures.shaped; are = ap (λ found. selected_pages intervals found group.num_rows) (sym c.deref.ensures.value) ∙ c.in_ok-pages.ensures.pages } in
+    let long : vec_len c.in_ok-bodies.bodies ≡ length bodies = omega arith in
+    let each = subst (λ pages. IfSome (g.S.Source.told c.read_locations.new.source) (λ bytes. map (entry_part bytes c.in_ok-chunk.chunk) (filter is_wanted pages) ≡ map (λ body. Some body.items) bodies)) c.deref-2.ensures.value c.in_ok-bodies.ensures.bodies in
+    let first : not c.is_empty.result ≡ true → IfSome (g.S.Source.told c.read_bodies.new.source) (λ bytes. part_in bytes c.in_ok-chunk.chunk (place_before c.in_ok-chunk.chunk entries) ≡ Some c.in_ok-before.before.items) = λ some.
+    subst (λ pages. IfSome (g.S.Source.told c.read_bodies.new.source) (λ bytes. part_in bytes c.in_ok-chunk.chunk (place_before c.in_ok-chunk.chunk pages) ≡ Some c.in_ok-before.before.items)) c.deref-3.ensures.value (c.in_ok-before.ensures.part some) in
+    let read = was_read told (g.S.Source.told c.place_of_chunk.new.source) (g.S.Source.told c.read_locations.new.source) (g.S.Source.told c.read_bodies.new.source) group column data_type intervals c.in_ok-chunk.chunk
+    c.in_ok-locations.locations.items entries c.in_ok-before.before.items bodies (not c.is_empty.result) c.in_ok-chunk.ensures.same c.in_ok-locations.ensures.same c.in_ok-bodies.ensures.same c.requires.pair c.requires.shaped
+    c.in_ok-chunk.ensures.readable selected (ap not (c.is_empty.ensures ∙ ap (λ n. n == 0) long)) (c.in_ok-bodies.ensures.length ∙ ap (λ pages. length (filter is_wanted pages)) c.deref-2.ensures.value)
+    c.in_ok-chunk.ensures.place c.in_ok-locations.ensures.locations each first in
+    if_ok c.decode_located.result (λ found rows. read_items group column data_type intervals c.in_ok-chunk.chunk c.in_ok-locations.locations.items entries c.in_ok-before.before.items (map body_items bodies) told read (cells found.0) rows) c.decode_located.ensures.rows
 
 pub returns-clause-lent : goal.returns-clause-lent
 returns-clause-lent g c =

@@ -1,8 +1,5 @@
-use Rattle.std.proofs.Common.{◌≡◌, ◌<◌, ◌+◌, ◌++◌, [], All, List, ℕ, Option, Some, length, map, drop, rules, arith, subst, sym}
-use Rattle.std.specs.Prelude.{IfSome, nat_lt}
-use Rattle.std.specs.List.{list_all}
-use Rattle.std.specs.Cmp.{first_so}
-use Rattle.std.proofs.lemmas.Bool.{ltb-true}
+use Rattle.std.proofs.Common.{◌≡◌, ◌+◌, ◌++◌, [], All, List, ℕ, Option, Some, length, map, drop, rules, arith, subst, sym}
+use Rattle.std.specs.Prelude.{IfSome}
 use Rattle.std.proofs.lemmas.Result.{err_from_is_err_and}
 use Rattle.std.proofs.lemmas.List.Elements.{All-push}
 use Rattle.columns_core.specs.declared.array.Array.{Array}
@@ -11,7 +8,6 @@ use Rattle.parquet_scan.specs.Causes.{causes_of_column, causes_of_group}
 use Rattle.parquet_scan.specs.Cells.{given_column}
 use Rattle.parquet_scan.specs.Costs.{lent_of_column}
 use Rattle.parquet_scan.specs.Counting.{column_taken, rows_read}
-use Rattle.parquet_scan.specs.NotBuilt.{is_built_field}
 use Rattle.parquet_scan.specs.Scan.{FailsBy, RisesBy}
 use Rattle.parquet_scan.proofs.CostLemmas.{rises_all, rises_more}
 use Rattle.parquet_scan.proofs.GivenLemmas.{column_more, equal_lengths, first_length}
@@ -67,16 +63,14 @@ loop-field-preserved g c =
 pub returns-clause-lengths : goal.returns-clause-lengths
 returns-clause-lengths g c =
     let fields = c.args.fields.now in
-    let some : 0 < length fields = ltb-true 0 (length fields) (first_so (nat_lt 0 (length fields)) (list_all is_built_field fields) c.requires.built) in
     let rows = rows_read c.args.by_pages c.args.group.now c.args.kept.now.intervals in
-    equal_lengths c.loop-field.arrays.items (length rows) (omega (arith, some, c.loop-field.invariant.count, c.loop-field.auto.field-index-end, c.loop-field-test.false)) c.loop-field.invariant.lengths
+    equal_lengths c.loop-field.arrays.items (length rows) (omega (arith, c.requires.some, c.loop-field.invariant.count, c.loop-field.auto.field-index-end, c.loop-field-test.false)) c.loop-field.invariant.lengths
 
 pub returns-clause-rows : goal.returns-clause-rows
 returns-clause-rows g c =
     let fields = c.args.fields.now in
-    let some : 0 < length fields = ltb-true 0 (length fields) (first_so (nat_lt 0 (length fields)) (list_all is_built_field fields) c.requires.built) in
     let rows = rows_read c.args.by_pages c.args.group.now c.args.kept.now.intervals in
-    first_length c.loop-field.arrays.items (length rows) (omega (arith, some, c.loop-field.invariant.count, c.loop-field.auto.field-index-end, c.loop-field-test.false)) c.loop-field.invariant.lengths
+    first_length c.loop-field.arrays.items (length rows) (omega (arith, c.requires.some, c.loop-field.invariant.count, c.loop-field.auto.field-index-end, c.loop-field-test.false)) c.loop-field.invariant.lengths
 
 pub returns-clause-lent : goal.returns-clause-lent
 returns-clause-lent g c =

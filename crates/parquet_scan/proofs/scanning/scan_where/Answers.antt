@@ -1,4 +1,4 @@
-use Rattle.std.proofs.Common.{◌≡◌, ◌-◌, ◌^◌, ◌∙◌, [], ap, map, sym, subst, List, ℕ}
+use Rattle.std.proofs.Common.{◌≡◌, ◌-◌, ◌<◌, ◌^◌, ◌∙◌, [], ap, length, map, sym, subst, List, ℕ}
 use Rattle.std.specs.Prelude.{Option, IfSome, IfOk, IfErr, IsTrue, OnOk, min}
 use Rattle.std.proofs.lemmas.Result.{err_from_is_err_and}
 use Rattle.parquet_base.specs.Failures.{MayFail}
@@ -14,7 +14,7 @@ use Rattle.parquet_scan.proofs.FileCosts.{all_taken, most_lent, scan_sound}
 use Rattle.parquet_scan.proofs.FileLemmas.{meta_cause, meta_complete, is_valid, is_kept, is_complete, has_cause}
 use Rattle.columns_core.specs.Causes.{cause_of}
 use Rattle.parquet_scan.proofs.LegalLemmas.{asks_legally, each_error, no_file}
-use Rattle.parquet_scan.proofs.GivenLemmas.{are_given, are_counted, legal_bounds}
+use Rattle.parquet_scan.proofs.GivenLemmas.{are_given, are_counted, legal_bounds, some_field}
 use Rattle.parquet_scan.proofs.scanning.scan_where.Goals as goal
 
 -- what holds of fields, groups and bytes holds of those that they are
@@ -102,6 +102,11 @@ scan_groups-requires-clause-legal g c =
     let request = request_of c.args.schema.now c.args.bounds.now c.args.chunk_size c.args.limit in
     ap (λ fields. list_all (is_legal_bound_of fields) request.bounds) c.as_slice-2.ensures
     ∙ legal_bounds request c.in_ok-metadata.metadata (sym c.is_legal.ensures ∙ c.if-not-is_legal.false)
+
+pub scan_groups-requires-clause-some : goal.scan_groups-requires-clause-some
+scan_groups-requires-clause-some g c =
+    let request = request_of c.args.schema.now c.args.bounds.now c.args.chunk_size c.args.limit in
+    subst (λ (fields : List Field). 0 < length fields) (sym c.as_slice-2.ensures) (some_field request c.in_ok-metadata.metadata (sym c.is_legal.ensures ∙ c.if-not-is_legal.false))
 
 pub returns-in_err-metadata-clause-legal_first : goal.returns-in_err-metadata-clause-legal_first
 returns-in_err-metadata-clause-legal_first g c =

@@ -1,0 +1,21 @@
+-- What the rows of pages give to one who reads them as a type.
+use Rattle.std.specs.Prelude.{List, [], None}
+use Rattle.std.specs.Option.{option_map_or}
+use Rattle.columns_core.specs.Causes.{Cause}
+use Rattle.columns_core.specs.declared.data_type.DataType.{DataType}
+use Rattle.parquet_meta.specs.declared.metadata.PhysicalType.{PhysicalType}
+use Rattle.parquet_meta.specs.declared.metadata.PrimitiveType.{PrimitiveType}
+use Rattle.parquet_page.specs.Content.{Content}
+use Rattle.column_values.specs.Column.{rows}
+use Rattle.column_values.specs.Outcome.{Outcome}
+use Rattle.flat_values.specs.Conversion.{Conversion}
+use Rattle.flat_values.specs.Outcomes.{dictionary_cells, selected_outcomes}
+use Rattle.flat_values.specs.Pairs.{conversion}
+
+-- by a rule; behind the last page stands what is wrong there
+abbrev pub rows_by : PhysicalType → List Content → List Cause → Conversion → List Outcome
+rows_by type pages causes rule = rows (dictionary_cells rule type) (selected_outcomes rule) None pages causes
+
+-- by that of a pair that is carried
+abbrev pub column_rows : PrimitiveType → DataType → List Content → List Cause → List Outcome
+column_rows stored data_type pages causes = option_map_or (rows_by stored.physical_type pages causes) (conversion stored data_type) []
