@@ -6,6 +6,9 @@ ghost use Rattle.parquet_encoding.specs.Bits.{bits_at, packed};
 /// The bits of a word.
 const WORD: usize = 64;
 
+/// The most bits of numbers of which four lie in one word, whichever bit of a byte they begin at.
+const HALF: u32 = 14;
+
 /// The eight bytes from a place on as one number, the first byte lowest. Bytes past the end count as 0.
 pub(crate) fn word_at(bytes: &[u8], place: usize) -> u64
     requires { place ≤ length bytes.now }
@@ -48,17 +51,25 @@ pub(crate) fn value_at(bytes: &[u8], place: usize, bit: usize, width: u32) -> u3
     field(word_at(bytes, place + bit / 8), bit % 8, width)
 }
 
-/// The eight numbers in the bits from bit `bit` behind a place on.
-pub(crate) fn eight_at(bytes: &[u8], place: usize, bit: usize, width: u32) -> [u32; 8]
+/// Writes the eight numbers in the bits from bit `bit` behind a place on. Each way writes them itself, so that they need not meet in
+/// memory before.
+#[inline(always)]
+pub(crate) fn unpack_eight(bytes: &[u8], place: usize, bit: usize, width: u32, out: &mut [u32])
     requires narrow { width ≤ 32 }
     requires low { bit < 8 }
     requires within { 8 * place + (bit + 8 * width) ≤ 8 * length bytes.now }
-    ensures { result ≡ packed bytes.now width (8 * place + bit) 8 }
+    requires room { length out.old ≡ 8 }
+    ensures { out.new ≡ packed bytes.now width (8 * place + bit) 8 }
 {
+    let Some(eight) = out.as_mut_array::<8>() else {
+        unreachable!()
+    };
     if bit + 8 * width as usize <= WORD {
-        eight_in_word(bytes, place, bit, width)
+        *eight = eight_in_word(bytes, place, bit, width);
+    } else if width <= HALF {
+        *eight = eight_in_halves(bytes, place, bit, width);
     } else {
-        eight_in_words(bytes, place, bit, width)
+        *eight = eight_in_words(bytes, place, bit, width);
     }
 }
 
@@ -80,6 +91,30 @@ fn eight_in_word(bytes: &[u8], place: usize, bit: usize, width: u32) -> [u32; 8]
         field(word, bit + 5 * step, width),
         field(word, bit + 6 * step, width),
         field(word, bit + 7 * step, width),
+    ]
+}
+
+/// Eight numbers, of which four lie in one word and four in another.
+fn eight_in_halves(bytes: &[u8], place: usize, bit: usize, width: u32) -> [u32; 8]
+    requires low { bit < 8 }
+    requires few { width ≤ 14 }
+    requires within { 8 * place + (bit + 8 * width) ≤ 8 * length bytes.now }
+    ensures { result ≡ packed bytes.now width (8 * place + bit) 8 }
+{
+    let step = width as usize;
+    let middle = bit + 4 * step;
+    let low = word_at(bytes, place);
+    let high = word_at(bytes, place + middle / 8);
+    let shift = middle % 8;
+    [
+        field(low, bit, width),
+        field(low, bit + step, width),
+        field(low, bit + 2 * step, width),
+        field(low, bit + 3 * step, width),
+        field(high, shift, width),
+        field(high, shift + step, width),
+        field(high, shift + 2 * step, width),
+        field(high, shift + 3 * step, width),
     ]
 }
 
@@ -141,6 +176,8 @@ pub(crate) fn eight_wide_at(bytes: &[u8], place: usize, bit: usize, width: u32) 
 {
     if bit + 8 * width as usize <= WORD {
         eight_in_word(bytes, place, bit, width).map(u64::from)
+    } else if width <= HALF {
+        eight_in_halves(bytes, place, bit, width).map(u64::from)
     } else {
         eight_wide_in_words(bytes, place, bit, width)
     }

@@ -2,7 +2,7 @@
 ghost use Rattle.std.specs.Prelude.{◌≡◌, ℕ, List, ◌+◌, ◌*◌, ◌-◌, ◌^◌, ◌<◌, ◌≤◌, length, take, drop, slice_get, Some};
 ghost use Rattle.parquet_encoding.specs.Bits.{packed};
 
-use crate::bits::{eight_at, moved, value_at};
+use crate::bits::{moved, unpack_eight, value_at};
 
 /// `count` numbers of `width` bits, the first of them from bit `bit` of the byte at `place` on.
 #[derive(Clone, Copy, Debug, PartialEq, Eq)]
@@ -37,8 +37,8 @@ impl PackedRun {
         let groups = out.len() / 8;
         let mut place = self.place;
         for group in 0..groups {
-            let eight = eight_at(bytes, place, self.bit, self.width);
-            out[8 * group..8 * group + 8].copy_from_slice(&eight);
+            let eight = &mut out[8 * group..8 * group + 8];
+            unpack_eight(bytes, place, self.bit, self.width, eight);
             place += self.width as usize;
         }
         let mut bit = self.bit;

@@ -1,4 +1,4 @@
-use Rattle.std.proofs.Common.{◌≡◌, ◌+◌, ◌*◌, ◌/◌, ◌≤◌, ◌∙◌, ap, length, arith}
+use Rattle.std.proofs.Common.{◌≡◌, ◌+◌, ◌*◌, ◌/◌, ◌≤◌, ap, length, arith}
 use Rattle.std.proofs.lemmas.Nat.{mul-le}
 use Rattle.parquet_encoding.proofs.UnpackLemmas.{none_unpacked, one_unpacked, eight_unpacked, all_unpacked}
 use Rattle.parquet_encoding.proofs.packed_run.PackedRun.unpack.Goals as goal
@@ -8,8 +8,8 @@ loop-group-init c =
     let run = c.args.self.now in
     record { place = omega arith; done = none_unpacked c.args.bytes.now c.args.out.now run.width (8 * run.place + run.bit) (8 * 0) (omega arith) }
 
-pub eight_at-eight-requires-clause-within : goal.eight_at-eight-requires-clause-within
-eight_at-eight-requires-clause-within c =
+pub unpack_eight-requires-clause-within : goal.unpack_eight-requires-clause-within
+unpack_eight-requires-clause-within c =
     let run = c.args.self.now in
     let some = mul-le (8 * (c.loop-group.group + 1)) run.width run.count run.width (omega arith) (omega arith) in
     omega arith
@@ -19,8 +19,8 @@ loop-group-preserved c =
     let run = c.args.self.now in
     record {
       place = omega arith;
-      done = eight_unpacked c.args.bytes.now c.loop-group.out c.copy_from_slice.new.self run.width (8 * run.place + run.bit) (8 * c.loop-group.place + run.bit) c.loop-group.group _
-          (omega arith) c.loop-group.invariant.done (omega arith) (c.copy_from_slice.ensures.after ∙ c.eight_at-eight.ensures);
+      done = eight_unpacked c.args.bytes.now c.loop-group.out c.unpack_eight.new.out run.width (8 * run.place + run.bit) (8 * c.loop-group.place + run.bit) c.loop-group.group _
+          (omega arith) c.loop-group.invariant.done (omega arith) c.unpack_eight.ensures;
     }
 
 pub value_at-requires-clause-within : goal.value_at-requires-clause-within
