@@ -4,7 +4,6 @@ use Rattle.std.specs.Prelude.{◌==◌, replicate, filter, map, min, IsSome, is_
 use Rattle.std.specs.List.{list_all, range_with_len}
 use Rattle.std.proofs.lemmas.Bool.{cond-false}
 use Rattle.std.proofs.lemmas.List.{length-map, length-replicate, length-take-le}
-use Rattle.columns_core.specs.Causes.{ExternalFormat, NotYetImplemented, and_then, unless}
 use Rattle.parquet_base.specs.Reading.{given}
 use Rattle.parquet_base.specs.Intervals.{covers, interval, rows_of}
 use Rattle.parquet_base.specs.declared.interval.Interval.{Interval}
@@ -15,11 +14,10 @@ use Rattle.parquet_meta.specs.declared.metadata.Repetition.{Repetition}
 use Rattle.parquet_meta.specs.declared.metadata.Repetition.TheVariants.{Required, Optional, Repeated}
 use Rattle.parquet_page.specs.Content.{DataContent, fit_in, header_values}
 use Rattle.parquet_page.specs.Levels.{Body, body_parts, presence, present_count}
-use Rattle.parquet_page.specs.Spelling.{has_readable_levels}
 use Rattle.parquet_page.specs.ValidityLeft.{levels_causes, page_places}
 use Rattle.parquet_page.proofs.SpelledLemmas.{absent_same, length-hybrid, present_suc}
-use Rattle.parquet_page.proofs.ValidityLemmas.{length-all, no-places, places-at}
-use Rattle.parquet_page.specs.Stretches.{BeginsOtherwise, BeginsWith}
+use Rattle.parquet_page.proofs.ValidityLemmas.{has-places, length-all, no-places, places-at, plan-all}
+use Rattle.parquet_page.specs.Stretches.{BeginsOtherwise}
 use Rattle.parquet_page.specs.Plan.{Pass, Step, is_selected, kept_count, plan, plan_from, steps_at}
 use Rattle.column_values.specs.FilteredLeft.{intervals_of, stored_values}
 use Rattle.parquet_page.proofs.PlanLemmas.{kept_as, plan-append, plan-kept, plan-passed}
@@ -145,19 +143,21 @@ not-passed selected row (place ∷ places) own =
 
 -- ---- rows that are given
 
-pub record KeepsRows (selected : Option (List Interval)) (row count : ℕ) (kind : Bool) (old new : List Bool) : Type 0 where
-  pub steps : plan_from selected row old ≡ replicate count (kept_as kind) ++ plan_from selected (row + count) new
+pub record KeepsRows (selected : Option (List Interval)) (row count : ℕ) (places old new : List Bool) : Type 0 where
+  pub steps : plan_from selected row old ≡ plan None places ++ plan_from selected (row + count) new
   pub many : row + count + length new ≡ row + length old
 
-pub keeps-rows : (selected : Option (List Interval)) (row limit count : ℕ) (kind : Bool) (old new : List Bool) → BeginsWith limit kind count old new → ((k : ℕ) → k < count → is_selected selected (row + k) ≡ true) → KeepsRows selected row count kind old new
-keeps-rows selected row limit count kind old new begins all = record {
-  steps =
-      ap (plan_from selected row) begins.split
-      ∙ plan-append selected row (replicate count kind) new
-      ∙ ap (λ n. plan_from selected row (replicate count kind) ++ plan_from selected (row + n) new) (length-replicate count kind)
-      ∙ ap (λ steps. steps ++ plan_from selected (row + count) new) (plan-kept selected row kind count all);
-  many = omega (arith, ap length begins.split, length-append (replicate count kind) new, length-replicate count kind);
-}
+pub keeps-rows : (selected : Option (List Interval)) (row count : ℕ) (places old new : List Bool) → old ≡ places ++ new → length places ≡ count → ((k : ℕ) → k < count → is_selected selected (row + k) ≡ true) → KeepsRows selected row count places old new
+keeps-rows selected row count places old new split long all =
+    let F : ℕ → Type 0 = λ n. (k : ℕ) → k < n → is_selected selected (row + k) ≡ true in
+    record {
+      steps =
+          ap (plan_from selected row) split
+          ∙ plan-append selected row places new
+          ∙ ap (λ n. plan_from selected row places ++ plan_from selected (row + n) new) long
+          ∙ ap (λ steps. steps ++ plan_from selected (row + count) new) (plan-kept selected row places (subst F (sym long) all) ∙ sym (plan-all 0 places));
+      many = omega (arith, ap length split, length-append places new, long);
+    }
 
 -- where another place stands behind them, so does another step
 pub other-step : (selected : Option (List Interval)) (row : ℕ) (kind : Bool) (places : List Bool) → is_selected selected row ≡ true → BeginsOtherwise kind places → BeginsOtherwise (kept_as kind) (plan_from selected row places)
@@ -203,16 +203,6 @@ behind-gap test row n m h fails = passing-behind test row n m h fails
 pub whole-is : (count : ℕ) → take (min count 1) (interval 0 count ∷ []) ≡ intervals_of count None
 whole-is zero = refl
 whole-is (suc count) = let one : min (suc count) 1 ≡ 1 = omega arith in rw one refl
-
-no-cause : (readable some : Bool) → and_then (unless readable NotYetImplemented) (unless some ExternalFormat) ≡ [] → some ≡ true
-no-cause true true e = refl
-no-cause true false e = absurd cc
-no-cause false true e = absurd cc
-no-cause false false e = absurd cc
-
--- levels with which nothing is wrong tell of places
-pub has-places : (page : DataContent) → levels_causes page ≡ [] → IsSome (page_places page)
-has-places page none = no-cause (has_readable_levels page.type.repetition page.header) (is_some (page_places page)) none
 
 presence-length : (repetition : Repetition) (levels : List ℕ) (count : ℕ) (places : List Bool) → presence repetition levels count ≡ Some places → length places ≡ count
 unfolding presence

@@ -72,7 +72,7 @@ refused_first : (remaining : ℕ) (causes : List Cause) (error : Error) → 0 < 
 refused_first zero causes error some cause = absurd (omega arith)
 refused_first (suc n) causes error some cause = let P : List Outcome → Type 0 = λ rows. IsCausedBy (Refused causes ∷ rows) error in subst P (sym (take-nil n)) cause
 
-nothing_wrong : (o : Option Cause) → IsOneOf [] o → ⊥
+pub nothing_wrong : (o : Option Cause) → IsOneOf [] o → ⊥
 nothing_wrong None h = h
 nothing_wrong (Some cause) h = absurd (omega (arith, h.1))
 
@@ -104,7 +104,7 @@ taken-by false n own later = sym (append-nil (take n own))
 take-followed : (n : ℕ) (own later : List Outcome) → take n (followed_by own later) ≡ take n own ++ take (if is_empty (causes_in own) then n - length own else 0) later
 take-followed n own later = taken-by (is_empty (causes_in own)) n own later
 
-causes_in-given : (cells : List Cell) → causes_in (map Given cells) ≡ []
+pub causes_in-given : (cells : List Cell) → causes_in (map Given cells) ≡ []
 causes_in-given [] = refl
 causes_in-given (cell ∷ cells) = causes_in-given cells
 

@@ -1,15 +1,20 @@
 -- Runs of all rows of a page, as places that are of one kind.
-use Rattle.std.proofs.Common.{◌≡◌, ℕ, zero, suc, ◌<◌, ◌≤◌, Bool, true, false, List, [], ◌∷◌, ◌++◌, map, Some, None, refl, sym, ap, ◌∙◌, inl, inr, arith}
+use Rattle.std.proofs.Common.{◌≡◌, ℕ, zero, suc, ◌<◌, ◌≤◌, Bool, true, false, List, [], ◌∷◌, ◌++◌, length, map, Some, None, refl, sym, ap, ◌∙◌, inl, inr, arith}
 use Rattle.std.specs.Prelude.{◌⊎◌, replicate}
+use Rattle.std.proofs.lemmas.List.{length-replicate}
+use Rattle.columns_core.proofs.BitLemmas.{length-low_bits}
 use Rattle.parquet_page.specs.Plan.{Keep, KeepNull, Pass, Step, plan}
-use Rattle.parquet_page.specs.Runs.{GivesRun, run_rows}
+use Rattle.parquet_page.specs.Runs.{GivesRun}
 use Rattle.parquet_page.specs.Stretches.{BeginsOtherwise, BeginsWith}
 use Rattle.parquet_page.specs.ValidityLeft.{IsLongest}
+use Rattle.parquet_page.specs.ValidityParts.{GivesPart, part_rows, part_steps, word_places}
 use Rattle.parquet_page.specs.declared.run.Run.{Run}
 use Rattle.parquet_page.specs.declared.run.Run.TheVariants.{Present, Null, Passed}
+use Rattle.parquet_page.specs.declared.validity_part.ValidityPart.{ValidityPart}
+use Rattle.parquet_page.specs.declared.validity_part.ValidityPart.TheVariants.{Run as OfRun, Word as OfWord}
 use Rattle.parquet_page.proofs.PlanLemmas.{kept_as}
-use Rattle.parquet_page.proofs.ValidityLemmas.{plan-all}
-use Rattle.column_values.specs.FilteredLeft.{IsRunOf, tally_of}
+use Rattle.parquet_page.proofs.ValidityLemmas.{length-all, plan-all}
+use Rattle.column_values.specs.FilteredLeft.{IsPartOf, IsRunOf}
 
 same-kept : (x y : Bool) → kept_as x ≡ kept_as y → x ≡ y
 same-kept true true e = refl
@@ -69,10 +74,27 @@ run-of limit old new (Present n) gives longest = record { kind = true; is = refl
 run-of limit old new (Null n) gives longest = record { kind = false; is = refl; some = gives.1; begins = kept-begins limit n false old new gives.0 gives.2 longest }
 run-of limit old new (Passed n) gives longest = absurd (none-passed n old (plan None new) gives.1 (sym (plan-all 0 old) ∙ gives.0))
 
-pub tally-rows : (run : Run) → (tally_of run).0 ≡ run_rows run
-tally-rows (Present n) = refl
-tally-rows (Null n) = refl
-tally-rows (Passed n) = refl
+-- ---- parts
+
+split-steps : (steps : List Step) (old new : List Bool) → map kept_as old ≡ steps ++ map kept_as new → (places : List Bool) × (old ≡ places ++ new) × (map kept_as places ≡ steps)
+split-steps [] old new e = ([], same-places old new e, refl)
+split-steps (step ∷ steps) [] new e = absurd (not-empty step (steps ++ map kept_as new) e)
+split-steps (step ∷ steps) (place ∷ old) new e =
+    let others = split-steps steps old new (rest-is (kept_as place) step (map kept_as old) (steps ++ map kept_as new) e) in
+    let own = first-is (kept_as place) step (map kept_as old) (steps ++ map kept_as new) e in
+    (place ∷ others.0, ap (λ places. place ∷ places) others.1, ap (λ first. first ∷ map kept_as others.0) own ∙ ap (λ rest. step ∷ rest) others.2)
+
+with-places : (limit : ℕ) (old new : List Bool) (part : ValidityPart) → GivesPart limit (plan None old) (plan None new) (Some part) → length (part_steps part) ≡ part_rows part → 0 < part_rows part → IsPartOf limit old new part
+with-places limit old new part gives long some =
+    let split = split-steps (part_steps part) old new (sym (plan-all 0 old) ∙ gives.0 ∙ ap (λ steps. part_steps part ++ steps) (plan-all 0 new)) in
+    let steps : plan None split.0 ≡ part_steps part = plan-all 0 split.0 ∙ split.2 in
+    record { places = split.0; split = split.1; steps = steps; count = sym (length-all split.0) ∙ ap length steps ∙ long; some = some; most = gives.2 }
+
+pub part-of : (limit : ℕ) (old new : List Bool) (part : ValidityPart) → GivesPart limit (plan None old) (plan None new) (Some part) → IsPartOf limit old new part
+part-of limit old new (OfRun (Present n)) gives = with-places limit old new (OfRun (Present n)) gives (length-replicate n Keep) gives.1
+part-of limit old new (OfRun (Null n)) gives = with-places limit old new (OfRun (Null n)) gives (length-replicate n KeepNull) gives.1
+part-of limit old new (OfRun (Passed n)) gives = absurd (none-passed n old (plan None new) gives.1 (sym (plan-all 0 old) ∙ gives.0))
+part-of limit old new (OfWord word) gives = with-places limit old new (OfWord word) gives (length-all (word_places word) ∙ length-low_bits word.bits word.rows) gives.1
 
 pub none-left : (places : List Bool) → plan None places ≡ [] → places ≡ []
 none-left places e = go places (sym (plan-all 0 places) ∙ e) where

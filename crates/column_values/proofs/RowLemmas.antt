@@ -13,11 +13,11 @@ use Rattle.column_values.proofs.QueueLemmas.{pushed-IsCut, map-push}
 
 -- ---- causes
 
-one_of-left : (first rest : List Cause) (o : Option Cause) → IsOneOf first o → IsOneOf (first ++ rest) o
+pub one_of-left : (first rest : List Cause) (o : Option Cause) → IsOneOf first o → IsOneOf (first ++ rest) o
 one_of-left first rest None h = absurd h
 one_of-left first rest (Some cause) h = Contains-append_left first rest cause h
 
-one_of-right : (first rest : List Cause) (o : Option Cause) → IsOneOf rest o → IsOneOf (first ++ rest) o
+pub one_of-right : (first rest : List Cause) (o : Option Cause) → IsOneOf rest o → IsOneOf (first ++ rest) o
 one_of-right first rest None h = absurd h
 one_of-right first rest (Some cause) h = Contains-append_right first rest cause h
 

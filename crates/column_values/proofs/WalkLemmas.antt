@@ -3,21 +3,26 @@ use Rattle.std.proofs.Common.{◌≡◌, ℕ, zero, suc, ◌+◌, ◌-◌, ◌<�
 use Rattle.std.specs.Prelude.{◌⊎◌, if◌then◌else◌, replicate, filter, max, min, IfNone, IfSome, IsSome}
 use Rattle.std.specs.List.{range_with_len}
 use Rattle.std.proofs.lemmas.Bool.{cases_lt}
+use Rattle.std.proofs.lemmas.List.{length-replicate}
 use Rattle.std.proofs.lemmas.List.FromFn.{length-range_with_len}
 use Rattle.parquet_page.specs.Content.{DataContent}
 use Rattle.parquet_page.specs.Levels.{present_count}
-use Rattle.parquet_page.specs.Plan.{Pass, Step, is_selected, plan_from}
+use Rattle.parquet_page.specs.Plan.{Pass, Step, is_selected, plan, plan_from}
 use Rattle.parquet_page.specs.Runs.{GivesRun, expand, run_length, run_rows}
 use Rattle.parquet_base.specs.Intervals.{end, rows_of}
 use Rattle.parquet_base.specs.declared.interval.Interval.{Interval}
 use Rattle.parquet_page.specs.SliceLeft.{GivesRun as SliceGives, IsWalkOver, first_count, first_left, rows_from, rows_left}
 use Rattle.parquet_page.specs.Stretches.{BeginsOtherwise}
 use Rattle.parquet_page.specs.ValidityLeft.{optional_left, step_of}
+use Rattle.parquet_page.specs.ValidityParts.{GivesPart, part_length, part_rows}
 use Rattle.parquet_page.specs.declared.run.Run.{Run}
-use Rattle.parquet_page.specs.declared.run.Run.TheVariants.{Present, Null}
+use Rattle.parquet_page.specs.declared.run.Run.TheVariants.{Present, Null, Passed}
 use Rattle.parquet_page.specs.declared.slice_filtered.SliceFiltered.{SliceFiltered}
+use Rattle.parquet_page.specs.declared.validity_part.ValidityPart.{ValidityPart}
+use Rattle.parquet_page.specs.declared.validity_part.ValidityPart.TheVariants.{Run as OfRun, Word as OfWord}
 use Rattle.parquet_page.proofs.PlanLemmas.{kept_as}
-use Rattle.column_values.specs.FilteredLeft.{AreGiven, IsLongestOf, IsPageOf, IsRunOf, PassesOver, filtered_steps, places_left, selected_rows}
+use Rattle.parquet_page.proofs.ValidityLemmas.{copies-kept, plan-all}
+use Rattle.column_values.specs.FilteredLeft.{AreGiven, IsLongestOf, IsPageOf, IsPartOf, IsRunOf, PassesOver, filtered_steps, places_left, selected_rows}
 use Rattle.column_values.specs.declared.filtered_validity.FilteredOptionalPageValidity.{FilteredOptionalPageValidity}
 use Rattle.column_values.proofs.FilteredLemmas.{begins, behind-gap, is_range, keeps-rows, none-selected, not-passed, other-step, passes-rows}
 
@@ -146,11 +151,10 @@ stands-at page first taken old new is near leaves passed =
 -- ---- selected rows are given
 
 -- what taking rows leaves
-pub record Takes (page : DataContent) (taken : ℕ) (old new : FilteredOptionalPageValidity) (run : Run) : Type 0 where
+pub record Takes (page : DataContent) (count : ℕ) (old new : FilteredOptionalPageValidity) : Type 0 where
   pub levels : IsSome (optional_left new.places page)
-  pub own : IsRunOf taken (places_left old.places page) (places_left new.places page) run
-  pub given : AreGiven (run_rows run) (rows_left old.rows (selected_rows page)) (rows_left new.rows (selected_rows page)) new.rows.place
-  pub row : new.row ≡ old.row + run_rows run
+  pub given : AreGiven count (rows_left old.rows (selected_rows page)) (rows_left new.rows (selected_rows page)) new.rows.place
+  pub row : new.row ≡ old.row + count
   pub place : new.place ≡ new.row
   pub intervals : IsWalkOver new.rows (selected_rows page)
 
@@ -160,6 +164,43 @@ same-first (suc n) zero first other xs ys some more e = absurd (omega arith)
 same-first (suc n) (suc m) first other xs ys some more e = heads first other (range_with_len (first + 1) n ++ xs) (range_with_len (other + 1) m ++ ys) e where
   heads : (x y : ℕ) (xs ys : List ℕ) → x ∷ xs ≡ y ∷ ys → x ≡ y
   heads x y xs ys e = cc
+
+-- the places of the rows that are taken are all given
+record GivesRows (page : DataContent) (taken : ℕ) (places : List Bool) (before old new : FilteredOptionalPageValidity) : Type 0 where
+  pub steps : filtered_steps before page ≡ plan None places ++ filtered_steps new page
+  pub selected : (k : ℕ) → k < taken → is_selected page.selected (old.row + k) ≡ true
+  pub is_page : IsPageOf new page
+
+gives-rows : (page : DataContent) (first taken count : ℕ) (places : List Bool) (before old new : FilteredOptionalPageValidity) (rest : List ℕ) → StandsAt page first before old → 0 < taken → rows_left before.rows (selected_rows page) ≡ range_with_len first taken ++ rest
+    → Takes page count old new → places_left old.places page ≡ places ++ places_left new.places page → length places ≡ count → 0 < count → GivesRows page taken places before old new
+gives-rows page first taken count places before old new rest stands some split took front long positive =
+    let test = is_selected page.selected in
+    let all = places_left old.places page in
+    let behind = places_left new.places page in
+    let here : rows_left old.rows (selected_rows page) ≡ range_with_len first taken ++ rest = ap (λ rows. rows_left rows (selected_rows page)) stands.rows ∙ split in
+    let start : first ≡ took.given.first = same-first taken count first took.given.first rest (rows_left new.rows (selected_rows page)) some positive (sym here ∙ took.given.split) in
+    let at : old.row ≡ first = stands.row in
+    let in_row : filter test (range_with_len old.row (length all)) ≡ range_with_len old.row taken ++ rest = sym stands.is_page.rows ∙ here ∙ ap (λ from. range_with_len from taken ++ rest) (sym at) in
+    let range = is_range test old.row (length all) taken rest in_row in
+    let given : filter test (range_with_len old.row (length all)) ≡ range_with_len old.row count ++ rows_left new.rows (selected_rows page) =
+    sym stands.is_page.rows ∙ took.given.split ∙ ap (λ from. range_with_len from count ++ rows_left new.rows (selected_rows page)) (sym start ∙ sym at) in
+    let left = is_range test old.row (length all) count (rows_left new.rows (selected_rows page)) given in
+    let kept = keeps-rows page.selected old.row count places all behind front long left.passes in
+    let size : length all - count ≡ length behind = omega (arith, kept.many) in
+    record {
+      steps = stands.same ∙ kept.steps ∙ ap (λ row. plan None places ++ plan_from page.selected row behind) (sym took.row);
+      selected = range.passes;
+      is_page = record {
+        levels = took.levels;
+        intervals = took.intervals;
+        place = omega (arith, took.place, took.row, took.given.behind, start, at);
+        row = omega (arith, took.row, kept.many, stands.is_page.row);
+        fits = stands.is_page.fits;
+        rows = sym left.behind ∙ ap (λ n. filter test (range_with_len (old.row + count) n)) size ∙ ap (λ row. filter test (range_with_len row (length behind))) (sym took.row);
+      };
+    }
+
+-- ---- rows of one kind
 
 expanded : (kind : Bool) (n : ℕ) (run : Run) → run ≡ (if kind then Present n else Null n) → replicate n (kept_as kind) ≡ expand run
 expanded true n run e = sym (ap expand e)
@@ -173,53 +214,31 @@ long : (kind : Bool) (n : ℕ) (run : Run) → run ≡ (if kind then Present n e
 long true n run e some = let P : Run → Type 0 = λ r. 0 < run_length r in subst P (sym e) some
 long false n run e some = let P : Run → Type 0 = λ r. 0 < run_length r in subst P (sym e) some
 
-pub takes : (limit : ℕ) (page : DataContent) (first taken : ℕ) (before old new : FilteredOptionalPageValidity) (run : Run) (rest : List ℕ) → StandsAt page first before old → 0 < taken → taken ≡ min limit (first_left before.rows (selected_rows page))
-    → rows_left before.rows (selected_rows page) ≡ range_with_len first taken ++ rest → Takes page taken old new run → Goes limit page before new (Some run)
-takes limit page first taken before old new run rest stands some most split took =
-    let test = is_selected page.selected in
-    let places = places_left old.places page in
-    let behind = places_left new.places page in
+takes : (limit : ℕ) (page : DataContent) (first taken : ℕ) (before old new : FilteredOptionalPageValidity) (run : Run) (rest : List ℕ) → StandsAt page first before old → 0 < taken → taken ≡ min limit (first_left before.rows (selected_rows page))
+    → rows_left before.rows (selected_rows page) ≡ range_with_len first taken ++ rest → IsRunOf taken (places_left old.places page) (places_left new.places page) run → Takes page (run_rows run) old new → Goes limit page before new (Some run)
+takes limit page first taken before old new run rest stands some most split own took =
     let count = run_rows run in
-    let own = took.own in
-    let here : rows_left old.rows (selected_rows page) ≡ range_with_len first taken ++ rest = ap (λ rows. rows_left rows (selected_rows page)) stands.rows ∙ split in
-    let start : first ≡ took.given.first = same-first taken count first took.given.first rest (rows_left new.rows (selected_rows page)) some own.some (sym here ∙ took.given.split) in
-    let at : old.row ≡ first = stands.row in
-    let in_row : filter test (range_with_len old.row (length places)) ≡ range_with_len old.row taken ++ rest = sym stands.is_page.rows ∙ here ∙ ap (λ from. range_with_len from taken ++ rest) (sym at) in
-    let range = is_range test old.row (length places) taken rest in_row in
-    let given : filter test (range_with_len old.row (length places)) ≡ range_with_len old.row count ++ rows_left new.rows (selected_rows page) =
-    sym stands.is_page.rows ∙ took.given.split ∙ ap (λ from. range_with_len from count ++ rows_left new.rows (selected_rows page)) (sym start ∙ sym at) in
-    let left = is_range test old.row (length places) count (rows_left new.rows (selected_rows page)) given in
-    let kept = keeps-rows page.selected old.row taken count own.kind places behind own.begins left.passes in
-    let size : length places - count ≡ length behind = omega (arith, kept.many) in
+    let places = replicate count own.kind in
+    let gives = gives-rows page first taken count places before old new rest stands some split took own.begins.split (length-replicate count own.kind) own.some in
     record {
       run = (
-        stands.same
-            ∙ kept.steps
-            ∙ ap (λ steps. steps ++ plan_from page.selected (old.row + count) behind) (expanded own.kind count run own.is)
-            ∙ ap (λ row. expand run ++ plan_from page.selected row behind) (sym took.row),
+        gives.steps ∙ ap (λ steps. steps ++ filtered_steps new page) (plan-all 0 places ∙ copies-kept own.kind count ∙ expanded own.kind count run own.is),
         long own.kind count run own.is own.some,
         omega (arith, own.begins.most, most),
       );
-      longest = elim own.begins.longest as (λ _. (count ≡ limit) ⊎ ((count ≡ first_left before.rows (selected_rows page)) ⊎ BeginsOtherwise (step_of run) (filtered_steps new page))) [ inl all ↦ ended all | inr other ↦ otherwise other range.passes own.begins.most ];
-      is_page = record {
-        levels = took.levels;
-        intervals = took.intervals;
-        place = omega (arith, took.place, took.row, took.given.behind, start, at);
-        row = omega (arith, took.row, kept.many, stands.is_page.row);
-        fits = stands.is_page.fits;
-        rows = sym left.behind ∙ ap (λ n. filter test (range_with_len (old.row + count) n)) size ∙ ap (λ row. filter test (range_with_len row (length behind))) (sym took.row);
-      };
+      longest = elim own.begins.longest as (λ _. (count ≡ limit) ⊎ ((count ≡ first_left before.rows (selected_rows page)) ⊎ BeginsOtherwise (step_of run) (filtered_steps new page))) [ inl all ↦ ended all | inr other ↦ otherwise other gives.selected own.begins.most ];
+      is_page = gives.is_page;
     } where
       ended : run_rows run ≡ taken → (run_rows run ≡ limit) ⊎ ((run_rows run ≡ first_left before.rows (selected_rows page)) ⊎ BeginsOtherwise (step_of run) (filtered_steps new page))
       ended all = elim (cases_lt limit (first_left before.rows (selected_rows page))) [ inl less ↦ inl (omega (arith, all, most, less)) | inr more ↦ inr (inl (omega (arith, all, most, more))) ]
 
-      otherwise : BeginsOtherwise took.own.kind (places_left new.places page) → ((k : ℕ) → k < taken → is_selected page.selected (old.row + k) ≡ true) → run_rows run ≤ taken
+      otherwise : BeginsOtherwise own.kind (places_left new.places page) → ((k : ℕ) → k < taken → is_selected page.selected (old.row + k) ≡ true) → run_rows run ≤ taken
           → (run_rows run ≡ limit) ⊎ ((run_rows run ≡ first_left before.rows (selected_rows page)) ⊎ BeginsOtherwise (step_of run) (filtered_steps new page))
       otherwise other all within =
           let next = λ (less : run_rows run < taken). ap (is_selected page.selected) took.row ∙ all (run_rows run) less in
           let S : Step → Type 0 = λ step. BeginsOtherwise step (filtered_steps new page) in
           elim (cases_lt (run_rows run) taken) [
-            | inl less ↦ inr (inr (subst S (stepped took.own.kind (run_rows run) run took.own.is) (other-step page.selected new.row took.own.kind (places_left new.places page) (next less) other)))
+            | inl less ↦ inr (inr (subst S (stepped own.kind (run_rows run) run own.is) (other-step page.selected new.row own.kind (places_left new.places page) (next less) other)))
             | inr more ↦ ended (omega (arith, more, within))
           ]
 
@@ -273,4 +292,36 @@ taken-rows limit page rows first taken before old new None rest same stands some
 taken-rows limit page rows first taken before old new (Some run) rest same stands some most split ended own given row place levels walk =
     let G : List Interval → Type 0 = λ xs. AreGiven (run_rows run) (rows_left old.rows xs) (rows_left new.rows xs) new.rows.place in
     let W : List Interval → Type 0 = λ xs. IsWalkOver new.rows xs in
-    takes limit page first taken before old new run rest stands some most split (record { levels = levels; own = own; given = subst G same given; row = row; place = place; intervals = subst W same walk })
+    takes limit page first taken before old new run rest stands some most split own (record { levels = levels; given = subst G same given; row = row; place = place; intervals = subst W same walk })
+
+-- ---- rows of a part
+
+-- what a call for a part gives, and what it leaves
+pub record GoesPart (limit : ℕ) (page : DataContent) (old new : FilteredOptionalPageValidity) (result : Option ValidityPart) : Type 0 where
+  pub part : GivesPart limit (filtered_steps old page) (filtered_steps new page) result
+  pub is_page : IsPageOf new page
+
+-- a walk that stands at the next selected row
+pub stands-there : (page : DataContent) (first taken : ℕ) (walk : FilteredOptionalPageValidity) → IsPageOf walk page → Nears page first taken walk → first ≡ walk.row → StandsAt page first walk walk
+stands-there page first taken walk is near at = record { is_page = is; same = refl; row = sym at; rows = refl; some = omega (arith, near.high, at) }
+
+some-steps : (part : ValidityPart) → 0 < part_rows part → (0 < part_length part)
+some-steps (OfRun (Present n)) some = some
+some-steps (OfRun (Null n)) some = some
+some-steps (OfRun (Passed n)) some = absurd (omega arith)
+some-steps (OfWord word) some = some
+
+pub taken-part : (limit : ℕ) (page : DataContent) (rows : List Interval) (first taken : ℕ) (before old new : FilteredOptionalPageValidity) (result : Option ValidityPart) (rest : List ℕ) → rows ≡ selected_rows page → StandsAt page first before old → 0 < taken
+    → taken ≡ min limit (first_left before.rows (selected_rows page)) → rows_left before.rows (selected_rows page) ≡ range_with_len first taken ++ rest → IfNone result (places_left old.places page ≡ [])
+    → IfSome result (IsPartOf taken (places_left old.places page) (places_left new.places page)) → IfSome result (λ part. AreGiven (part_rows part) (rows_left old.rows rows) (rows_left new.rows rows) new.rows.place) → IfSome result (λ part. new.row ≡ old.row + part_rows part)
+    → IfSome result (λ part. new.place ≡ new.row) → IsSome (optional_left new.places page) → IsWalkOver new.rows rows → GoesPart limit page before new result
+taken-part limit page rows first taken before old new None rest same stands some most split ended own given row place levels walk = absurd (omega (arith, stands.some, ap length ended))
+taken-part limit page rows first taken before old new (Some part) rest same stands some most split ended own given row place levels walk =
+    let G : List Interval → Type 0 = λ xs. AreGiven (part_rows part) (rows_left old.rows xs) (rows_left new.rows xs) new.rows.place in
+    let W : List Interval → Type 0 = λ xs. IsWalkOver new.rows xs in
+    let took : Takes page (part_rows part) old new = record { levels = levels; given = subst G same given; row = row; place = place; intervals = subst W same walk } in
+    let gives = gives-rows page first taken (part_rows part) own.places before old new rest stands some split took own.split own.count own.some in
+    record {
+      part = (gives.steps ∙ ap (λ steps. steps ++ filtered_steps new page) own.steps, some-steps part own.some, omega (arith, own.most, most));
+      is_page = gives.is_page;
+    }

@@ -1,17 +1,19 @@
 -- What a walk over the selected rows of a page has still to give.
-use Rattle.std.specs.Prelude.{◌≡◌, ℕ, zero, suc, ◌+◌, ◌<◌, ◌^◌, ◌⊎◌, Bool, if◌then◌else◌, List, [], ◌∷◌, ◌++◌, filter, length, Option, Some, None, IsSome, unwrap_or}
+use Rattle.std.specs.Prelude.{◌≡◌, ℕ, zero, suc, ◌+◌, ◌<◌, ◌≤◌, ◌^◌, ◌⊎◌, Bool, if◌then◌else◌, List, [], ◌∷◌, ◌++◌, filter, length, Option, Some, None, IsSome, unwrap_or}
 use Rattle.std.specs.List.{range_with_len}
 use Rattle.parquet_base.specs.Intervals.{interval}
 use Rattle.parquet_base.specs.declared.interval.Interval.{Interval}
 use Rattle.parquet_page.specs.Content.{DataContent, header_values}
-use Rattle.parquet_page.specs.Plan.{Keep, KeepNull, Pass, Step, is_selected, plan_from}
+use Rattle.parquet_page.specs.Plan.{Keep, KeepNull, Pass, Step, is_selected, plan, plan_from}
 use Rattle.parquet_page.specs.Runs.{run_rows}
 use Rattle.parquet_page.specs.SliceLeft.{IsWalkOver, first_left, rows_left}
 use Rattle.parquet_page.specs.Stretches.{BeginsOtherwise, BeginsWith}
 use Rattle.parquet_page.specs.ValidityLeft.{optional_left, step_of}
+use Rattle.parquet_page.specs.ValidityParts.{part_rows, part_steps}
 use Rattle.parquet_page.specs.declared.run.Run.{Run}
 use Rattle.parquet_page.specs.declared.run.Run.TheVariants.{Present, Null, Passed}
 use Rattle.parquet_page.specs.declared.validity.OptionalPageValidity.{OptionalPageValidity}
+use Rattle.parquet_page.specs.declared.validity_part.ValidityPart.{ValidityPart}
 use Rattle.column_values.specs.declared.filtered_validity.FilteredOptionalPageValidity.{FilteredOptionalPageValidity}
 
 -- selected rows as intervals; without a selection all of so many rows are selected
@@ -64,14 +66,17 @@ pub record IsRunOf (limit : ℕ) (old new : List Bool) (run : Run) : Type 0 wher
   pub some : 0 < run_rows run
   pub begins : BeginsWith limit kind (run_rows run) old new
 
+-- places that stand at the front and are those of a part, so many at most
+pub record IsPartOf (limit : ℕ) (old new : List Bool) (part : ValidityPart) : Type 0 where
+  pub places : List Bool
+  pub split : old ≡ places ++ new
+  pub steps : plan None places ≡ part_steps part
+  pub count : length places ≡ part_rows part
+  pub some : 0 < part_rows part
+  pub most : part_rows part ≤ limit
+
 -- so many of the selected rows are given, up to the row at which the others are looked for
 pub record AreGiven (count : ℕ) (old new : List ℕ) (place : ℕ) : Type 0 where
   pub first : ℕ
   pub split : old ≡ range_with_len first count ++ new
   pub behind : place ≡ first + count
-
--- how many rows a run over all rows has, and how many stored values
-abbrev pub tally_of : Run → ℕ × ℕ
-tally_of (Present rows) = (rows, rows)
-tally_of (Null rows) = (rows, 0)
-tally_of (Passed values) = (0, 0)

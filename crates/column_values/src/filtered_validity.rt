@@ -8,24 +8,14 @@ ghost use Rattle.parquet_page.specs.Plan.{kept_count, plan};
 ghost use Rattle.parquet_page.specs.Runs.{GivesRun, run_rows};
 ghost use Rattle.parquet_page.specs.SliceLeft.{IsWalkOver, first_left, rows_left};
 ghost use Rattle.parquet_page.specs.ValidityLeft.{levels_causes, optional_left, page_places};
-ghost use Rattle.column_values.specs.FilteredLeft.{AreGiven, IsRunOf, PassesOver, intervals_of, places_left, tally_of};
+ghost use Rattle.parquet_page.specs.ValidityParts.{GivesPart, part_rows};
+ghost use Rattle.column_values.specs.FilteredLeft.{AreGiven, IsPartOf, IsRunOf, PassesOver, intervals_of, places_left};
 
 use columns_core::Error;
-use parquet_page::{DataPage, Interval, OptionalPageValidity, Run, SliceFiltered};
+use parquet_page::{DataPage, Interval, OptionalPageValidity, Run, SliceFiltered, ValidityPart};
 
-/// How many rows a run of a walk over all rows has, and how many stored values.
-fn tally(run: Run) -> (usize, usize)
-    ensures { result ≡ tally_of run }
-{
-    match run {
-        Run::Present(rows) => (rows, rows),
-        Run::Null(rows) => (rows, 0),
-        Run::Passed(_) => (0, 0),
-    }
-}
-
-/// Walks the selected rows of a page, in runs of rows that have a value, rows that are null, and stored values that are passed over.
-/// It holds places, and the page is handed to each call.
+/// Walks the selected rows of a page, in runs of rows that have a value, rows that are null, and stored values that are passed over, or
+/// by the bits of words. It holds places, and the page is handed to each call.
 #[derive(Clone, Copy)]
 pub struct FilteredOptionalPageValidity {
     /// All rows, from one on.
@@ -77,6 +67,24 @@ impl FilteredOptionalPageValidity {
         }
     }
 
+    /// The next part, with `limit` selected rows at most: the bits of packed levels of selected rows that stand side by side, or a run. Which of
+    /// the two comes and how long it is, is not promised. The page is that of `try_new`.
+    pub fn next_part(&mut self, page: &DataPage<'_>, limit: usize) -> Option<ValidityPart>
+        requires page { IsPageOf self.old (data_content page.now) }
+        requires limit { 0 < limit }
+        ensures part { GivesPart limit (filtered_steps self.old (data_content page.now)) (filtered_steps self.new (data_content page.now)) result }
+        ensures page { IsPageOf self.new (data_content page.now) }
+    {
+        match page.selected_rows {
+            Some(rows) => self.next_part_of(page, rows, limit),
+            None => {
+                let count = self.row + self.places.len();
+                let whole = [Interval::new(0, count)];
+                self.next_part_of(page, &whole[..count.min(1)], limit)
+            }
+        }
+    }
+
     /// How many selected rows are left.
     pub fn len(&self) -> usize
         ensures { (page : DataContent) → IsPageOf self.now page → result ≡ kept_count (filtered_steps self.now page) }
@@ -115,6 +123,28 @@ impl FilteredOptionalPageValidity {
         }
     }
 
+    /// The next part over these intervals.
+    fn next_part_of(
+        &mut self,
+        page: &DataPage<'_>,
+        rows: &[Interval],
+        limit: usize,
+    ) -> Option<ValidityPart>
+        requires page { IsPageOf self.old (data_content page.now) }
+        requires rows { rows.now ≡ selected_rows (data_content page.now) }
+        requires limit { 0 < limit }
+        ensures part { GivesPart limit (filtered_steps self.old (data_content page.now)) (filtered_steps self.new (data_content page.now)) result }
+        ensures page { IsPageOf self.new (data_content page.now) }
+    {
+        let mut ahead = self.rows;
+        match ahead.next(rows, limit) {
+            Some((passed, taken)) if self.place + passed == self.row => {
+                self.take_part(page, rows, taken)
+            }
+            _ => Some(ValidityPart::Run(self.next_of(page, rows, limit)?)),
+        }
+    }
+
     /// Passes over rows that are not selected.
     fn pass(&mut self, page: &DataPage<'_>, rows: usize) -> Option<Run>
         requires page { IsSome (optional_left self.old.places (data_content page.now)) }
@@ -126,6 +156,9 @@ impl FilteredOptionalPageValidity {
         ensures rows { self.new.rows ≡ self.old.rows }
         ensures place { self.new.place ≡ self.old.place }
     {
+        if rows == 0 {
+            return None;
+        }
         let values = self.places.pass(page, rows);
         self.row += rows;
         if values > 0 {
@@ -151,11 +184,39 @@ impl FilteredOptionalPageValidity {
         ensures walk { IsWalkOver self.new.rows rows.now }
     {
         let run = self.places.next(page, limit)?;
-        let (count, _) = tally(run);
+        let count = run.rows();
         let _ = self.rows.next(rows, count);
         self.row += count;
         self.place = self.row;
         Some(run)
+    }
+
+    /// Takes a part of the next selected rows, at most `limit`.
+    fn take_part(
+        &mut self,
+        page: &DataPage<'_>,
+        rows: &[Interval],
+        limit: usize,
+    ) -> Option<ValidityPart>
+        requires page { IsSome (optional_left self.old.places (data_content page.now)) }
+        requires walk { IsWalkOver self.old.rows rows.now }
+        requires some { 0 < limit }
+        requires most { limit ≤ first_left self.old.rows rows.now }
+        requires fits { self.old.row + length (places_left self.old.places (data_content page.now)) < 2 ^ 64 }
+        ensures ended { IfNone result (places_left self.old.places (data_content page.now) ≡ []) }
+        ensures part { IfSome result (IsPartOf limit (places_left self.old.places (data_content page.now)) (places_left self.new.places (data_content page.now))) }
+        ensures given { IfSome result (λ part. AreGiven (part_rows part) (rows_left self.old.rows rows.now) (rows_left self.new.rows rows.now) self.new.rows.place) }
+        ensures row { IfSome result (λ part. self.new.row ≡ self.old.row + part_rows part) }
+        ensures place { IfSome result (λ part. self.new.place ≡ self.new.row) }
+        ensures page { IsSome (optional_left self.new.places (data_content page.now)) }
+        ensures walk { IsWalkOver self.new.rows rows.now }
+    {
+        let part = self.places.next_part(page, limit)?;
+        let given = part.rows();
+        let _ = self.rows.next(rows, given);
+        self.row += given;
+        self.place = self.row;
+        Some(part)
     }
 }
 

@@ -7,6 +7,8 @@ mod filtered_validity;
 pub mod laws;
 mod next_chunk;
 mod queue;
+#[cfg(test)]
+mod tests;
 
 pub use chunks::Chunks;
 pub use decoder::{DecodedState, Decoder};

@@ -1,30 +1,29 @@
 -- Levels that are the same, one behind the other.
-use Rattle.std.proofs.Common.{◌≡◌, ℕ, zero, suc, ◌+◌, ◌-◌, ◌/◌, ◌%◌, ◌^◌, ◌<◌, ◌≤◌, leb, eqb, cond, Bool, true, false, List, [], ◌∷◌, ◌++◌, length, take, drop, map, get_or, Option, Some, None, refl, sym, ap, subst, ◌∙◌, inl, inr, arith, take-append-drop}
-use lib.Lanes.{mask_l}
+use Rattle.std.proofs.Common.{◌≡◌, ℕ, zero, suc, ◌+◌, ◌-◌, ◌/◌, ◌%◌, ◌^◌, ◌<◌, ◌≤◌, leb, cond, Bool, true, false, List, [], ◌∷◌, ◌++◌, length, take, drop, map, get_or, Option, Some, None, refl, sym, ap, subst, ◌∙◌, inl, inr, arith, take-append-drop}
 use Rattle.std.specs.Int.{w64, trailing_ones, trailing_zeros}
 use Rattle.std.specs.Int.Count.{ones, trailing_of_zero}
 use Rattle.std.specs.Prelude.{min, count_by, ◌&&◌, ◌==◌, ◌⊎◌, replicate, unwrap_or, IsSome, nat_le, slice_get, is_some}
 use Rattle.std.specs.List.{list_all}
-use Rattle.std.proofs.Math.Pow.{mod-mod-pow}
+use Rattle.std.proofs.Math.Pow.{mod-mod-pow, pow_pos}
 use Rattle.std.proofs.lemmas.Bool.{and_parts, leb-true, le-leb}
-use Rattle.std.proofs.lemmas.List.{length-drop, length-take}
+use Rattle.std.proofs.lemmas.List.{length-drop, length-take, map-append}
 use Rattle.std.proofs.lemmas.List.Folds.{list_all-append}
 use Rattle.std.proofs.lemmas.List.Sums.{count_by-le-length, sum_by-cons}
 use Rattle.std.proofs.lemmas.Nat.{field_of, shr-shr}
 use Rattle.std.proofs.lemmas.Nat.Bits.{bit_at-trailing_ones, bit_at-trailing_zeros, bit_at-zero, bit_at_lowest}
-use Rattle.std.proofs.lemmas.Simd.{ones-mask_l}
 use Rattle.parquet_base.specs.Bytes.{little_endian}
 use Rattle.parquet_base.specs.Reading.{given}
 use Rattle.parquet_encoding.proofs.StepLemmas.{is_something}
 use Rattle.parquet_encoding.specs.Bits.{bits_at, packed}
 use Rattle.parquet_encoding.specs.Hybrid.{hybrid}
-use Rattle.parquet_encoding.proofs.BitsLemmas.{length-packed, take-packed}
+use Rattle.parquet_encoding.proofs.BitsLemmas.{length-packed}
 use Rattle.parquet_encoding.proofs.HybridLemmas.{no_bits}
 use Rattle.parquet_meta.specs.declared.metadata.Repetition.{Repetition}
 use Rattle.parquet_meta.specs.declared.metadata.Repetition.TheVariants.{Required, Optional, Repeated}
 use Rattle.parquet_page.specs.Levels.{presence, present_count, top_level}
 use Rattle.parquet_page.specs.LevelsLeft.{places_of}
 use Rattle.parquet_page.specs.Stretches.{BeginsOtherwise, BeginsWith}
+use Rattle.parquet_page.proofs.WordLemmas.{bits_of_levels, ones_present}
 
 -- ---- the same number again and again
 
@@ -170,31 +169,17 @@ bits_end bytes width place count seen same bits wide one is widened few below ot
     rw one (otherwise_at (bits % 2) same (packed bytes 1 place count)
     (λ e. other (ap (λ n. n / 2 ^ same % 2) (widened ∙ is) ∙ sym (level_is bytes place count seen same below few) ∙ e ∙ ap (λ n. n % 2) (sym widened))))
 
-is-one : (b : ℕ) → b < 2 → cond (eqb b 1) 1 0 ≡ b
-is-one zero h = refl
-is-one (suc zero) h = refl
-is-one (suc (suc b)) h = absurd (omega arith)
-
--- its bits are the levels
-levels-mask : (bytes : List ℕ) (place n : ℕ) → bits_at bytes place n ≡ mask_l (map (λ level. level == 1) (packed bytes 1 place n))
-unfolding packed
-levels-mask bytes place zero = omega arith
-levels-mask bytes place (suc n) =
-    let m = little_endian bytes / 2 ^ place in
-    let x = m % 2 ^ (n + 1) in
-    let one : suc n ≡ n + 1 = omega arith in
-    let low : x % 2 ≡ m % 2 = mod-mod-pow m n 1 in
-    let high : x / 2 ≡ bits_at bytes (place + 1) n = field_of m n 1 ∙ ap (λ t. t % 2 ^ n) (shr-shr (little_endian bytes) place 1) in
-    let bit = is-one (m % 2) (omega arith) in
-    let rest = levels-mask bytes (place + 1) n in
-    let whole : m % 2 ^ suc n ≡ x = ap (λ t. m % 2 ^ t) one in
-    omega (arith, whole, low, high, bit, rest)
+present-map : (p : ℕ → Bool) (xs : List ℕ) → present_count (map p xs) ≡ count_by p xs
+present-map p [] = refl
+present-map p (x ∷ xs) =
+    sum_by-cons (λ (present : Bool). cond present 1 0) (p x) (map p xs) ∙ ap (λ n. cond (p x) 1 0 + n) (present-map p xs) ∙ sym (sum_by-cons (λ (level : ℕ). cond (p level) 1 0) x xs)
 
 -- as many of them are 1 as it has bits that are
 pub ones_of_levels : (bytes : List ℕ) (width top place seen count bits : ℕ) → width ≡ 1 → top ≡ 1 → bits ≡ bits_at bytes place seen → seen ≤ count
     → ones bits ≡ count_by (λ level. level == top) (take seen (packed bytes width place count))
 ones_of_levels bytes width top place seen count bits one is_one is few =
-    rw (one, is_one) (ap ones (is ∙ levels-mask bytes place seen) ∙ ones-mask_l (λ level. level == 1) (packed bytes 1 place seen) ∙ ap (count_by (λ level. level == 1)) (sym (take-packed seen bytes 1 place count few)))
+    let below : bits < 2 ^ seen = omega (arith, is, pow_pos seen) in
+    rw is_one (ones_present bits seen below ∙ ap present_count (bits_of_levels bytes width place seen count bits one is few) ∙ present-map (λ level. level == 1) (take seen (packed bytes width place count)))
 
 -- one bit is not above 1
 pub bits_low : (bytes : List ℕ) (width top place count : ℕ) → width ≡ 1 → 0 < top → list_all (λ level. nat_le level top) (take count (packed bytes width place count)) ≡ true
@@ -326,6 +311,48 @@ run_of_places top limit level count left_old left_new t spelled some positive be
       spelled = ap is_some is;
     }
 
+-- ---- places behind others
+
+-- the levels behind some tell of the places behind those
+record TellBehind (top n : ℕ) (left_old left_new : Option (List ℕ)) : Type 0 where
+  pub levels : List ℕ
+  pub are : unwrap_or left_old [] ≡ levels
+  pub old : unwrap_or (places_of top left_old) [] ≡ map (λ level. level == top) levels
+  pub new : unwrap_or (places_of top left_new) [] ≡ map (λ level. level == top) (drop n levels)
+  pub spelled : IsSome (places_of top left_new)
+
+tells-behind : (top n : ℕ) (left_old left_new : Option (List ℕ)) → IsSome (places_of top left_old) → left_new ≡ Some (drop n (unwrap_or left_old [])) → TellBehind top n left_old left_new
+tells-behind top n left_old left_new spelled behind =
+    let old = tells top left_old spelled in
+    let own : unwrap_or left_old [] ≡ old.levels = ap (λ (o : Option (List ℕ)). unwrap_or o []) old.are in
+    let both : (list_all (λ level. nat_le level top) (take n old.levels) && list_all (λ level. nat_le level top) (drop n old.levels)) ≡ true =
+    sym (list_all-append (λ level. nat_le level top) (take n old.levels) (drop n old.levels)) ∙ ap (list_all (λ level. nat_le level top)) (take-append-drop n old.levels) ∙ old.low in
+    let low = (and_parts (list_all (λ level. nat_le level top) (take n old.levels)) (list_all (λ level. nat_le level top) (drop n old.levels)) both).1 in
+    let is = told top left_new (drop n old.levels) (behind ∙ ap (λ xs. Some (drop n xs)) own) low in
+    record { levels = old.levels; are = own; old = old.tell; new = ap (λ (o : Option (List Bool)). unwrap_or o []) is; spelled = ap is_some is }
+
+-- the next places are those of a word
+pub record IsWordOf (top : ℕ) (word old new : List Bool) (left_new : Option (List ℕ)) : Type 0 where
+  pub split : old ≡ word ++ new
+  pub spelled : IsSome (places_of top left_new)
+
+pub word_of_places : (top rows many : ℕ) (left_old left_new : Option (List ℕ)) (run : List ℕ) (word : List Bool) → top ≡ 1 → IsSome (places_of top left_old) → left_new ≡ Some (drop rows (unwrap_or left_old []))
+    → run ≡ take many (unwrap_or left_old []) → rows ≤ many → word ≡ map (λ level. level == 1) (take rows run) → IsWordOf top word (unwrap_or (places_of top left_old) []) (unwrap_or (places_of top left_new) []) left_new
+word_of_places top rows many left_old left_new run word one spelled behind front less told =
+    let p : ℕ → Bool = λ level. level == top in
+    let left = tells-behind top rows left_old left_new spelled behind in
+    let own : take rows run ≡ take rows left.levels = ap (take rows) (front ∙ ap (take many) left.are) ∙ take-take rows many left.levels less in
+    let word_is : word ≡ map p (take rows left.levels) = told ∙ ap (λ n. map (λ level. level == n) (take rows run)) (sym one) ∙ ap (map p) own in
+    record {
+      split =
+          left.old
+          ∙ ap (map p) (sym (take-append-drop rows left.levels))
+          ∙ map-append p (take rows left.levels) (drop rows left.levels)
+          ∙ ap (λ places. places ++ map p (drop rows left.levels)) (sym word_is)
+          ∙ ap (λ places. word ++ places) (sym left.new);
+      spelled = left.spelled;
+    }
+
 -- ---- passing over places
 
 present-taken : (p : ℕ → Bool) (n left : ℕ) (xs : List ℕ) → n ≤ left → present_count (take left (map p xs)) ≡ count_by p (take n xs) + present_count (take (left - n) (map p (drop n xs)))
@@ -362,17 +389,12 @@ pub record ArePassed (top n count left : ℕ) (old new : List Bool) (left_new : 
 pub passes : (top n count left : ℕ) (left_old left_new : Option (List ℕ)) → IsSome (places_of top left_old) → left_new ≡ Some (drop n (unwrap_or left_old [])) → n ≤ left
     → count ≡ count_by (λ level. level == top) (take n (unwrap_or left_old [])) → ArePassed top n count left (unwrap_or (places_of top left_old) []) (unwrap_or (places_of top left_new) []) left_new
 passes top n count left left_old left_new spelled behind most counted =
-    let old = tells top left_old spelled in
     let p : ℕ → Bool = λ level. level == top in
-    let own : unwrap_or left_old [] ≡ old.levels = ap (λ (o : Option (List ℕ)). unwrap_or o []) old.are in
-    let both : (list_all (λ level. nat_le level top) (take n old.levels) && list_all (λ level. nat_le level top) (drop n old.levels)) ≡ true =
-    sym (list_all-append (λ level. nat_le level top) (take n old.levels) (drop n old.levels)) ∙ ap (list_all (λ level. nat_le level top)) (take-append-drop n old.levels) ∙ old.low in
-    let low = (and_parts (list_all (λ level. nat_le level top) (take n old.levels)) (list_all (λ level. nat_le level top) (drop n old.levels)) both).1 in
-    let is = told top left_new (drop n old.levels) (behind ∙ ap (λ xs. Some (drop n xs)) own) low in
-    let new : unwrap_or (places_of top left_new) [] ≡ map p (drop n old.levels) = ap (λ (o : Option (List Bool)). unwrap_or o []) is in
+    let all = tells-behind top n left_old left_new spelled behind in
+    let rest = λ (xs : List Bool). present_count (take (left - n) xs) in
     record {
-      counted = ap (λ xs. present_count (take left xs)) old.tell ∙ present-taken p n left old.levels most ∙ ap (λ k. k + present_count (take (left - n) (map p (drop n old.levels)))) (sym (counted ∙ ap (λ xs. count_by p (take n xs)) own)) ∙ ap (λ xs. count + present_count (take (left - n) xs)) (sym new);
-      behind = ap (drop left) old.tell ∙ drop-taken p n left old.levels most ∙ ap (drop (left - n)) (sym new);
+      counted = ap (λ xs. present_count (take left xs)) all.old ∙ present-taken p n left all.levels most ∙ ap (λ k. k + rest (map p (drop n all.levels))) (sym (counted ∙ ap (λ xs. count_by p (take n xs)) all.are)) ∙ ap (λ xs. count + rest xs) (sym all.new);
+      behind = ap (drop left) all.old ∙ drop-taken p n left all.levels most ∙ ap (drop (left - n)) (sym all.new);
       few = omega (arith, counted, count_by-le-length p (take n (unwrap_or left_old [])), length-take n (unwrap_or left_old []));
-      spelled = ap is_some is;
+      spelled = all.spelled;
     }

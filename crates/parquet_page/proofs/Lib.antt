@@ -14,6 +14,7 @@ pub mod AloneLemmas
 pub mod SpelledLemmas
 pub mod SliceLemmas
 pub mod PlanLemmas
+pub mod WordLemmas
 pub mod LevelLemmas
 pub mod ValidityLemmas
 pub mod ChunkExamples

@@ -88,7 +88,7 @@ data_alone type (first ∷ others) = go (wanted_page first.0 first.1) (data_alon
 
 -- ---- a data page
 
-wanted_rows : (entry : FilteredPage) (part : List ℕ) (page : ChunkPage) → wanted_page entry part ≡ Some page → header_values page.header ≡ entry.num_rows
+pub wanted_rows : (entry : FilteredPage) (part : List ℕ) (page : ChunkPage) → wanted_page entry part ≡ Some page → header_values page.header ≡ entry.num_rows
 unfolding page_in
 wanted_rows entry part page e =
     let own = bind_some (given (length part == entry.length) part) (λ own. page_in own entry.num_rows) page e in

@@ -80,14 +80,14 @@ abbrev pub kept_as : Bool → Step
 kept_as true = Keep
 kept_as false = KeepNull
 
-pub plan-kept : (selected : Option (List Interval)) (row : ℕ) (kind : Bool) (n : ℕ) → ((k : ℕ) → k < n → is_selected selected (row + k) ≡ true) → plan_from selected row (replicate n kind) ≡ replicate n (kept_as kind)
-plan-kept selected row kind zero all = refl
-plan-kept selected row kind (suc n) all =
+pub plan-kept : (selected : Option (List Interval)) (row : ℕ) (places : List Bool) → ((k : ℕ) → k < length places → is_selected selected (row + k) ≡ true) → plan_from selected row places ≡ map kept_as places
+plan-kept selected row [] all = refl
+plan-kept selected row (place ∷ places) all =
     let here : row + 0 ≡ row = omega arith in
     let first : is_selected selected row ≡ true = ap (is_selected selected) (sym here) ∙ all 0 (omega arith) in
-    let others = plan-kept selected (row + 1) kind n (λ k h. let at : row + 1 + k ≡ row + suc k = omega arith in ap (is_selected selected) at ∙ all (suc k) (omega arith)) in
-    ap (λ b. steps_at b kind ++ plan_from selected (row + 1) (replicate n kind)) first ∙ one kind (plan_from selected (row + 1) (replicate n kind)) ∙ ap (λ rest. kept_as kind ∷ rest) others where
-      one : (kind : Bool) (rest : List Step) → steps_at true kind ++ rest ≡ kept_as kind ∷ rest
+    let others = plan-kept selected (row + 1) places (λ k h. let at : row + 1 + k ≡ row + suc k = omega arith in ap (is_selected selected) at ∙ all (suc k) (omega arith)) in
+    ap (λ b. steps_at b place ++ plan_from selected (row + 1) places) first ∙ one place (plan_from selected (row + 1) places) ∙ ap (λ rest. kept_as place ∷ rest) others where
+      one : (place : Bool) (rest : List Step) → steps_at true place ++ rest ≡ kept_as place ∷ rest
       one true rest = refl
       one false rest = refl
 

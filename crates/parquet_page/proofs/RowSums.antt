@@ -17,7 +17,7 @@ use Rattle.parquet_encoding.proofs.StepLemmas.{bind_some, given_some}
 abbrev pub page_values : ChunkPage → ℕ
 page_values page = header_values page.header
 
-data_page_fits : (left : ℕ) (bytes : List ℕ) (read : ChunkPage × List ℕ) → data_page_at left bytes ≡ Some read → page_values read.0 ≤ left
+pub data_page_fits : (left : ℕ) (bytes : List ℕ) (read : ChunkPage × List ℕ) → data_page_at left bytes ≡ Some read → page_values read.0 ≤ left
 unfolding data_page_at
 data_page_fits left bytes read e =
     let page = bind_some (page_at bytes) (λ page. data_header page.0.kind >>= λ header. given (leb (header_values header) left) (record { size = length bytes - length page.1; header = header; body = page.0.body }, page.1)) read e in

@@ -10,7 +10,7 @@ use Rattle.parquet_base.proofs.ShapeLemmas.{shape-cons, shape-here, shape-le}
 use Rattle.parquet_page.specs.SliceLeft.{first_count, rows_from, IsWalkOver, StandsBefore}
 use Rattle.parquet_page.specs.declared.slice_filtered.SliceFiltered.{SliceFiltered}
 
-range-split : (from n m : ℕ) → range_with_len from (n + m) ≡ range_with_len from n ++ range_with_len (from + n) m
+pub range-split : (from n m : ℕ) → range_with_len from (n + m) ≡ range_with_len from n ++ range_with_len (from + n) m
 range-split from zero m =
     let none : zero + m ≡ m = omega arith in
     let here : from ≡ from + zero = omega arith in

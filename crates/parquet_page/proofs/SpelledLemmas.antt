@@ -128,7 +128,7 @@ first_of_none : (b : Bool) (cause : Cause) (others : List Cause) → unless b ca
 first_of_none true cause others e = refl
 first_of_none false cause others e = absurd cc
 
-none_of : (b : Bool) (cause : Cause) → unless b cause ≡ [] → b ≡ true
+pub none_of : (b : Bool) (cause : Cause) → unless b cause ≡ [] → b ≡ true
 none_of true cause e = refl
 none_of false cause e = absurd cc
 

@@ -24,3 +24,4 @@ pub mod Runs
 pub mod LevelsLeft
 pub mod ValidityLeft
 pub mod Stretches
+pub mod ValidityParts

@@ -1,5 +1,5 @@
-//! Which places of a page have a value, in runs.
-ghost use Rattle.std.specs.Prelude.{◌≡◌, ◌≢◌, ◌==◌, ◌+◌, ◌*◌, ◌/◌, ◌%◌, ◌^◌, ◌<◌, ◌≤◌, ◌++◌, ℕ, List, true, false, [], length, take, drop, replicate, count_by, nat_le, IfOk, IfErr, IfNone, IfSome, IsSome, None, Some};
+//! Which places of a page have a value, in runs and words.
+ghost use Rattle.std.specs.Prelude.{◌≡◌, ◌≢◌, ◌==◌, ◌+◌, ◌*◌, ◌/◌, ◌%◌, ◌^◌, ◌<◌, ◌≤◌, ◌++◌, ℕ, List, true, false, [], length, take, drop, map, replicate, count_by, nat_le, IfOk, IfErr, IfNone, IfSome, IsSome, None, Some};
 ghost use Rattle.std.specs.List.{list_all};
 ghost use Rattle.columns_core.specs.Causes.{ExternalFormat, cause_of};
 ghost use Rattle.parquet_encoding.specs.Bits.{bits_at};
@@ -8,7 +8,9 @@ ghost use Rattle.parquet_encoding.specs.HybridRun.{IsIn, count_of, run_values};
 ghost use Rattle.parquet_encoding.specs.PackedRun.{LiesIn, packed_values};
 ghost use Rattle.parquet_page.specs.Levels.{presence, present_count, top_level as top_level_of};
 ghost use Rattle.parquet_page.specs.Stretches.{BeginsOtherwise, BeginsWith};
+ghost use Rattle.parquet_page.specs.ValidityParts.{word_places};
 
+use crate::validity_part::{ValidityWord, equal_bits};
 use columns_core::{Error, Part};
 use parquet_encoding::{HybridRle, HybridRun, PackedRun};
 use parquet_meta::Repetition;
@@ -45,23 +47,6 @@ fn front_bits(run: &PackedRun, bytes: &[u8]) -> (u32, usize)
     (front.first(bytes), count)
 }
 
-/// How many of the `count` lowest bits are the same as the lowest, before another one.
-fn equal_bits(bits: u64, count: usize) -> usize
-    requires some { 0 < count }
-    requires few { count ≤ 32 }
-    requires low { bits < 2 ^ 32 }
-    ensures some { 0 < result }
-    ensures within { result ≤ count }
-    ensures same { (k : ℕ) → k < result → bits / 2 ^ k % 2 ≡ bits % 2 }
-    ensures ends { result < count → bits / 2 ^ result % 2 ≢ bits % 2 }
-{
-    if bits % 2 == 1 {
-        (bits.trailing_ones() as usize).min(count)
-    } else {
-        (bits.trailing_zeros() as usize).min(count)
-    }
-}
-
 /// The levels at the front of a packed run that are the same as the first, as far as they are looked at.
 fn packed_front(run: &PackedRun, bytes: &[u8]) -> Stretch
     requires some { 0 < run.now.count }
@@ -85,6 +70,24 @@ fn packed_front(run: &PackedRun, bytes: &[u8]) -> Stretch
         count,
         ends: count < seen,
     }
+}
+
+/// The levels at the front of a packed run as the bits of a word, where they take one bit and are not all the same.
+fn packed_word(run: &PackedRun, bytes: &[u8]) -> Option<ValidityWord>
+    requires some { 0 < run.now.count }
+    requires lies { LiesIn bytes.now run.now }
+    ensures some { IfSome result (λ word. 0 < word.rows) }
+    ensures within { IfSome result (λ word. word.rows ≤ run.now.count) }
+    ensures places { IfSome result (λ word. word_places word ≡ map (λ level. level == 1) (take word.rows (packed_values run.now bytes.now))) }
+{
+    if run.width != 1 {
+        return None;
+    }
+    let (bits, rows) = front_bits(run, bytes);
+    if equal_bits(u64::from(bits), rows) == rows {
+        return None;
+    }
+    Some(ValidityWord { bits, rows })
 }
 
 /// The levels at the front of a run that are the same as the first, as far as they are looked at.
@@ -297,6 +300,25 @@ impl LevelRuns {
         let first = next_same(&self.levels, levels, limit)?;
         let count = skip_same(&mut self.levels, levels, first, limit);
         Some((first.level == self.top, count))
+    }
+
+    /// The next places as the bits of a word, at most `limit`, where they are packed and not all of one kind.
+    pub(crate) fn next_word(&mut self, levels: &[u8], limit: usize) -> Option<ValidityWord>
+        requires spelled { IsSome (places_left self.old levels.now) }
+        requires some { 0 < limit }
+        ensures word { IfSome result (λ word. (places self.old levels.now ≡ word_places word ++ places self.new levels.now) × (0 < word.rows) × (word.rows ≤ limit)) }
+        ensures kept { IfNone result (self.new ≡ self.old) }
+        ensures spelled { IsSome (places_left self.new levels.now) }
+    {
+        if self.top == 0 {
+            return None;
+        }
+        let HybridRun::Packed(run) = next_run(&self.levels, levels, limit)? else {
+            return None;
+        };
+        let word = packed_word(&run, levels)?;
+        self.levels.skip(levels, word.rows);
+        Some(word)
     }
 
     /// Passes over the next places, at most so many, and tells how many of them have a value.

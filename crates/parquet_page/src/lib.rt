@@ -19,6 +19,7 @@ mod source;
 #[cfg(test)]
 mod tests;
 mod validity;
+mod validity_part;
 
 pub use body::split_buffer;
 pub use indexed::IndexedPageReader;
@@ -31,3 +32,4 @@ pub use selection::{page_row_intervals, select_pages};
 pub use slice_filtered::SliceFiltered;
 pub use source::Pages;
 pub use validity::OptionalPageValidity;
+pub use validity_part::{ValidityPart, ValidityWord};

@@ -1,4 +1,6 @@
-ghost use Rattle.std.specs.Prelude.{◌≡◌, ◌<◌};
+ghost use Rattle.std.specs.Prelude.{◌≡◌, ◌<◌, IfOk, IsSome};
+ghost use Rattle.parquet_page.specs.Content.{data_content};
+ghost use Rattle.parquet_page.specs.ValidityLeft.{optional_left};
 
 use super::*;
 use columns_core::{Error, Part, Seq};
@@ -178,6 +180,82 @@ fn parts_of_a_body(rt: HostRuntime) -> Result<(), Fail> {
     };
     assert!(rt; split_buffer(&short).is_err());
     Ok(())
+}
+
+/// The walk over all rows of a page.
+fn walk_over(page: &DataPage<'_>) -> Result<OptionalPageValidity, Error>
+    ensures { IfOk result (λ walk. IsSome (optional_left walk (data_content page.now))) }
+{
+    OptionalPageValidity::try_new(page)
+}
+
+/// The bits of a word, how many rows it has, and how many of those have a value.
+fn word_of(part: Option<ValidityPart>) -> Option<(u32, usize, usize)> {
+    match part {
+        Some(ValidityPart::Word(word)) => Some((word.bits, word.rows, word.present())),
+        _ => None,
+    }
+}
+
+fn run_of(part: Option<ValidityPart>) -> Option<Run> {
+    match part {
+        Some(ValidityPart::Run(run)) => Some(run),
+        _ => None,
+    }
+}
+
+#[test]
+fn parts_of_a_page(rt: HostRuntime) -> Result<(), Fail> {
+    let alloc = rt.alloc();
+    let optional = column(alloc, Repetition::Optional)
+        .descriptor
+        .primitive_type;
+    // Forty levels in one packed run.
+    let mixed = DataPage {
+        header: DataPageHeader::V1 {
+            num_values: 40,
+            encoding: 0,
+            definition_encoding: 3,
+        },
+        buffer: &[6, 0, 0, 0, 11, 0xb5, 0x0f, 0xf0, 0x5a, 0x3c],
+        type_: &optional,
+        selected_rows: None,
+    };
+    let mut walk = walk_over(&mixed)?;
+    assert_eq!(rt;
+        word_of(walk.next_part(&mixed, 40)),
+        Some((0x5af0_0fb5, 32, 17))
+    );
+    assert_eq!(rt; word_of(walk.next_part(&mixed, 40)), Some((0x3c, 8, 4)));
+    assert!(rt; walk.next_part(&mixed, 40).is_none());
+    // Five levels that are repeated, and eight zeros in a packed run.
+    let equal = DataPage {
+        header: DataPageHeader::V1 {
+            num_values: 13,
+            encoding: 0,
+            definition_encoding: 3,
+        },
+        buffer: &[4, 0, 0, 0, 10, 1, 3, 0],
+        type_: &optional,
+        selected_rows: None,
+    };
+    let mut walk = walk_over(&equal)?;
+    assert_eq!(rt; run_of(walk.next_part(&equal, 40)), Some(Run::Present(5)));
+    assert_eq!(rt; run_of(walk.next_part(&equal, 40)), Some(Run::Null(8)));
+    assert!(rt; walk.next_part(&equal, 40).is_none());
+    Ok(())
+}
+
+#[test]
+fn runs_of_a_word(rt: HostRuntime) {
+    let mut word = ValidityWord {
+        bits: 0x3c,
+        rows: 8,
+    };
+    assert_eq!(rt; word.next_run(), Some((false, 2)));
+    assert_eq!(rt; word.next_run(), Some((true, 4)));
+    assert_eq!(rt; word.next_run(), Some((false, 2)));
+    assert_eq!(rt; word.next_run(), None);
 }
 
 #[test]

@@ -6,6 +6,7 @@ ghost use Rattle.parquet_page.specs.Levels.{present_count};
 ghost use Rattle.parquet_page.specs.Runs.{GivesRun};
 ghost use Rattle.parquet_page.specs.Spelling.{has_readable_levels as has_readable_levels_by};
 ghost use Rattle.parquet_page.specs.ValidityLeft.{levels_causes, page_left, page_places};
+ghost use Rattle.parquet_page.specs.ValidityParts.{GivesPart};
 ghost use Rattle.parquet_page.specs.declared.run.Run.TheVariants.{Present, Null};
 
 use crate::body::split_buffer;
@@ -13,6 +14,7 @@ use crate::found::value_count;
 use crate::level_runs::LevelRuns;
 use crate::page::DataPage;
 use crate::run::Run;
+use crate::validity_part::ValidityPart;
 use columns_core::{Error, Part};
 use parquet_meta::{DataPageHeader, Repetition};
 
@@ -48,7 +50,7 @@ pub(crate) fn level_runs(page: &DataPage<'_>) -> Result<LevelRuns, Error>
     LevelRuns::try_new(levels, page.type_.repetition, value_count(&page.header))
 }
 
-/// Walks all rows of a page, in runs of rows that have a value and rows that are null. It holds places, and the page is handed to
+/// Walks all rows of a page, in runs of rows that have a value and rows that are null, or by the bits of words. It holds places, and the page is handed to
 /// each call.
 #[derive(Clone, Copy)]
 pub struct OptionalPageValidity {
@@ -82,6 +84,24 @@ impl OptionalPageValidity {
         };
         let (present, rows) = self.runs.next(levels, limit)?;
         Some(kept_run(present, rows))
+    }
+
+    /// The next rows in one part, at most `limit`: the bits of packed levels, or a run. Which of the two comes and how long it is, is not
+    /// promised. The page is that of `try_new`.
+    pub fn next_part(&mut self, page: &DataPage<'_>, limit: usize) -> Option<ValidityPart>
+        requires page { IsSome (optional_left self.old (data_content page.now)) }
+        requires limit { 0 < limit }
+        ensures part { GivesPart limit (optional_steps self.old (data_content page.now)) (optional_steps self.new (data_content page.now)) result }
+        ensures page { IsSome (optional_left self.new (data_content page.now)) }
+    {
+        let Ok((_, levels, _)) = split_buffer(page) else {
+            return None;
+        };
+        if let Some(word) = self.runs.next_word(levels, limit) {
+            return Some(ValidityPart::Word(word));
+        }
+        let (present, rows) = self.runs.next(levels, limit)?;
+        Some(ValidityPart::Run(kept_run(present, rows)))
     }
 
     /// Passes over the next rows, at most so many, and tells how many of them have a value. The page is that of `try_new`.

@@ -1,11 +1,11 @@
-use Rattle.std.proofs.Common.{rules, ◌≡◌, [], ℕ, ap, subst, ◌∙◌, length, arith, length-append}
+use Rattle.std.proofs.Common.{rules, ◌≡◌, [], ℕ, ap, subst, length, arith, length-append}
 use Rattle.std.specs.Prelude.{replicate}
 use Rattle.std.proofs.lemmas.List.{length-replicate}
 use Rattle.parquet_page.specs.Content.{data_content}
 use Rattle.parquet_page.specs.Runs.{run_rows}
 use Rattle.parquet_page.specs.SliceLeft.{GivesRun as SliceGives}
 use Rattle.column_values.specs.FilteredLeft.{places_left}
-use Rattle.column_values.proofs.PlaceLemmas.{none-left, run-of, tally-rows}
+use Rattle.column_values.proofs.PlaceLemmas.{none-left, run-of}
 use Rattle.column_values.proofs.WalkLemmas.{slice-given}
 use Rattle.column_values.proofs.filtered_validity.FilteredOptionalPageValidity.take.Goals as goal
 
@@ -19,7 +19,7 @@ next-requires-2-clause-limit c =
     let run = c.in_ok-run.run' in
     let page = data_content c.args.page.now in
     let own = run-of c.args.limit (places_left c.args.self.now.places page) (places_left c.next.new.self page) run c.in_ok-run.ensures.run c.in_ok-run.ensures.longest in
-    let count : c.tally-count.result.0 ≡ run_rows run = ap (λ (p : ℕ × ℕ). p.0) c.tally-count.ensures ∙ tally-rows run in
+    let count : c.rows-count.result ≡ run_rows run = c.rows-count.ensures in
     omega (arith, count, own.some)
 
 pub overflow_add-self : goal.overflow_add-self
@@ -27,7 +27,7 @@ overflow_add-self c =
     let run = c.in_ok-run.run' in
     let page = data_content c.args.page.now in
     let own = run-of c.args.limit (places_left c.args.self.now.places page) (places_left c.next.new.self page) run c.in_ok-run.ensures.run c.in_ok-run.ensures.longest in
-    let count : c.tally-count.result.0 ≡ run_rows run = ap (λ (p : ℕ × ℕ). p.0) c.tally-count.ensures ∙ tally-rows run in
+    let count : c.rows-count.result ≡ run_rows run = c.rows-count.ensures in
     omega (arith, count, c.requires.fits, ap length own.begins.split, length-append (replicate (run_rows run) own.kind) (places_left c.next.new.self page), length-replicate (run_rows run) own.kind)
 
 pub returns-clause-run : goal.returns-clause-run
@@ -40,6 +40,6 @@ returns-clause-given c =
     let run = c.in_ok-run.run' in
     let page = data_content c.args.page.now in
     let own = run-of c.args.limit (places_left c.args.self.now.places page) (places_left c.next.new.self page) run c.in_ok-run.ensures.run c.in_ok-run.ensures.longest in
-    let count : c.tally-count.result.0 ≡ run_rows run = ap (λ (p : ℕ × ℕ). p.0) c.tally-count.ensures ∙ tally-rows run in
+    let count : c.rows-count.result ≡ run_rows run = c.rows-count.ensures in
     let G : ℕ → Type 0 = λ n. SliceGives n c.args.rows.now c.args.self.now.rows c.next-2.new.self c.next-2.result in
     slice-given (run_rows run) c.args.rows.now c.args.self.now.rows c.next-2.new.self c.next-2.result (subst G count c.next-2.ensures.run) own.some (omega (arith, own.begins.most, c.requires.most))

@@ -1,5 +1,5 @@
 use Rattle.parquet_page.proofs.LevelLemmas.{ones_equal, zeros_equal}
-use Rattle.parquet_page.proofs.level_runs.equal_bits.Goals as goal
+use Rattle.parquet_page.proofs.validity_part.equal_bits.Goals as goal
 
 pub returns-then-bits-eq1-clause-some : goal.returns-then-bits-eq1-clause-some
 returns-then-bits-eq1-clause-some c = (ones_equal c.args.bits c.args.count c.trailing_ones.result c.min.result c.requires.some c.requires.few c.requires.low c.if-bits-eq1.true c.trailing_ones.ensures c.min.ensures).some
