@@ -46,12 +46,12 @@ stored_given rule stored cells e =
     none_refused rule stored own.0 ∙ ap (map Given) own.1
 
 -- the entries as they are stored, and converted
-abbrev AreConverted : Conversion → Option (List Stored) → Option (List Cell) → Type 0
+abbrev pub AreConverted : Conversion → Option (List Stored) → Option (List Cell) → Type 0
 AreConverted rule None None = Unit {0}
 AreConverted rule (Some stored) (Some cells) = map (stored_outcome rule) stored ≡ map Given cells
 AreConverted rule _ _ = ⊥
 
-entries_converted : (rule : Conversion) (type : PhysicalType) (dictionary : Option DictContent) (entries : Option (List Cell)) → AreEntriesOf rule type dictionary entries → AreConverted rule (dictionary >>= dictionary_entries type) entries
+pub entries_converted : (rule : Conversion) (type : PhysicalType) (dictionary : Option DictContent) (entries : Option (List Cell)) → AreEntriesOf rule type dictionary entries → AreConverted rule (dictionary >>= dictionary_entries type) entries
 unfolding dictionary_cells
 entries_converted rule type None None are = tt
 entries_converted rule type None (Some cells) are = are
@@ -61,7 +61,7 @@ entries_converted rule type (Some page) (Some cells) are = go (dictionary_entrie
   go None e = absurd cc
   go (Some stored) e = stored_given rule stored cells e
 
-as_many : (rule : Conversion) (told : Option (List Stored)) (entries : Option (List Cell)) → AreConverted rule told entries → option_map length told ≡ option_map length entries
+pub as_many : (rule : Conversion) (told : Option (List Stored)) (entries : Option (List Cell)) → AreConverted rule told entries → option_map length told ≡ option_map length entries
 as_many rule None None are = refl
 as_many rule None (Some cells) are = absurd are
 as_many rule (Some stored) None are = absurd are

@@ -1,13 +1,20 @@
 -- Decoded values behind which more are appended.
-use Rattle.std.proofs.Common.{◌≡◌, ℕ, zero, suc, ◌-◌, Bool, true, false, List, [], ◌∷◌, ◌++◌, length, map, drop, replicate, refl, sym, ap, ap₂, ◌∙◌, inl, inr, arith, append-nil}
+use Rattle.std.proofs.Common.{◌≡◌, ℕ, zero, suc, ◌+◌, ◌-◌, ◌≤◌, Bool, true, false, List, [], ◌∷◌, ◌++◌, length, map, take, drop, replicate, refl, sym, ap, ap₂, ◌∙◌, inl, inr, arith, append-nil}
 use Rattle.std.specs.Prelude.{Some, None, if◌then◌else◌}
-use Rattle.std.proofs.lemmas.List.{length-append, length-drop, length-map, length-replicate, map-append}
+use Rattle.std.proofs.lemmas.List.{drop-map, length-append, length-drop, length-map, length-replicate, length-take-le, map-append, take-map, take_at}
 use Rattle.std.proofs.lemmas.Simd.{map-map}
-use Rattle.columns_core.specs.Column.{FitsMask, masked, where_set}
+use Rattle.columns_core.specs.Column.{FitsMask, cell_of, masked, where_set}
 use Rattle.columns_core.specs.declared.cell.Cell.{Cell, Null}
+use Rattle.parquet_page.specs.Levels.{present_count}
+use Rattle.parquet_page.specs.Plan.{Step, along, plan, plan_from}
+use Rattle.parquet_page.proofs.SpelledLemmas.{absent_same, present_suc}
+use Rattle.column_values.specs.FilteredLeft.{stored_values}
 use Rattle.column_values.specs.Outcome.{Outcome, Given}
 use Rattle.flat_values.specs.Added.{Adds}
-use Rattle.flat_values.specs.Decoded.{IsMaskFor, found_mask, marked, marked_cells, with_nulls, with_values}
+use Rattle.flat_values.specs.Decoded.{IsMaskFor, found_mask, marked, marked_cells, spread_over, with_nulls, with_places, with_values}
+use Rattle.flat_values.specs.FlatLeft.{given_along}
+use Rattle.flat_values.proofs.SpreadLemmas.{length-spread}
+use Rattle.flat_values.proofs.WordLemmas.{cells-along}
 
 module _ {T : Type 0} (cell : T → Cell) where
   pub length-marked : (values : List T) (mask : List Bool) → length (marked_cells cell values mask) ≡ length values
@@ -68,6 +75,25 @@ module _ {T : Type 0} (cell : T → Cell) where
       ∙ masked_with_nulls values (x ∷ more) (set ∷ mask) long
       ∙ ap (λ n. marked_cells cell values (set ∷ mask) ++ replicate (suc n) Null) same
 
+  -- values of the places that have one, and nulls
+  spread-cells : (null : T) (row : ℕ) (places : List Bool) (values : List T) → present_count places ≤ length values → marked_cells cell (spread_over null places values) places ≡ map (cell_of cell) (along (plan_from None row places) values)
+  spread-cells null row [] values enough = refl
+  spread-cells null row (false ∷ places) values enough = ap (λ cells. Null ∷ cells) (spread-cells null (row + 1) places values (omega (arith, enough, absent_same places)))
+  spread-cells null row (true ∷ places) [] enough = absurd (omega (arith, enough, present_suc places))
+  spread-cells null row (true ∷ places) (value ∷ values) enough = ap (λ cells. cell value ∷ cells) (spread-cells null (row + 1) places values (omega (arith, enough, present_suc places)))
+
+  both-places : (values more : List T) (mask places : List Bool) → IsMaskFor values mask → marked_cells cell (values ++ more) (with_places (length values) places mask) ≡ marked_cells cell values mask ++ marked_cells cell more places
+  both-places values more [] places is = both values more (replicate (length values) true) places (length-replicate (length values) true) ∙ ap (λ cells. cells ++ marked_cells cell more places) (all_there values ∙ sym (unmasked values))
+  both-places values more (set ∷ mask) places (inl none) = cc
+  both-places values more (set ∷ mask) places (inr long) = both values more (set ∷ mask) places long
+
+  -- values that are spread over places
+  pub cells-with_places : (null : T) (values stored new : List T) (mask places marks : List Bool) (held : ℕ) → held ≡ length values → present_count places ≤ length stored → IsMaskFor values mask → new ≡ values ++ spread_over null places stored → marks ≡ with_places held places mask
+      → marked_cells cell new marks ≡ marked_cells cell values mask ++ map (cell_of cell) (along (plan None places) stored)
+  cells-with_places null values stored new mask places marks held counted enough is all marked =
+      ap₂ (marked_cells cell) all (marked ∙ ap (λ n. with_places n places mask) counted) ∙ both-places values (spread_over null places stored) mask places is
+      ∙ ap (λ cells. marked_cells cell values mask ++ cells) (spread-cells null 0 places stored enough)
+
   -- what stands behind values, as outcomes
   pub given-with_values : (values more new : List T) (mask marks : List Bool) (count : ℕ) → IsMaskFor values mask → new ≡ values ++ more → count ≡ length more → marks ≡ with_values count mask
       → map Given (marked_cells cell new marks) ≡ map Given (marked_cells cell values mask) ++ map (λ value. Given (cell value)) more
@@ -91,9 +117,9 @@ marked_cells-map cell (value ∷ values) [] = ap (λ cells. cell value ∷ cells
 marked_cells-map cell (value ∷ values) (true ∷ mask) = ap (λ cells. cell value ∷ cells) (marked_cells-map cell values mask)
 marked_cells-map cell (value ∷ values) (false ∷ mask) = ap (λ cells. Null ∷ cells) (marked_cells-map cell values mask)
 
-mask-map : {T : Type 0} (cell : T → Cell) (values : List T) (mask : List Bool) → IsMaskFor values mask → IsMaskFor (map cell values) mask
-mask-map cell values mask (inl none) = inl none
-mask-map cell values mask (inr long) = inr (long ∙ sym (length-map values cell))
+mask-long : {A B : Type 0} (values : List A) (others : List B) (mask : List Bool) → length others ≡ length values → IsMaskFor values mask → IsMaskFor others mask
+mask-long values others mask e (inl none) = inl none
+mask-long values others mask e (inr long) = inr (long ∙ sym e)
 
 -- what is added to values, as outcomes
 pub given-with_added : {T : Type 0} (cell : T → Cell) (values new : List T) (mask marks : List Bool) (outcomes : List Outcome) → IsMaskFor values mask → Adds cell values new outcomes → marks ≡ with_values (length new - length values) mask
@@ -104,8 +130,35 @@ given-with_added cell values new mask marks outcomes is added marked =
     let more = cells_behind old all outcomes (map-map Given cell new ∙ added ∙ ap (λ front. front ++ outcomes) (sym (map-map Given cell values))) in
     let count : length new - length values ≡ length (drop (length old) all) = omega (arith, length-map new cell, length-map values cell, length-drop (length old) all) in
     ap (map Given) (marked_cells-map cell new marks)
-    ∙ given-with_values (λ c. c) old (drop (length old) all) all mask marks (length new - length values) (mask-map cell values mask is) more.0 count marked
+    ∙ given-with_values (λ c. c) old (drop (length old) all) all mask marks (length new - length values) (mask-long values old mask (length-map values cell) is) more.0 count marked
     ∙ ap₂ (λ front behind. front ++ behind) (ap (map Given) (sym (marked_cells-map cell values mask))) more.1
+
+-- the values of places behind those that were there, as outcomes
+pub record AddedCells {T : Type 0} (cell : T → Cell) (old mid : List T) (mask : List Bool) (outcomes : List Outcome) (held : ℕ) : Type 0 where
+  pub front : marked_cells cell (take held mid) mask ≡ marked_cells cell old mask
+  pub behind : map (λ value. Given (cell value)) (drop held mid) ≡ outcomes
+  pub many : length mid ≡ held + length outcomes
+  pub own : IsMaskFor (take held mid) mask
+
+pub added-cells : {T : Type 0} (cell : T → Cell) (old mid : List T) (mask : List Bool) (outcomes : List Outcome) (held : ℕ) → held ≡ length old → IsMaskFor old mask → Adds cell old mid outcomes → AddedCells cell old mid mask outcomes held
+added-cells {T} cell old mid mask outcomes held counted is added =
+    let given : T → Outcome = λ value. Given (cell value) in
+    let more = cells_behind (map cell old) (map cell mid) outcomes (map-map Given cell mid ∙ added ∙ ap (λ front. front ++ outcomes) (sym (map-map Given cell old))) in
+    let cells : held ≡ length (map cell old) = counted ∙ sym (length-map old cell) in
+    let all : length mid ≡ held + length outcomes = omega (arith, ap length added, length-map mid given, length-append (map given old) outcomes, length-map old given, counted) in
+    let front : map cell (take held mid) ≡ map cell old = sym (take-map cell held mid) ∙ ap (take held) more.0 ∙ take_at (map cell old) (drop (length (map cell old)) (map cell mid)) held (sym cells) in
+    record {
+      front = marked_cells-map cell (take held mid) mask ∙ ap (λ xs. marked_cells (λ c. c) xs mask) front ∙ sym (marked_cells-map cell old mask);
+      behind = sym (map-map Given cell (drop held mid)) ∙ ap (map Given) (sym (drop-map cell held mid) ∙ ap (λ n. drop n (map cell mid)) cells) ∙ more.1;
+      many = all;
+      own = mask-long old (take held mid) mask (length-take-le held mid (omega (arith, all)) ∙ counted) is;
+    }
+
+pub given-with_places : {T : Type 0} (cell : T → Cell) (old mid new : List T) (mask marks : List Bool) (steps : List Step) (outcomes : List Outcome) (held count : ℕ) → AddedCells cell old mid mask (take count outcomes) held → stored_values steps ≤ count
+    → marked_cells cell new marks ≡ marked_cells cell (take held mid) mask ++ map (cell_of cell) (along steps (drop held mid)) → map Given (marked_cells cell new marks) ≡ map Given (marked_cells cell old mask) ++ given_along steps outcomes
+given-with_places cell old mid new mask marks steps outcomes held count added few is =
+    ap (map Given) is ∙ map-append Given (marked_cells cell (take held mid) mask) (map (cell_of cell) (along steps (drop held mid)))
+    ∙ ap₂ (λ front behind. front ++ behind) (ap (map Given) added.front) (cells-along cell steps (drop held mid) outcomes count few added.behind)
 
 -- values as an array keeps them
 where_set-marked : {T : Type 0} (values : List T) (mask : List Bool) → length mask ≡ length values → where_set values mask ≡ marked values mask
@@ -128,6 +181,13 @@ array_mask values (set ∷ mask) (inl none) found e = cc
 array_mask values (set ∷ mask) (inr long) found e = let same : (set ∷ mask) ≡ found = cc in ap length (sym same) ∙ long
 
 -- ---- the mask goes on
+
+pub mask-with_places : {T : Type 0} (null : T) (values stored new : List T) (mask places marks : List Bool) (held : ℕ) → held ≡ length values → IsMaskFor values mask → new ≡ values ++ spread_over null places stored → marks ≡ with_places held places mask → IsMaskFor new marks
+mask-with_places null values stored new [] places marks held counted is all marked =
+    inr (ap length marked ∙ length-append (replicate held true) places ∙ omega (arith, length-replicate held true, counted, length-spread null places stored, length-append values (spread_over null places stored), ap length all))
+mask-with_places null values stored new (set ∷ mask) places marks held counted (inl none) all marked = cc
+mask-with_places null values stored new (set ∷ mask) places marks held counted (inr long) all marked =
+    inr (ap length marked ∙ length-append (set ∷ mask) places ∙ omega (arith, long, counted, length-spread null places stored, length-append values (spread_over null places stored), ap length all))
 
 pub mask-with_values : {T : Type 0} (values more : List T) (mask : List Bool) → IsMaskFor values mask → IsMaskFor (values ++ more) (with_values (length more) mask)
 mask-with_values values more [] is = inl refl

@@ -31,9 +31,10 @@ use Rattle.flat_values.specs.Outcomes.{dictionary_cells, entry_outcome, stored_o
 use Rattle.flat_values.specs.declared.fixed.FixedPlace.{FixedPlace}
 use Rattle.flat_values.specs.declared.fixed.FixedPlace.TheVariants.{Plain, Keys}
 use Rattle.flat_values.specs.declared.keys.KeyPlace.{KeyPlace}
-use Rattle.flat_values.proofs.OutcomeLemmas.{behind, is_some-mapped, no_entries}
+use Rattle.flat_values.proofs.OutcomeLemmas.{behind, no_entries}
 use Rattle.flat_values.proofs.NumberPlaces.{dictionary_read}
 use Rattle.flat_values.proofs.ItemLemmas.{pieces-chunks}
+use Rattle.flat_values.proofs.PlainLemmas.{is_some-map}
 
 some_of : {A : Type 0} (o : Option A) → true ≡ is_some o → (x : A) × (o ≡ Some x)
 some_of None e = absurd (true≢false e)
@@ -102,7 +103,7 @@ module _ (size : ℕ) (bytes : List ℕ) (count : ℕ) where
 
   plain_causes : (entries : Option ℕ) → value_causes (FixedLenByteArray size) entries encoding.Plain bytes count ≡ unless (is_some (plain_fixed size bytes count)) ExternalFormat
   unfolding value_causes plain_values
-  plain_causes entries = ap (λ b. unless b ExternalFormat) (is_some-mapped (map Octets) (plain_fixed size bytes count))
+  plain_causes entries = ap (λ b. unless b ExternalFormat) (is_some-map (map Octets) (plain_fixed size bytes count))
 
   pub no_plain_cause : (entries : Option ℕ) (values : List (List ℕ)) → plain_fixed size bytes count ≡ Some values → value_causes (FixedLenByteArray size) entries encoding.Plain bytes count ≡ []
   no_plain_cause entries values e = plain_causes entries ∙ ap (λ o. unless (is_some o) ExternalFormat) e

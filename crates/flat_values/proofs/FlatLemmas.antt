@@ -4,10 +4,11 @@ use Rattle.std.specs.Prelude.{◌&&◌, ◌||◌, if◌then◌else◌, is_some, 
 use Rattle.std.specs.Option.{option_copied, option_map_or}
 use Rattle.std.proofs.lemmas.Bool.{and_parts}
 use Rattle.std.proofs.lemmas.List.Elements.{Contains-push}
-use Rattle.std.proofs.lemmas.List.{map-append, length-append, length-drop, length-replicate, length-take-le}
+use Rattle.std.proofs.lemmas.List.{drop-drop, map-append, length-append, length-drop, length-replicate, length-take-le}
 use Rattle.columns_core.specs.Causes.{Cause, ExternalFormat, IsOneOf, NotYetImplemented, and_then, unless}
 use Rattle.columns_core.specs.declared.cell.Cell.{Cell, Null}
 use Rattle.columns_core.specs.declared.error.Error.{Error}
+use Rattle.columns_core.proofs.BitLemmas.{length-low_bits}
 use Rattle.parquet_base.specs.Intervals.{covers}
 use Rattle.parquet_base.specs.Reading.{◌>>=◌, given}
 use Rattle.parquet_base.specs.declared.interval.Interval.{Interval}
@@ -16,15 +17,19 @@ use Rattle.parquet_meta.specs.declared.metadata.PhysicalType.{PhysicalType}
 use Rattle.parquet_page.specs.Content.{DataContent, header_values}
 use Rattle.parquet_page.specs.Levels.{Body, body_parts, placed, presence, present_count}
 use Rattle.parquet_page.specs.Opened.{goes_on_dictionary, key_causes, page_causes, spelling_causes}
-use Rattle.parquet_page.specs.Plan.{Keep, KeepNull, Pass, Step, along, kept_count, plan}
-use Rattle.parquet_page.specs.Runs.{GivesRun, expand, run_length, run_rows}
+use Rattle.parquet_page.specs.Plan.{Keep, KeepNull, Pass, Step, along, plan}
+use Rattle.parquet_page.specs.Runs.{expand}
 use Rattle.parquet_page.specs.Selected.{covered_from, selected_of}
 use Rattle.parquet_page.specs.Spelling.{has_readable_levels, header_encoding, page_keys, places_and_values, spelled}
 use Rattle.parquet_page.specs.Stored.{Stored}
+use Rattle.parquet_page.specs.ValidityParts.{GivesPart, part_length, part_rows, part_steps, word_places, word_steps}
 use Rattle.parquet_page.specs.Values.{Encoding, Plain, Keys, DeltaPacked, DeltaLengths, dictionary_keys, encoding_of, goes_with, unless_none, values_in}
 use Rattle.parquet_page.specs.ValidityLeft.{levels_causes, page_places}
 use Rattle.parquet_page.specs.declared.run.Run.{Run}
 use Rattle.parquet_page.specs.declared.run.Run.TheVariants as run
+use Rattle.parquet_page.specs.declared.validity_part.ValidityPart.{ValidityPart}
+use Rattle.parquet_page.specs.declared.validity_part.ValidityPart.TheVariants as part
+use Rattle.parquet_page.specs.declared.validity_part.ValidityWord.{ValidityWord}
 use Rattle.parquet_page.proofs.PlanLemmas.{along-null, along-passed, along-plan, along-present}
 use Rattle.parquet_page.proofs.SpelledLemmas.{are_placed}
 use Rattle.column_values.proofs.FilteredLemmas.{stored-plan}
@@ -32,13 +37,14 @@ use Rattle.column_values.proofs.RowLemmas.{caused-left, caused-right}
 use Rattle.column_values.specs.FilteredLeft.{stored_values}
 use Rattle.column_values.specs.Outcome.{Outcome, Given, IsCausedBy, causes_in, page_outcomes}
 use Rattle.flat_values.specs.Conversion.{Conversion}
-use Rattle.flat_values.specs.FlatLeft.{behind_run, causes_unless_none, given_along, read_encoding, run_outcomes, value_bytes}
+use Rattle.flat_values.specs.FlatLeft.{behind_part, behind_run, causes_unless_none, given_along, part_outcomes, read_encoding, run_outcomes, value_bytes}
 use Rattle.flat_values.specs.Outcomes.{place_outcomes, placed_outcome, selected_outcomes, value_causes, value_outcomes}
 use Rattle.flat_values.proofs.CountLemmas.{length-outcomes, length-values}
+use Rattle.flat_values.proofs.WordLemmas.{all_null, along-append, kept-plan, length-given, length-plan, plan-null, plan-present, stored-append}
 
 -- ---- nulls
 
-pub ok-maps : {T E : Type 0} {A B : Type 0} (r : Result T E) → (A → B) → OnOk r A → OnOk r B
+ok-maps : {T E : Type 0} {A B : Type 0} (r : Result T E) → (A → B) → OnOk r A → OnOk r B
 ok-maps (Ok x) f h = f h
 ok-maps (Err e) f h = tt
 
@@ -46,13 +52,23 @@ map-nulls : (n : ℕ) → map Given (replicate n Null) ≡ replicate n (Given Nu
 map-nulls zero = refl
 map-nulls (suc n) = ap (λ xs. Given Null ∷ xs) (map-nulls n)
 
+-- nulls behind cells
+nulls-behind : (n : ℕ) (old new : List Cell) → new ≡ old ++ replicate n Null → map Given new ≡ map Given old ++ replicate n (Given Null)
+nulls-behind n old new e = ap (map Given) e ∙ map-append Given old (replicate n Null) ∙ ap (λ xs. map Given old ++ xs) (map-nulls n)
+
 pub nulls-given : {T E : Type 0} (result : Result T E) (which : Run) (rows : ℕ) (old new : List Cell) (values : List Outcome) → which ≡ run.Null rows → OnOk result (new ≡ old ++ replicate rows Null) → OnOk result (map Given new ≡ map Given old ++ run_outcomes which values)
 nulls-given result which rows old new values is given =
     let P : Run → Type 0 = λ r. OnOk result (map Given new ≡ map Given old ++ run_outcomes r values) in
-    let step : new ≡ old ++ replicate rows Null → map Given new ≡ map Given old ++ replicate rows (Given Null) = λ e. ap (map Given) e ∙ map-append Given old (replicate rows Null) ∙ ap (λ xs. map Given old ++ xs) (map-nulls rows) in
-    subst P (sym is) (ok-maps result step given)
+    subst P (sym is) (ok-maps result (nulls-behind rows old new) given)
 
--- ---- steps and the values that they take
+-- a word whose rows are all null
+pub word-null : {T E : Type 0} (result : Result T E) (word : ValidityWord) (old new : List Cell) (values : List Outcome) → present_count (word_places word) ≤ 0 → OnOk result (new ≡ old ++ replicate word.rows Null)
+    → OnOk result (map Given new ≡ map Given old ++ given_along (word_steps word) values)
+word-null result word old new values none given =
+    let all = all_null 0 (word_places word) values (omega arith) ∙ ap (λ n. replicate n (Given Null)) (length-low_bits word.bits word.rows) in
+    ok-maps result (λ e. nulls-behind word.rows old new e ∙ ap (λ xs. map Given old ++ xs) (sym all)) given
+
+-- ---- what the parts of rows give
 
 map-some : (values : List Outcome) → map placed_outcome (map Some values) ≡ values
 map-some [] = refl
@@ -62,62 +78,65 @@ map-none : (n : ℕ) → map placed_outcome (replicate n None) ≡ replicate n (
 map-none zero = refl
 map-none (suc n) = ap (λ xs. Given Null ∷ xs) (map-none n)
 
-stored-keep : (n : ℕ) (rest : List Step) → stored_values (replicate n Keep ++ rest) ≡ n + stored_values rest
-stored-keep zero rest = omega arith
-stored-keep (suc n) rest = omega (arith, stored-keep n rest)
+stored-keep : (n : ℕ) → stored_values (replicate n Keep) ≡ n
+stored-keep zero = refl
+stored-keep (suc n) = omega (arith, stored-keep n)
 
-stored-null : (n : ℕ) (rest : List Step) → stored_values (replicate n KeepNull ++ rest) ≡ stored_values rest
-stored-null zero rest = refl
-stored-null (suc n) rest = stored-null n rest
+stored-null : (n : ℕ) → stored_values (replicate n KeepNull) ≡ 0
+stored-null zero = refl
+stored-null (suc n) = stored-null n
 
-stored-pass : (n : ℕ) (rest : List Step) → stored_values (replicate n Pass ++ rest) ≡ n + stored_values rest
-stored-pass zero rest = omega arith
-stored-pass (suc n) rest = omega (arith, stored-pass n rest)
+stored-pass : (n : ℕ) → stored_values (replicate n Pass) ≡ n
+stored-pass zero = refl
+stored-pass (suc n) = omega (arith, stored-pass n)
 
--- what a run gives, and what is left behind it
-pub record Gives (which : Run) (old rest : List Step) (values : List Outcome) : Type 0 where
-  pub split : given_along old values ≡ run_outcomes which values ++ given_along rest (behind_run which values)
-  pub rows : length (run_outcomes which values) ≡ run_rows which
-  pub enough : length (behind_run which values) ≡ stored_values rest
+-- what a part gives, and what is left behind it
+pub record Gives (which : ValidityPart) (rest : List Step) (values : List Outcome) : Type 0 where
+  pub split : given_along (part_steps which ++ rest) values ≡ part_outcomes which values ++ given_along rest (behind_part which values)
+  pub rows : length (part_outcomes which values) ≡ part_rows which
+  pub behind : behind_part which values ≡ drop (stored_values (part_steps which)) values
 
-run-gives : (which : Run) (rest : List Step) (values : List Outcome) → length values ≡ stored_values (expand which ++ rest) → Gives which (expand which ++ rest) rest values
+run-gives : (which : Run) (rest : List Step) (values : List Outcome) → stored_values (expand which) ≤ length values → Gives (part.Run which) rest values
 run-gives (run.Present n) rest values enough =
-    let many = stored-keep n rest in
-    let within : n ≤ length values = omega (arith, enough, many) in
+    let within : n ≤ length values = omega (arith, enough, stored-keep n) in
     record {
       split = ap (map placed_outcome) (along-present n rest values within) ∙ map-append placed_outcome (map Some (take n values)) (along rest (drop n values)) ∙ ap (λ xs. xs ++ given_along rest (drop n values)) (map-some (take n values));
       rows = length-take-le n values within;
-      enough = length-drop n values ∙ omega (arith, enough, many);
+      behind = ap (λ k. drop k values) (sym (stored-keep n));
     }
 run-gives (run.Null n) rest values enough = record {
   split = ap (map placed_outcome) (along-null n rest values) ∙ map-append placed_outcome (replicate n None) (along rest values) ∙ ap (λ xs. xs ++ given_along rest values) (map-none n);
   rows = length-replicate n (Given Null);
-  enough = enough ∙ stored-null n rest;
+  behind = ap (λ k. drop k values) (sym (stored-null n));
 }
 run-gives (run.Passed n) rest values enough =
-    let many = stored-pass n rest in
-    let within : n ≤ length values = omega (arith, enough, many) in
+    let within : n ≤ length values = omega (arith, enough, stored-pass n) in
     record {
       split = ap (map placed_outcome) (along-passed n rest values within);
       rows = refl;
-      enough = length-drop n values ∙ omega (arith, enough, many);
+      behind = ap (λ k. drop k values) (sym (stored-pass n));
     }
 
-gives-at : (which : Run) (old rest : List Step) (values : List Outcome) → old ≡ expand which ++ rest → length values ≡ stored_values old → Gives which old rest values
-gives-at which old rest values is enough =
-    let P : List Step → Type 0 = λ steps. Gives which steps rest values in
-    subst P (sym is) (run-gives which rest values (enough ∙ ap stored_values is))
+part-gives : (which : ValidityPart) (rest : List Step) (values : List Outcome) → stored_values (part_steps which) ≤ length values → Gives which rest values
+part-gives (part.Run which) rest values enough = run-gives which rest values enough
+part-gives (part.Word word) rest values enough =
+    let places = word_places word in
+    let steps = word_steps word in
+    let stored = stored_values steps in
+    let counted : drop stored values ≡ drop (present_count places) values = ap (λ k. drop k values) (stored-plan None 0 places) in
+    record {
+      split = ap (map placed_outcome) (along-append steps rest values enough) ∙ map-append placed_outcome (along steps values) (along rest (drop stored values)) ∙ ap (λ xs. given_along steps values ++ given_along rest xs) counted;
+      rows = length-given steps values enough ∙ kept-plan 0 places ∙ length-low_bits word.bits word.rows;
+      behind = sym counted;
+    }
 
--- as many rows are given as steps keep
-pub length-given : (steps : List Step) (values : List Outcome) → length values ≡ stored_values steps → length (given_along steps values) ≡ kept_count steps
-length-given [] values enough = refl
-length-given (Keep ∷ steps) [] enough = absurd (omega (arith, enough))
-length-given (Keep ∷ steps) (value ∷ values) enough = omega (arith, length-given steps values (omega (arith, enough)))
-length-given (KeepNull ∷ steps) values enough = omega (arith, length-given steps values enough)
-length-given (Pass ∷ steps) [] enough = absurd (omega (arith, enough))
-length-given (Pass ∷ steps) (value ∷ values) enough = length-given steps values (omega (arith, enough))
+length-part : (which : ValidityPart) → length (part_steps which) ≡ part_length which
+length-part (part.Run (run.Present n)) = length-replicate n Keep
+length-part (part.Run (run.Null n)) = length-replicate n KeepNull
+length-part (part.Run (run.Passed n)) = length-replicate n Pass
+length-part (part.Word word) = length-plan 0 (word_places word) ∙ length-low_bits word.bits word.rows
 
--- ---- one turn of the loop over runs
+-- ---- one turn of the loop over parts
 
 take-past : {A : Type 0} (xs ys : List A) (n : ℕ) → length xs ≤ n → take n (xs ++ ys) ≡ xs ++ take (n - length xs) ys
 take-past [] ys n h = let e : n - 0 ≡ n = omega arith in ap (λ k. take k ys) (sym e)
@@ -129,55 +148,56 @@ drop-past [] ys n h = let e : n - 0 ≡ n = omega arith in ap (λ k. drop k ys) 
 drop-past (x ∷ xs) ys zero h = absurd (omega arith)
 drop-past (x ∷ xs) ys (suc n) h = let e : suc n - suc (length xs) ≡ n - length xs = omega arith in drop-past xs ys n (omega arith) ∙ ap (λ k. drop k ys) (sym e)
 
-pub record Turn (which : Run) (wanted : ℕ) (old new : List Step) (values : List Outcome) : Type 0 where
-  pub within : run_rows which ≤ wanted
-  pub taken : take wanted (given_along old values) ≡ run_outcomes which values ++ take (wanted - run_rows which) (given_along new (behind_run which values))
-  pub left : drop wanted (given_along old values) ≡ drop (wanted - run_rows which) (given_along new (behind_run which values))
-  pub enough : length (behind_run which values) ≡ stored_values new
+pub record Turn (which : ValidityPart) (wanted : ℕ) (old new : List Step) (values : List Outcome) : Type 0 where
+  pub within : part_rows which ≤ wanted
+  pub stored : stored_values (part_steps which) ≤ length values
+  pub taken : take wanted (given_along old values) ≡ part_outcomes which values ++ take (wanted - part_rows which) (given_along new (behind_part which values))
+  pub left : drop wanted (given_along old values) ≡ drop (wanted - part_rows which) (given_along new (behind_part which values))
+  pub enough : length (behind_part which values) ≡ stored_values new
   pub shorter : length new < length old
 
-length-expand : (which : Run) → length (expand which) ≡ run_length which
-length-expand (run.Present n) = length-replicate n Keep
-length-expand (run.Null n) = length-replicate n KeepNull
-length-expand (run.Passed n) = length-replicate n Pass
-
-pub turn : (which : Run) (wanted : ℕ) (old new : List Step) (values : List Outcome) → GivesRun wanted old new (Some which) → length values ≡ stored_values old → Turn which wanted old new values
+pub turn : (which : ValidityPart) (wanted : ℕ) (old new : List Step) (values : List Outcome) → GivesPart wanted old new (Some which) → length values ≡ stored_values old → Turn which wanted old new values
 turn which wanted old new values gives enough =
-    let own = gives-at which old new values gives.0 enough in
-    let within : length (run_outcomes which values) ≤ wanted = omega (arith, own.rows, gives.2) in
-    let rest = given_along new (behind_run which values) in
+    let steps = part_steps which in
+    let all : length values ≡ stored_values steps + stored_values new = enough ∙ ap stored_values gives.0 ∙ stored-append steps new in
+    let stored : stored_values steps ≤ length values = omega (arith, all) in
+    let own = part-gives which new values stored in
+    let rest = given_along new (behind_part which values) in
+    let split : given_along old values ≡ part_outcomes which values ++ rest = ap (λ s. given_along s values) gives.0 ∙ own.split in
+    let within : length (part_outcomes which values) ≤ wanted = omega (arith, own.rows, gives.2) in
     record {
       within = gives.2;
-      taken = ap (take wanted) own.split ∙ take-past (run_outcomes which values) rest wanted within ∙ ap (λ n. run_outcomes which values ++ take (wanted - n) rest) own.rows;
-      left = ap (drop wanted) own.split ∙ drop-past (run_outcomes which values) rest wanted within ∙ ap (λ n. drop (wanted - n) rest) own.rows;
-      enough = own.enough;
-      shorter = omega (arith, gives.1, ap length gives.0, length-append (expand which) new, length-expand which);
+      stored = stored;
+      taken = ap (take wanted) split ∙ take-past (part_outcomes which values) rest wanted within ∙ ap (λ n. part_outcomes which values ++ take (wanted - n) rest) own.rows;
+      left = ap (drop wanted) split ∙ drop-past (part_outcomes which values) rest wanted within ∙ ap (λ n. drop (wanted - n) rest) own.rows;
+      enough = ap length own.behind ∙ length-drop (stored_values steps) values ∙ omega (arith, all);
+      shorter = omega (arith, gives.1, ap length gives.0, length-append steps new, length-part which);
     }
 
-pub run-caused : (which : Run) (wanted : ℕ) (old new : List Step) (values : List Outcome) (error : Error) → Turn which wanted old new values → IsCausedBy (run_outcomes which values) error → IsCausedBy (take wanted (given_along old values)) error
-run-caused which wanted old new values error turn told =
+pub part-caused : (which : ValidityPart) (wanted : ℕ) (old new : List Step) (values : List Outcome) (error : Error) → Turn which wanted old new values → IsCausedBy (part_outcomes which values) error → IsCausedBy (take wanted (given_along old values)) error
+part-caused which wanted old new values error turn told =
     let P : List Outcome → Type 0 = λ xs. IsCausedBy xs error in
-    subst P (sym turn.taken) (caused-left (run_outcomes which values) (take (wanted - run_rows which) (given_along new (behind_run which values))) error told)
+    subst P (sym turn.taken) (caused-left (part_outcomes which values) (take (wanted - part_rows which) (given_along new (behind_part which values))) error told)
 
--- what the loop keeps, where a run is appended
+-- what the loop keeps, where a part is appended
 pub record Turned (wanted rows : ℕ) (old new : List Step) (values behind : List Outcome) (shown more : List Cell) : Type 0 where
   pub enough : length behind ≡ stored_values new
   pub all : map Given more ++ take (wanted - rows) (given_along new behind) ≡ map Given shown ++ take wanted (given_along old values)
   pub rest : drop (wanted - rows) (given_along new behind) ≡ drop wanted (given_along old values)
   pub causes : (error : Error) → IsCausedBy (take (wanted - rows) (given_along new behind)) error → IsCausedBy (take wanted (given_along old values)) error
 
-pub turned : (which : Run) (wanted rows : ℕ) (old new : List Step) (values behind : List Outcome) (shown more : List Cell) → Turn which wanted old new values → rows ≡ run_rows which → behind ≡ behind_run which values → map Given more ≡ map Given shown ++ run_outcomes which values
+pub turned : (which : ValidityPart) (wanted rows : ℕ) (old new : List Step) (values behind : List Outcome) (shown more : List Cell) → Turn which wanted old new values → rows ≡ part_rows which → behind ≡ behind_part which values → map Given more ≡ map Given shown ++ part_outcomes which values
     → Turned wanted rows old new values behind shown more
 turned which wanted rows old new values behind shown more turn counted is cells =
-    let own = run_outcomes which values in
-    let next = take (wanted - run_rows which) (given_along new (behind_run which values)) in
-    let now : Turned wanted (run_rows which) old new values (behind_run which values) shown more = record {
+    let own = part_outcomes which values in
+    let next = take (wanted - part_rows which) (given_along new (behind_part which values)) in
+    let now : Turned wanted (part_rows which) old new values (behind_part which values) shown more = record {
       enough = turn.enough;
       all = ap (λ xs. xs ++ next) cells ∙ append_assoc (map Given shown) own next ∙ ap (λ xs. map Given shown ++ xs) (sym turn.taken);
       rest = sym turn.left;
       causes = λ error told. let P : List Outcome → Type 0 = λ xs. IsCausedBy xs error in subst P (sym turn.taken) (caused-right own next error told);
     } in
-    let P : ℕ → Type 0 = λ n. Turned wanted n old new values (behind_run which values) shown more in
+    let P : ℕ → Type 0 = λ n. Turned wanted n old new values (behind_part which values) shown more in
     let Q : List Outcome → Type 0 = λ xs. Turned wanted rows old new values xs shown more in
     subst Q (sym is) (subst P (sym counted) now)
 
@@ -193,6 +213,75 @@ none-left n steps values e = ap (λ s. drop n (given_along s values)) e ∙ empt
   empty : (n : ℕ) → drop {A = Outcome} n [] ≡ []
   empty zero = refl
   empty (suc n) = refl
+
+-- ---- one turn of the loop over the runs of a word
+
+-- the run of rows that are all of one kind
+abbrev run_of : Bool → ℕ → Run
+run_of true rows = run.Present rows
+run_of false rows = run.Null rows
+
+plan-run : (kind : Bool) (rows : ℕ) (places : List Bool) → plan None (replicate rows kind ++ places) ≡ expand (run_of kind rows) ++ plan None places
+plan-run true rows places = plan-present rows 0 places
+plan-run false rows places = plan-null rows 0 places
+
+-- what a word gives, and the values behind it, by its first run and the places behind that
+record RunFirst (kind : Bool) (rows : ℕ) (old new : List Bool) (values : List Outcome) : Type 0 where
+  split : given_along (plan None old) values ≡ run_outcomes (run_of kind rows) values ++ given_along (plan None new) (behind_run (run_of kind rows) values)
+  enough : present_count new ≤ length (behind_run (run_of kind rows) values)
+  left : drop (present_count new) (behind_run (run_of kind rows) values) ≡ drop (present_count old) values
+
+run-first : (kind : Bool) (rows : ℕ) (old new : List Bool) (values : List Outcome) → old ≡ replicate rows kind ++ new → present_count old ≤ length values → RunFirst kind rows old new values
+run-first kind rows old new values is enough =
+    let which = run_of kind rows in
+    let steps : plan None old ≡ expand which ++ plan None new = ap (plan None) is ∙ plan-run kind rows new in
+    let count = stored_values (expand which) in
+    let all : present_count old ≡ count + present_count new = omega (arith, stored-plan None 0 old, ap stored_values steps, stored-append (expand which) (plan None new), stored-plan None 0 new) in
+    let own = run-gives which (plan None new) values (omega (arith, enough, all)) in
+    record {
+      split = ap (λ s. given_along s values) steps ∙ own.split;
+      enough = omega (arith, ap length own.behind, length-drop count values, enough, all);
+      left = ap (drop (present_count new)) own.behind ∙ drop-drop (present_count new) count values ∙ ap (λ n. drop n values) (sym all);
+    }
+
+-- what the loop keeps, where a run is appended
+pub record RunTurned (old new : List Bool) (values behind : List Outcome) (shown more : List Cell) : Type 0 where
+  pub enough : present_count new ≤ length behind
+  pub cells : map Given more ++ given_along (plan None new) behind ≡ map Given shown ++ given_along (plan None old) values
+  pub left : drop (present_count new) behind ≡ drop (present_count old) values
+  pub causes : (error : Error) → IsCausedBy (given_along (plan None new) behind) error → IsCausedBy (given_along (plan None old) values) error
+
+run-turned : (kind : Bool) (rows : ℕ) (old new : List Bool) (values behind : List Outcome) (shown more : List Cell) → old ≡ replicate rows kind ++ new → present_count old ≤ length values → behind ≡ behind_run (run_of kind rows) values
+    → map Given more ≡ map Given shown ++ run_outcomes (run_of kind rows) values → RunTurned old new values behind shown more
+run-turned kind rows old new values behind shown more begins enough is cells =
+    let own = run_outcomes (run_of kind rows) values in
+    let rest = given_along (plan None new) (behind_run (run_of kind rows) values) in
+    let turn = run-first kind rows old new values begins enough in
+    let now : RunTurned old new values (behind_run (run_of kind rows) values) shown more = record {
+      enough = turn.enough;
+      cells = ap (λ xs. xs ++ rest) cells ∙ append_assoc (map Given shown) own rest ∙ ap (λ xs. map Given shown ++ xs) (sym turn.split);
+      left = turn.left;
+      causes = λ error told. let P : List Outcome → Type 0 = λ xs. IsCausedBy xs error in subst P (sym turn.split) (caused-right own rest error told);
+    } in
+    let P : List Outcome → Type 0 = λ xs. RunTurned old new values xs shown more in
+    subst P (sym is) now
+
+pub present-turned : (kind : Bool) (rows : ℕ) (old new : List Bool) (values behind : List Outcome) (shown more : List Cell) → kind ≡ true → old ≡ replicate rows kind ++ new → present_count old ≤ length values → behind ≡ drop rows values
+    → map Given more ≡ map Given shown ++ take rows values → RunTurned old new values behind shown more
+present-turned true rows old new values behind shown more is begins enough left cells = run-turned true rows old new values behind shown more begins enough left cells
+present-turned false rows old new values behind shown more is begins enough left cells = cc
+
+pub null-turned : (kind : Bool) (rows : ℕ) (old new : List Bool) (values : List Outcome) (shown more : List Cell) → kind ≡ false → old ≡ replicate rows kind ++ new → present_count old ≤ length values
+    → more ≡ shown ++ replicate rows Null → RunTurned old new values values shown more
+null-turned true rows old new values shown more is begins enough cells = cc
+null-turned false rows old new values shown more is begins enough cells = run-turned false rows old new values values shown more begins enough refl (nulls-behind rows shown more cells)
+
+-- what is wrong with the values of a run is wrong with its word
+pub run-caused : (kind : Bool) (rows : ℕ) (old new : List Bool) (values : List Outcome) (error : Error) → kind ≡ true → old ≡ replicate rows kind ++ new → present_count old ≤ length values → IsCausedBy (take rows values) error → IsCausedBy (given_along (plan None old) values) error
+run-caused true rows old new values error is begins enough told =
+    let P : List Outcome → Type 0 = λ xs. IsCausedBy xs error in
+    subst P (sym (run-first true rows old new values begins enough).split) (caused-left (take rows values) (given_along (plan None new) (drop rows values)) error told)
+run-caused false rows old new values error is begins enough told = cc
 
 -- ---- what is wrong with a page
 
@@ -331,7 +420,7 @@ covered-map f rows row (x ∷ xs) = one (covers rows row) (covered-map f rows (r
   one true others = ap (λ ys. f x ∷ ys) others
   one false others = others
 
-selected-map : {A B : Type 0} (f : A → B) (selected : Option (List Interval)) (xs : List A) → selected_of selected (map f xs) ≡ map f (selected_of selected xs)
+pub selected-map : {A B : Type 0} (f : A → B) (selected : Option (List Interval)) (xs : List A) → selected_of selected (map f xs) ≡ map f (selected_of selected xs)
 selected-map f None xs = refl
 selected-map f (Some rows) xs = covered-map f rows 0 xs
 

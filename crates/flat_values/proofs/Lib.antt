@@ -4,6 +4,9 @@ mod ExtendLemmas
 mod NumberLemmas
 mod ItemLemmas
 mod CountLemmas
+pub mod WordLemmas
+pub mod SpreadLemmas
+pub mod MaskLemmas
 pub mod DecodedLemmas
 pub mod OutcomeLemmas
 pub mod TruthLemmas
@@ -14,7 +17,7 @@ pub mod TakeLemmas
 pub mod PlainTakes
 pub mod NumberPlaces
 pub mod FixedPlaceLemmas
-mod FlatLemmas
+pub mod FlatLemmas
 pub mod AgreementLemmas
 pub mod PageLemmas
 pub mod PlainLemmas

@@ -52,7 +52,7 @@ unfolding value_causes
 delta_causes type entries encoding bytes count is = ap (λ x. value_causes type entries (as_encoding x) bytes count) is
 
 -- as many cells as entries
-cells_counted : {D T : Type 0} (cell : T → Cell) (dict : Option D) (items : D → List T) → option_map (λ v. length (map cell (items v))) dict ≡ option_map (λ v. length (items v)) dict
+pub cells_counted : {D T : Type 0} (cell : T → Cell) (dict : Option D) (items : D → List T) → option_map (λ v. length (map cell (items v))) dict ≡ option_map (λ v. length (items v)) dict
 cells_counted cell None items = refl
 cells_counted cell (Some v) items = ap something (length-map (items v) cell)
 

@@ -2,7 +2,6 @@
 use Rattle.std.proofs.Common.{◌≡◌, ℕ, List, [], ◌∷◌, map, drop, Option, Some, None, Ok, refl, sym, ap, ◌∙◌, arith}
 use Rattle.std.specs.Prelude.{unwrap_or}
 use Rattle.std.proofs.lemmas.List.{drop-map}
-use Rattle.std.specs.Option.{is_some, option_map}
 use Rattle.columns_core.specs.Causes.{ExternalFormat, IsOneOf, cause_of}
 use Rattle.columns_core.specs.declared.cell.Cell.{Cell}
 use Rattle.columns_core.specs.declared.error.Error.{Error}
@@ -11,23 +10,16 @@ use Rattle.parquet_page.specs.Content.{DictContent}
 use Rattle.parquet_page.specs.Spelling.{dictionary_entries}
 use Rattle.parquet_page.specs.Stored.{Stored}
 use Rattle.column_values.specs.Outcome.{Outcome, Given, all_given, causes_in, cells_in, refusal_of}
+use Rattle.column_values.proofs.NextLemmas.{causes_in-given}
 use Rattle.flat_values.specs.Conversion.{Conversion}
 use Rattle.flat_values.specs.Outcomes.{dictionary_cells, stored_outcome}
 
-pub is_some-mapped : {A B : Type 0} (f : A → B) (o : Option A) → is_some (option_map f o) ≡ is_some o
-is_some-mapped f None = refl
-is_some-mapped f (Some x) = refl
-
-no_cause : (cells : List Cell) → causes_in (map Given cells) ≡ []
-no_cause [] = refl
-no_cause (cell ∷ cells) = no_cause cells
-
-cells_in-given : (cells : List Cell) → cells_in (map Given cells) ≡ cells
+pub cells_in-given : (cells : List Cell) → cells_in (map Given cells) ≡ cells
 cells_in-given [] = refl
 cells_in-given (cell ∷ cells) = ap (λ rest. cell ∷ rest) (cells_in-given cells)
 
 all_given-cells : (cells : List Cell) → all_given (map Given cells) ≡ Ok cells
-all_given-cells cells = rw (no_cause cells) (ap Ok (cells_in-given cells))
+all_given-cells cells = rw (causes_in-given cells) (ap Ok (cells_in-given cells))
 
 -- the entries of a dictionary all become cells
 pub all_entries : (rule : Conversion) (type : PhysicalType) (page : DictContent) (stored : List Stored) (cells : List Cell)

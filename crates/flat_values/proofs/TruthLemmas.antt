@@ -20,7 +20,8 @@ use Rattle.parquet_page.specs.Values.{Encoding, Plain, Keys, DeltaPacked, DeltaL
 use Rattle.column_values.specs.Outcome.{Outcome, Given, causes_in, refusal_of}
 use Rattle.flat_values.specs.Conversion.{Keep}
 use Rattle.flat_values.specs.Outcomes.{dictionary_cells, stored_outcome, value_causes, value_outcomes}
-use Rattle.flat_values.proofs.OutcomeLemmas.{all_entries, is_some-mapped, no_entries}
+use Rattle.flat_values.proofs.OutcomeLemmas.{all_entries, no_entries}
+use Rattle.flat_values.proofs.PlainLemmas.{is_some-map}
 
 -- bits from any place on
 bits_of-packed : (bytes : List ℕ) (place count : ℕ) → bits_of bytes place count ≡ map truth (packed bytes 1 place count)
@@ -50,7 +51,7 @@ module _ (bytes : List ℕ) (count : ℕ) where
 
   truth_causes : (entries : Option ℕ) (encoding : Encoding) → goes_with encoding Boolean ≡ true → value_causes Boolean entries encoding bytes count ≡ unless (is_some (plain_bits bytes count)) ExternalFormat
   unfolding value_causes plain_values
-  truth_causes entries Plain goes = ap (λ b. unless b ExternalFormat) (is_some-mapped (map Truth) (plain_bits bytes count))
+  truth_causes entries Plain goes = ap (λ b. unless b ExternalFormat) (is_some-map (map Truth) (plain_bits bytes count))
   truth_causes entries Keys goes = absurd (false≢true goes)
   truth_causes entries DeltaPacked goes = absurd (false≢true goes)
   truth_causes entries DeltaLengths goes = absurd (false≢true goes)

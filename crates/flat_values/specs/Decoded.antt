@@ -27,7 +27,19 @@ with_nulls held zero mask = mask
 with_nulls held (suc count) [] = replicate held true ++ replicate (suc count) false
 with_nulls held (suc count) (set ∷ mask) = (set ∷ mask) ++ replicate (suc count) false
 
--- Without nulls there is no mask.
+-- the mask of so many values, with these places more
+abbrev pub with_places : ℕ → List Bool → List Bool → List Bool
+with_places held places [] = replicate held true ++ places
+with_places held places (set ∷ mask) = (set ∷ mask) ++ places
+
+-- Values are spread over the places that have one, one after another. The others stand on `null`, and so does a place without a value left.
+abbrev pub spread_over : {T : Type 0} → T → List Bool → List T → List T
+spread_over null [] values = []
+spread_over null (false ∷ places) values = null ∷ spread_over null places values
+spread_over null (true ∷ places) [] = null ∷ spread_over null places []
+spread_over null (true ∷ places) (value ∷ values) = value ∷ spread_over null places values
+
+-- An empty mask is none.
 abbrev pub found_mask : List Bool → Option (List Bool)
 found_mask [] = None
 found_mask (set ∷ mask) = Some (set ∷ mask)

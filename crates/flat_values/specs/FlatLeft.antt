@@ -5,13 +5,17 @@ use Rattle.columns_core.specs.Causes.{Cause}
 use Rattle.columns_core.specs.declared.cell.Cell.{Null}
 use Rattle.parquet_base.specs.Reading.{◌>>=◌, given}
 use Rattle.parquet_page.specs.Content.{DataContent}
-use Rattle.parquet_page.specs.Levels.{body_parts}
+use Rattle.parquet_page.specs.Levels.{body_parts, present_count}
 use Rattle.parquet_page.specs.Opened.{goes_on_dictionary}
 use Rattle.parquet_page.specs.Plan.{Step, along}
 use Rattle.parquet_page.specs.Spelling.{header_encoding}
+use Rattle.parquet_page.specs.ValidityParts.{word_places, word_steps}
 use Rattle.parquet_page.specs.Values.{Encoding, encoding_of, goes_with}
 use Rattle.parquet_page.specs.declared.run.Run.{Run}
 use Rattle.parquet_page.specs.declared.run.Run.TheVariants.{Present, Null as NullRun, Passed}
+use Rattle.parquet_page.specs.declared.validity_part.ValidityPart.{ValidityPart}
+use Rattle.parquet_page.specs.declared.validity_part.ValidityPart.TheVariants.{Run as OfRun, Word as OfWord}
+use Rattle.parquet_page.specs.declared.validity_part.ValidityWord.{ValidityWord}
 use Rattle.column_values.specs.FilteredLeft.{IsPageOf, filtered_steps, stored_values}
 use Rattle.column_values.specs.Outcome.{Outcome, Given}
 use Rattle.column_values.specs.declared.filtered_validity.FilteredOptionalPageValidity.{FilteredOptionalPageValidity}
@@ -40,6 +44,24 @@ abbrev pub behind_run : Run → List Outcome → List Outcome
 behind_run (Present rows) values = drop rows values
 behind_run (NullRun rows) values = values
 behind_run (Passed count) values = drop count values
+
+-- what the rows of a word give
+abbrev pub word_outcomes : ValidityWord → List Outcome → List Outcome
+word_outcomes word values = given_along (word_steps word) values
+
+-- the values behind a word
+abbrev pub behind_word : ValidityWord → List Outcome → List Outcome
+behind_word word values = drop (present_count (word_places word)) values
+
+-- what the rows of a part give
+abbrev pub part_outcomes : ValidityPart → List Outcome → List Outcome
+part_outcomes (OfRun run) values = run_outcomes run values
+part_outcomes (OfWord word) values = word_outcomes word values
+
+-- the values behind a part
+abbrev pub behind_part : ValidityPart → List Outcome → List Outcome
+behind_part (OfRun run) values = behind_run run values
+behind_part (OfWord word) values = behind_word word values
 
 -- The walk is one over this page, and there are as many values left in these bytes as it takes or passes over.
 pub record IsStateOf {Values : Type 0} (is_over : List ℕ → Values → Type 0) (left : List ℕ → Values → List Outcome) (bytes : List ℕ) (walk : FilteredOptionalPageValidity) (values : Option Values) (page : DataContent) : Type 0 where

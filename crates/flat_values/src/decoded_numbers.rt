@@ -1,17 +1,23 @@
 //! Numbers that were decoded, and which of them are null.
-ghost use Rattle.std.specs.Prelude.{◌≡◌, ◌++◌, [], IsTrue, replicate, IfOk, IfErr, OnOk};
+ghost use Rattle.std.specs.Prelude.{◌≡◌, ◌+◌, ◌++◌, [], IsTrue, drop, length, map, replicate, take, IfOk, IfErr, OnOk};
 ghost use Rattle.columns_core.specs.declared.cell.Cell.{Null};
 ghost use Rattle.columns_core.specs.Causes.{IsWantOfMemory, is_invalid_argument};
+ghost use Rattle.columns_core.specs.Column.{cell_of};
+ghost use Rattle.parquet_page.specs.Levels.{present_count};
+ghost use Rattle.parquet_page.specs.Plan.{along};
+ghost use Rattle.parquet_page.specs.ValidityParts.{word_places, word_steps};
 ghost use Rattle.flat_values.specs.Decoded.{IsMaskFor, marked, marked_cells};
 
-use crate::validity::{freeze_mask, mark_nulls};
+use crate::spread::spread_numbers;
+use crate::validity::{freeze_mask, mark_nulls, mark_rows};
 use column_values::DecodedState;
 use columns_core::{
     DataType, Error, MutableBitmap, MutablePrimitiveArray, NativeType, PrimitiveArray,
 };
+use parquet_page::ValidityWord;
 use std::alloc::Global;
 
-/// Decoded numbers. The mask is empty until the first null.
+/// Decoded numbers. The mask is empty until the first null or word of rows.
 #[derive(Drop)]
 pub struct DecodedNumbers<T> {
     pub(crate) values: Vec<T>,
@@ -64,6 +70,19 @@ impl<T: NativeType + Default> DecodedNumbers<T> {
         ensures memory { IfErr result IsWantOfMemory }
     {
         self.push_nulls_on(count, T::default())
+    }
+
+    /// Spreads the numbers behind the first `held` over the rows of a word that have a value. The other rows are null, and
+    /// stand on the default number.
+    pub(crate) fn spread(&mut self, held: usize, word: ValidityWord) -> Result<(), Error>
+        requires own { IsMaskFor (take held self.old.values.items) self.old.validity }
+        requires many { length self.old.values.items ≡ held + present_count (word_places word) }
+        ensures cells { OnOk result (marked_cells T.cell self.new.values.items self.new.validity ≡ marked_cells T.cell (take held self.old.values.items) self.old.validity ++ map (cell_of T.cell) (along (word_steps word) (drop held self.old.values.items))) }
+        ensures own { OnOk result (IsMaskFor self.new.values.items self.new.validity) }
+        ensures memory { IfErr result IsWantOfMemory }
+    {
+        spread_numbers(&mut self.values, held, word, T::default())?;
+        mark_rows(&mut self.validity, held, word)
     }
 }
 

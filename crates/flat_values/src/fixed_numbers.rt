@@ -1,6 +1,5 @@
 //! Numbers of a column of byte strings of one size, read and converted.
-ghost use Rattle.std.specs.Prelude.{◌≡◌, ◌++◌, ◌<◌, ◌≤◌, ◌%◌, IsTrue, List, [], Option, Some, Ok, None, IfOk, IfErr, OnOk, IsSome, length, take, drop, map, option_map};
-ghost use Rattle.std.specs.Option.{option_copied};
+ghost use Rattle.std.specs.Prelude.{◌≡◌, ◌<◌, ◌%◌, IsTrue, Some, IfOk, IfErr, OnOk, IsSome, length, take, drop, map, option_map};
 ghost use Rattle.columns_core.specs.Causes.{ComesOf, IsWantOfMemory};
 ghost use Rattle.columns_core.specs.Fixed.{pieces};
 ghost use Rattle.column_values.specs.Outcome.{causes_in};
@@ -14,7 +13,7 @@ ghost use Rattle.parquet_page.specs.Stored.{Octets};
 
 use crate::fixed::{open_plain, skip_values};
 use crate::keys::{KeyPlace, take_named};
-use crate::number_values::entries_of;
+use crate::number_values::{entries_of, entry_count};
 use crate::validity::mark_values;
 use crate::{ConvertFixed, DecodedNumbers, FixedPlace, IntoArray, ValueDecoder, ValueEncoding};
 use columns_core::{DataType, Error, MutablePrimitiveArray, NativeType, Part};
@@ -91,13 +90,6 @@ fn take_values<T: NativeType, C: ConvertFixed<T>>(
             Ok(FixedPlace::Keys(behind))
         }
     }
-}
-
-/// The number of a dictionary's entries.
-fn entry_count<T: NativeType>(dict: Option<&Vec<T>>) -> Option<usize>
-    ensures { result ≡ option_map (λ entries. length (map T.cell entries.items)) (option_copied dict.entry) }
-{
-    Some(dict?.len())
 }
 
 /// Reads byte strings of one size as the numbers of an array, by a conversion.

@@ -1,23 +1,26 @@
 //! Decodes flat pages, by a decoder of their values.
-ghost use Rattle.std.specs.Prelude.{◌≡◌, true, false, List, [], ◌++◌, drop, length, map, take, Option, Some, IfOk, IfErr, IfSome, OnOk, option_map};
+ghost use Rattle.std.specs.Prelude.{◌≡◌, ◌≤◌, true, false, [], ◌++◌, drop, length, map, take, Option, Some, IfOk, IfErr, IfSome, OnOk, option_map};
 ghost use Rattle.std.specs.Option.{option_copied};
 ghost use Rattle.columns_core.specs.Causes.{ComesOf, IsOneOf, cause_of};
-ghost use Rattle.parquet_page.specs.Content.{DataContent, data_content};
+ghost use Rattle.parquet_page.specs.Content.{data_content};
 ghost use Rattle.parquet_page.specs.Opened.{goes_on_dictionary as goes_on_by};
-ghost use Rattle.parquet_page.specs.Runs.{run_rows};
+ghost use Rattle.parquet_page.specs.Levels.{present_count};
 ghost use Rattle.parquet_page.specs.Spelling.{header_encoding};
+ghost use Rattle.parquet_page.specs.ValidityParts.{part_steps, word_places};
 ghost use Rattle.parquet_page.specs.Values.{encoding_of as encoding_by, goes_with as goes_with_by, unless_none};
-ghost use Rattle.column_values.specs.FilteredLeft.{filtered_steps};
-ghost use Rattle.column_values.specs.Outcome.{Given, Outcome, causes_in};
+ghost use Rattle.column_values.specs.FilteredLeft.{filtered_steps, stored_values};
+ghost use Rattle.column_values.specs.Outcome.{Given, causes_in};
 ghost use Rattle.flat_values.specs.Encodings.{as_encoding};
-ghost use Rattle.flat_values.specs.FlatLeft.{IsStateOf, behind_run, causes_unless_none, given_along, read_encoding, run_outcomes, values_left};
+ghost use Rattle.flat_values.specs.FlatLeft.{IsStateOf, behind_part, behind_run, behind_word, causes_unless_none, given_along, part_outcomes, read_encoding, run_outcomes, values_left, word_outcomes};
 ghost use Rattle.flat_values.specs.Outcomes.{value_causes, value_outcomes};
 
 use crate::value_decoder::{ValueDecoder, ValueEncoding};
 use column_values::{DecodedState, Decoder, FilteredOptionalPageValidity};
 use columns_core::{Error, Part};
 use parquet_meta::PhysicalType;
-use parquet_page::{DataPage, DataPageHeader, DictPage, Run, split_buffer};
+use parquet_page::{
+    DataPage, DataPageHeader, DictPage, Run, ValidityPart, ValidityWord, split_buffer,
+};
 use std::alloc::Global;
 
 /// Appends the next `count` values, or all that are left.
@@ -85,6 +88,56 @@ fn add_run<V: ValueDecoder>(
             skip_values(decoder, bytes, values, count);
             Ok(())
         }
+    }
+}
+
+/// Appends what the rows of a word give. Where no value is stored, all are null.
+fn add_word<V: ValueDecoder>(
+    decoder: &V,
+    bytes: &[u8],
+    dict: Option<&V::Dict>,
+    values: &mut Option<V::Values>,
+    decoded: &mut V::Decoded,
+    word: ValidityWord,
+) -> Result<(), Error>
+    requires over { IfSome values.old (V.is_over decoder.now bytes.now) }
+    requires own_dict { IfSome (option_copied dict) (V.is_own_dict decoder.now) }
+    requires own { V.is_own decoder.now decoded.old }
+    requires enough { present_count (word_places word) ≤ length (values_left (V.left decoder.now (option_copied dict) bytes.now) values.old) }
+    ensures cells { OnOk result (map Given (V.Decoded.shown decoded.new) ≡ map Given (V.Decoded.shown decoded.old) ++ word_outcomes word (values_left (V.left decoder.now (option_copied dict.entry) bytes.now) values.old)) }
+    ensures left { OnOk result (values_left (V.left decoder.now (option_copied dict.entry) bytes.now) values.new ≡ behind_word word (values_left (V.left decoder.now (option_copied dict.entry) bytes.now) values.old)) }
+    ensures over { OnOk result (IfSome values.new (V.is_over decoder.now bytes.now)) }
+    ensures own { OnOk result (V.is_own decoder.now decoded.new) }
+    ensures cause { ComesOf result (causes_in (word_outcomes word (values_left (V.left decoder.now (option_copied dict.entry) bytes.now) values.old))) }
+{
+    match values {
+        Some(values) => decoder.take_word(bytes, dict, values, decoded, word),
+        None => decoder.push_nulls(decoded, word.rows),
+    }
+}
+
+/// Appends what the rows of a part give.
+fn add_part<V: ValueDecoder>(
+    decoder: &V,
+    bytes: &[u8],
+    dict: Option<&V::Dict>,
+    values: &mut Option<V::Values>,
+    decoded: &mut V::Decoded,
+    part: ValidityPart,
+) -> Result<(), Error>
+    requires over { IfSome values.old (V.is_over decoder.now bytes.now) }
+    requires own_dict { IfSome (option_copied dict) (V.is_own_dict decoder.now) }
+    requires own { V.is_own decoder.now decoded.old }
+    requires enough { stored_values (part_steps part) ≤ length (values_left (V.left decoder.now (option_copied dict) bytes.now) values.old) }
+    ensures cells { OnOk result (map Given (V.Decoded.shown decoded.new) ≡ map Given (V.Decoded.shown decoded.old) ++ part_outcomes part (values_left (V.left decoder.now (option_copied dict.entry) bytes.now) values.old)) }
+    ensures left { OnOk result (values_left (V.left decoder.now (option_copied dict.entry) bytes.now) values.new ≡ behind_part part (values_left (V.left decoder.now (option_copied dict.entry) bytes.now) values.old)) }
+    ensures over { OnOk result (IfSome values.new (V.is_over decoder.now bytes.now)) }
+    ensures own { OnOk result (V.is_own decoder.now decoded.new) }
+    ensures cause { ComesOf result (causes_in (part_outcomes part (values_left (V.left decoder.now (option_copied dict.entry) bytes.now) values.old))) }
+{
+    match part {
+        ValidityPart::Run(run) => add_run(decoder, bytes, dict, values, decoded, run),
+        ValidityPart::Word(word) => add_word(decoder, bytes, dict, values, decoded, word),
     }
 }
 
@@ -168,18 +221,8 @@ fn open_values<V: ValueDecoder>(
     Ok(Some(decoder.open(encoding, bytes, count, dict)?))
 }
 
-/// How many rows a run gives.
-fn given_rows(run: Run) -> usize
-    ensures { result ≡ run_rows run }
-{
-    match run {
-        Run::Present(rows) | Run::Null(rows) => rows,
-        Run::Passed(_) => 0,
-    }
-}
-
 /// Appends the next `additional` selected rows, or all that are left.
-fn add_runs<V: ValueDecoder>(
+fn add_rows<V: ValueDecoder>(
     decoder: &V,
     page: &DataPage<'_>,
     bytes: &[u8],
@@ -200,11 +243,11 @@ fn add_runs<V: ValueDecoder>(
 {
     let mut wanted = additional;
     while wanted > 0 {
-        let Some(run) = walk.next(page, wanted) else {
+        let Some(part) = walk.next_part(page, wanted) else {
             return Ok(());
         };
-        add_run(decoder, bytes, dict, values, decoded, run)?;
-        wanted -= given_rows(run);
+        add_part(decoder, bytes, dict, values, decoded, part)?;
+        wanted -= part.rows();
     }
     Ok(())
 }
@@ -281,7 +324,7 @@ impl<V: ValueDecoder> Decoder for FlatDecoder<V> {
         additional: usize,
     ) -> Result<(), Error> {
         let (_, _, bytes) = split_buffer(page)?;
-        add_runs(
+        add_rows(
             &self.values,
             page,
             bytes,

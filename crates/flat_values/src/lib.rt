@@ -25,6 +25,7 @@ mod numbers;
 mod pairs;
 pub mod primitive;
 mod scale;
+mod spread;
 mod stored;
 #[cfg(test)]
 mod tests;
@@ -32,6 +33,8 @@ mod time;
 mod truths;
 mod validity;
 mod value_decoder;
+#[cfg(test)]
+mod word_tests;
 
 pub use array_iter::ArrayIter;
 pub use bulk::{

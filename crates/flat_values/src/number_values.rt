@@ -1,15 +1,13 @@
 //! Numbers of a column, read and converted.
-ghost use Rattle.std.specs.Prelude.{◌≡◌, ◌++◌, IsTrue, List, [], Option, Some, Ok, None, IfOk, OnOk, length, take, drop, map, option_map};
+ghost use Rattle.std.specs.Prelude.{◌≡◌, IsTrue, List, [], Option, Some, OnOk, length, take, drop, map, option_map};
 ghost use Rattle.std.specs.Option.{option_copied, option_map_or};
 ghost use Rattle.columns_core.specs.Causes.{ComesOf};
 ghost use Rattle.columns_core.specs.declared.cell.Cell.{Cell};
-ghost use Rattle.parquet_page.specs.Content.{dict_content};
-ghost use Rattle.column_values.specs.Outcome.{Given, causes_in, refusal_of};
+ghost use Rattle.column_values.specs.Outcome.{causes_in};
 ghost use Rattle.flat_values.specs.Added.{Adds};
 ghost use Rattle.flat_values.specs.Conversion.{Conversion};
 ghost use Rattle.flat_values.specs.Decoded.{IsMaskFor};
 ghost use Rattle.flat_values.specs.NumbersLeft.{IsAmongNumbers, number_left};
-ghost use Rattle.flat_values.specs.Outcomes.{dictionary_cells};
 
 use crate::keys::{KeyPlace, take_named};
 use crate::numbers::{NumberPlace, open_deltas, open_plain, skip_plain, take_deltas, take_plain};
@@ -18,18 +16,15 @@ use crate::{
     ConvertMany, DecodedNumbers, IntoArray, ParquetNativeType, ValueDecoder, ValueEncoding,
 };
 use columns_core::{DataType, Error, MutablePrimitiveArray, NativeType, Part};
-use parquet_page::DictPage;
+use parquet_page::{DictPage, ValidityWord};
 use std::alloc::Global;
 use std::marker::PhantomData;
 
 /// The number of a dictionary's entries.
-fn entry_count<T>(dict: Option<&Vec<T>>) -> Option<usize>
+pub(crate) fn entry_count<T>(dict: Option<&Vec<T>>) -> Option<usize>
     ensures { result ≡ option_map (λ entries. length entries.items) (option_copied dict.entry) }
 {
-    match dict {
-        None => None,
-        Some(entries) => Some(entries.len()),
-    }
+    Some(dict?.len())
 }
 
 /// The entries of a dictionary, if there is one.
@@ -174,6 +169,27 @@ impl<P: ParquetNativeType, T: NativeType + Default, C: ConvertMany<P, T>> ValueD
         )?;
         let taken = decoded.values.len() - held;
         mark_values(&mut decoded.validity, taken)
+    }
+
+    fn take_word(
+        &self,
+        bytes: &[u8],
+        dict: Option<&Vec<T>>,
+        values: &mut NumberPlace,
+        decoded: &mut DecodedNumbers<T>,
+        word: ValidityWord,
+    ) -> Result<(), Error> {
+        let entries = entries_of(dict);
+        let held = decoded.values.len();
+        take_values::<P, T, C>(
+            values,
+            bytes,
+            entries,
+            self.rule,
+            &mut decoded.values,
+            word.present(),
+        )?;
+        decoded.spread(held, word)
     }
 
     fn skip(&self, bytes: &[u8], values: &mut NumberPlace, count: usize) {

@@ -3,7 +3,7 @@ ghost use Rattle.std.specs.Prelude.{◌≡◌, ◌*ℤ◌, IfOk, IfErr};
 ghost use Rattle.flat_values.specs.Conversion.{Value, NotInRange, int64};
 ghost use Rattle.columns_core.specs.declared.cell.Cell.{Int};
 
-use crate::Convert;
+use crate::{Convert, ConvertAll, ConvertMany, InBulk, OneByOne};
 use columns_core::Error;
 use std::marker::Model;
 
@@ -56,6 +56,75 @@ impl Convert<i64, i64> for Scale {
             times(x, factor)
         } else {
             Ok(x / factor)
+        }
+    }
+}
+
+/// Times of the unit that is wanted.
+#[derive(Clone, Copy)]
+struct SameUnit;
+
+impl Convert<i64, i64> for SameUnit {
+    ghost use Rattle.std.specs.Prelude.{true};
+    ghost use Rattle.flat_values.specs.Conversion.{Scale as Scaled};
+
+    ghost rule = { λ _. Scaled 1 true };
+
+    fn convert(&self, x: i64) -> Result<i64, Error> {
+        Ok(self.apply(x))
+    }
+}
+
+impl ConvertAll<i64, i64> for SameUnit {
+    fn apply(&self, x: i64) -> i64 {
+        x
+    }
+}
+
+/// Times divided by a factor, which refuses none.
+#[derive(Clone, Copy)]
+struct Divide(Scale);
+
+impl Convert<i64, i64> for Divide {
+    ghost use Rattle.std.specs.Prelude.{false};
+    ghost use Rattle.flat_values.specs.Conversion.{Scale as Scaled};
+
+    ghost rule = { λ divide. Scaled (divide.0).0 false };
+
+    fn convert(&self, x: i64) -> Result<i64, Error> {
+        Ok(self.apply(x))
+    }
+}
+
+impl ConvertAll<i64, i64> for Divide {
+    fn apply(&self, x: i64) -> i64 {
+        x / self.0.factor as i64
+    }
+}
+
+/// Only a product may be refused, so only products are taken one by one.
+impl ConvertMany<i64, i64> for Scale {
+    ghost use Rattle.flat_values.specs.Conversion.{Scale as Scaled};
+
+    ghost rule = { λ scale. Scaled scale.0 scale.1 };
+
+    fn extend_plain(&self, values: &mut Vec<i64>, pieces: &[[u8; 8]]) -> Result<(), Error> {
+        if !self.multiply {
+            ConvertMany::<i64, i64>::extend_plain(&InBulk(Divide(*self)), values, pieces)
+        } else if self.factor == 1 {
+            ConvertMany::<i64, i64>::extend_plain(&InBulk(SameUnit), values, pieces)
+        } else {
+            ConvertMany::<i64, i64>::extend_plain(&OneByOne(*self), values, pieces)
+        }
+    }
+
+    fn extend_deltas(&self, values: &mut Vec<i64>, numbers: &[i64]) -> Result<(), Error> {
+        if !self.multiply {
+            ConvertMany::<i64, i64>::extend_deltas(&InBulk(Divide(*self)), values, numbers)
+        } else if self.factor == 1 {
+            ConvertMany::<i64, i64>::extend_deltas(&InBulk(SameUnit), values, numbers)
+        } else {
+            ConvertMany::<i64, i64>::extend_deltas(&OneByOne(*self), values, numbers)
         }
     }
 }

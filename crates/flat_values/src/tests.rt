@@ -49,6 +49,32 @@ fn plain_bytes(rt: HostRuntime) -> Result<(), Fail> {
 }
 
 #[test]
+fn times_in_units(rt: HostRuntime) -> Result<(), Fail> {
+    // 1, 2000 and -2999.
+    let bytes = [
+        1, 0, 0, 0, 0, 0, 0, 0, 0xD0, 7, 0, 0, 0, 0, 0, 0, 0x49, 0xF4, 0xFF, 0xFF, 0xFF, 0xFF,
+        0xFF, 0xFF,
+    ];
+    let same: NumberValues<i64, i64, Scale> = NumberValues::new(Scale::new(1, true));
+    let mut place = same.open(ValueEncoding::Plain, &bytes, 3, None)?;
+    let mut times = same.with_capacity(rt.alloc(), 3)?;
+    same.take(&bytes, None, &mut place, &mut times, 3)?;
+    let array = times.into_array(DataType::Timestamp(TimeUnit::Second, None))?;
+    assert_eq!(rt; array.len(), 3);
+    assert_eq!(rt; (array.get(0), array.get(1)), (Some(1), Some(2000)));
+    assert_eq!(rt; array.get(2), Some(-2999));
+    // The same bytes as the entries of a dictionary, in a coarser unit.
+    let coarser: NumberValues<i64, i64, Scale> = NumberValues::new(Scale::new(1000, false));
+    let page = DictPage {
+        buffer: &bytes,
+        num_values: 3,
+    };
+    let entries = coarser.read_dict(rt.alloc(), &page)?;
+    assert_eq!(rt; entries.as_slice(), [0, 2, -2].as_slice());
+    Ok(())
+}
+
+#[test]
 fn fixed_bytes(rt: HostRuntime) -> Result<(), Fail> {
     assert_eq!(rt; convert_i128(&[0xFF, 0x85], 2), -123);
     let interval = [0, 0, 0, 0, 3, 0, 0, 0, 0xE8, 3, 0, 0];

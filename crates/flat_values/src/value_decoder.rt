@@ -1,16 +1,19 @@
 //! How the stored values of a page are read one behind the other.
-ghost use Rattle.std.specs.Prelude.{◌≡◌, ◌++◌, true, ℕ, List, [], drop, length, map, replicate, take, Option, Some, Result, Ok, IfOk, IfErr, IfSome, OnOk, option_map};
+ghost use Rattle.std.specs.Prelude.{◌≡◌, ◌≤◌, ◌++◌, true, ℕ, List, [], drop, length, map, replicate, take, Option, Some, Ok, IfOk, IfErr, IfSome, OnOk, option_map};
 ghost use Rattle.std.specs.Option.{option_copied};
 ghost use Rattle.columns_core.specs.Causes.{ComesOf, IsOneOf, IsWantOfMemory, cause_of};
 ghost use Rattle.columns_core.specs.declared.cell.Cell.{Cell, Null};
 ghost use Rattle.parquet_page.specs.Content.{dict_content};
+ghost use Rattle.parquet_page.specs.Levels.{present_count};
+ghost use Rattle.parquet_page.specs.ValidityParts.{word_places};
 ghost use Rattle.parquet_page.specs.Values.{goes_with};
 ghost use Rattle.column_values.specs.Outcome.{Given, Outcome, causes_in, refusal_of};
+ghost use Rattle.flat_values.specs.FlatLeft.{behind_word, word_outcomes};
 ghost use Rattle.flat_values.specs.Outcomes.{dictionary_cells, value_causes, value_outcomes};
 
 use column_values::DecodedState;
 use columns_core::Error;
-use parquet_page::DictPage;
+use parquet_page::{DictPage, ValidityWord};
 use std::alloc::Global;
 
 /// The encodings that are read.
@@ -90,6 +93,37 @@ pub trait ValueDecoder {
         ensures over { OnOk result (is_over self.now bytes.now values.new) }
         ensures own { OnOk result (is_own self.now decoded.new) }
         ensures cause { ComesOf result (causes_in (take count (left self.now (option_copied dict.entry) bytes.now values.old))) };
+
+    /// Appends what the rows of a word give: their values, of which there are enough, and nulls. After a refusal some of the rows may be
+    /// there.
+    fn take_word(
+        &self,
+        bytes: &[u8],
+        dict: Option<&Self::Dict>,
+        values: &mut Self::Values,
+        decoded: &mut Self::Decoded,
+        word: ValidityWord,
+    ) -> Result<(), Error>
+        requires over { is_over self.now bytes.now values.old }
+        requires own_dict { IfSome (option_copied dict) (is_own_dict self.now) }
+        requires own { is_own self.now decoded.old }
+        requires enough { present_count (word_places word) ≤ length (left self.now (option_copied dict) bytes.now values.old) }
+        ensures cells { OnOk result (map Given (Self.Decoded.shown decoded.new) ≡ map Given (Self.Decoded.shown decoded.old) ++ word_outcomes word (left self.now (option_copied dict.entry) bytes.now values.old)) }
+        ensures left { OnOk result (left self.now (option_copied dict.entry) bytes.now values.new ≡ behind_word word (left self.now (option_copied dict.entry) bytes.now values.old)) }
+        ensures over { OnOk result (is_over self.now bytes.now values.new) }
+        ensures own { OnOk result (is_own self.now decoded.new) }
+        ensures cause { ComesOf result (causes_in (word_outcomes word (left self.now (option_copied dict.entry) bytes.now values.old))) }
+    {
+        let mut rest = word;
+        while let Some((present, rows)) = rest.next_run() {
+            if present {
+                self.take(bytes, dict, values, decoded, rows)?;
+            } else {
+                self.push_nulls(decoded, rows)?;
+            }
+        }
+        Ok(())
+    }
 
     /// Passes over the next `count` values, or all that are left.
     fn skip(&self, bytes: &[u8], values: &mut Self::Values, count: usize)

@@ -1,11 +1,11 @@
-use Rattle.std.proofs.Common.{◌∙◌, sym}
+use Rattle.std.proofs.Common.{◌∙◌, arith, sym}
 use Rattle.column_values.specs.FilteredLeft.{filtered_steps}
 use Rattle.flat_values.specs.FlatLeft.{value_bytes, values_left}
-use Rattle.flat_values.proofs.FlatLemmas.{length-given}
+use Rattle.flat_values.proofs.WordLemmas.{length-given}
 use Rattle.flat_values.proofs.flat_decoder.FlatDecoderDecoder.state_len.Goals as goal
 
 pub returns : goal.returns
 returns g c dict page is =
     let state = c.args.state.now in
     let values = values_left (g.V.ValueDecoder.left c.args.self.now.values dict (value_bytes page)) state.values in
-    c.len.ensures page is.page_is ∙ sym (length-given (filtered_steps state.walk page) values is.enough)
+    c.len.ensures page is.page_is ∙ sym (length-given (filtered_steps state.walk page) values (omega (arith, is.enough)))

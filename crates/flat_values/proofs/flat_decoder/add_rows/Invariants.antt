@@ -5,7 +5,7 @@ use Rattle.parquet_page.specs.Content.{data_content}
 use Rattle.column_values.specs.FilteredLeft.{filtered_steps}
 use Rattle.column_values.specs.Outcome.{Given, IsCausedBy}
 use Rattle.flat_values.specs.FlatLeft.{IsStateOf, given_along, values_left}
-use Rattle.flat_values.proofs.flat_decoder.add_runs.Given as goal
+use Rattle.flat_values.proofs.flat_decoder.add_rows.Given as goal
 
 abbrev pub invariant-loop-wanted : goal.invariant-loop-wanted
 invariant-loop-wanted g l =
