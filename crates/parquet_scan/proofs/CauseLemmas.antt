@@ -2,21 +2,15 @@
 use Rattle.std.proofs.Common.{◌≡◌, ℕ, zero, suc, ◌<◌, List, [], ◌∷◌, ◌++◌, length, get_or, ap, arith, inl, inr}
 use Rattle.std.specs.Prelude.{Option, Some, None, ◌⊎◌}
 use Rattle.std.specs.List.{flat_map}
-use Rattle.std.proofs.lemmas.List.Elements.{Contains-append_cases, Contains-append_left, Contains-append_right}
+use Rattle.std.proofs.lemmas.List.Elements.{Contains-append_cases}
 use Rattle.columns_core.specs.declared.error.Error.{Error}
 use Rattle.columns_core.specs.Causes.{Cause, IsOneOf, IsWantOfMemory, cause_of, and_then}
+use Rattle.column_values.proofs.NextLemmas.{nothing_wrong}
+use Rattle.column_values.proofs.RowLemmas.{one_of-left, one_of-right}
 
 -- what an error tells of
 abbrev pub TellsOf : List Cause → Error → Type 0
 TellsOf causes e = IsWantOfMemory e ⊎ IsOneOf causes (cause_of e)
-
-pub one_left : (first rest : List Cause) (o : Option Cause) → IsOneOf first o → IsOneOf (first ++ rest) o
-one_left first rest None k = k
-one_left first rest (Some cause) k = Contains-append_left first rest cause k
-
-pub one_right : (first rest : List Cause) (o : Option Cause) → IsOneOf rest o → IsOneOf (first ++ rest) o
-one_right first rest None k = k
-one_right first rest (Some cause) k = Contains-append_right first rest cause k
 
 -- one of several parts is one of the first of them or of the rest
 pub one_cases : (first rest : List Cause) (o : Option Cause) → IsOneOf (first ++ rest) o → IsOneOf first o ⊎ IsOneOf rest o
@@ -28,10 +22,10 @@ weaker f (inl a) = inl a
 weaker f (inr b) = inr (f b)
 
 pub tells_left : (first rest : List Cause) (e : Error) → TellsOf first e → TellsOf (first ++ rest) e
-tells_left first rest e k = weaker (one_left first rest (cause_of e)) k
+tells_left first rest e k = weaker (one_of-left first rest (cause_of e)) k
 
 pub tells_right : (first rest : List Cause) (e : Error) → TellsOf rest e → TellsOf (first ++ rest) e
-tells_right first rest e k = weaker (one_right first rest (cause_of e)) k
+tells_right first rest e k = weaker (one_of-right first rest (cause_of e)) k
 
 -- what it tells of an item it tells of all
 pub tells_of_all : {X : Type 0} (f : X → List Cause) (xs : List X) (i : ℕ) (d : X) (e : Error) → i < length xs → TellsOf (f (get_or xs i d)) e → TellsOf (flat_map f xs) e
@@ -39,13 +33,9 @@ tells_of_all f [] i d e h k = absurd (omega arith)
 tells_of_all f (x ∷ xs) zero d e h k = tells_left (f x) (flat_map f xs) e k
 tells_of_all f (x ∷ xs) (suc i) d e h k = tells_right (f x) (flat_map f xs) e (tells_of_all f xs i d e (omega arith) k)
 
-pub no_cause : (o : Option Cause) → IsOneOf [] o → ⊥
-no_cause None k = k
-no_cause (Some cause) k = omega (arith, k.1)
-
 -- what is wrong with a step is wrong with it and the next
 pub among_first : (first next : List Cause) (o : Option Cause) → IsOneOf first o → IsOneOf (and_then first next) o
-among_first [] next o k = absurd (no_cause o k)
+among_first [] next o k = absurd (nothing_wrong o k)
 among_first (cause ∷ causes) next o k = k
 
 pub then_next : (first next : List Cause) → first ≡ [] → and_then first next ≡ next

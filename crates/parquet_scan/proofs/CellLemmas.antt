@@ -1,9 +1,8 @@
 -- The cells of a column whose pages stand one after another.
-use Rattle.std.proofs.Common.{◌≡◌, ℕ, zero, suc, ◌+◌, ◌-◌, ◌<◌, ◌≤◌, leb, true, false, cond, List, [], ◌∷◌, ◌++◌, length, map, drop, replicate, refl, sym, ◌∙◌, ap, subst, arith, inl, inr, append_assoc, append-nil}
-use Rattle.std.specs.Prelude.{Option, Some, None, ◌⊎◌, option_and_then, option_map, slice_get, find, sum_by, flat_map, is_some, IfSome}
+use Rattle.std.proofs.Common.{◌≡◌, ℕ, zero, suc, ◌+◌, ◌-◌, ◌<◌, ◌≤◌, Bool, true, false, cond, List, [], ◌∷◌, ◌++◌, length, map, drop, replicate, refl, sym, ◌∙◌, ap, subst, arith, inl, inr, append_assoc, append-nil}
+use Rattle.std.specs.Prelude.{Option, Some, None, ◌⊎◌, option_and_then, option_map, slice_get, filter, find, sum_by, flat_map, is_some, if◌then◌else◌, IfSome}
 use Rattle.std.specs.Option.{option_map_or}
 use Rattle.std.specs.List.{range_with_len}
-use Rattle.std.proofs.lemmas.Bool.{leb-true}
 use Rattle.std.proofs.lemmas.Grind.{flat_map-append}
 use Rattle.std.proofs.lemmas.List.{length-map, map-append}
 use Rattle.std.proofs.lemmas.List.FromFn.{length-map-range_with_len}
@@ -13,22 +12,21 @@ use Rattle.columns_core.specs.Causes.{Cause, ExternalFormat, IsOneOf, unless}
 use Rattle.columns_core.specs.declared.cell.Cell.{Cell}
 use Rattle.columns_core.specs.declared.data_type.DataType.{DataType}
 use Rattle.parquet_base.specs.Intervals.{holds}
-use Rattle.parquet_base.specs.Reading.{◌>>=◌, given}
 use Rattle.parquet_base.proofs.SegmentLemmas.{holds_inside, holds_after}
-use Rattle.parquet_encoding.proofs.StepLemmas.{bind_some, given_some, nothing}
+use Rattle.parquet_encoding.proofs.StepLemmas.{nothing}
 use Rattle.parquet_meta.specs.Chunks.{chunk_causes}
 use Rattle.parquet_meta.specs.Places.{bytes_at}
 use Rattle.parquet_meta.specs.declared.metadata.ColumnChunkMetaData.{ColumnChunkMetaData}
 use Rattle.parquet_meta.specs.declared.metadata.Place.{Place}
 use Rattle.parquet_meta.specs.declared.metadata.PrimitiveType.{PrimitiveType}
 use Rattle.parquet_meta.specs.declared.metadata.RowGroupMetaData.{RowGroupMetaData}
-use Rattle.parquet_page.specs.Chunk.{ChunkPage, Dictionary, NoDictionary, PlacedPage, Walk, chunk_dictionary, chunk_pages, data_header, data_page_at, dictionary_size, page_at, pages_from, pages_of_chunk, placed_pages, walk_on}
+use Rattle.parquet_page.specs.Chunk.{ChunkPage, Dictionary, NoDictionary, PlacedPage, Walk, chunk_dictionary, chunk_pages, data_page_at, dictionary_size, pages_from, pages_of_chunk, placed_pages, walk_on}
 use Rattle.parquet_page.specs.Content.{header_values}
 use Rattle.parquet_page.specs.Lent.{Lent, behind_dictionary, chunk_lent, data_of, lent_data}
-use Rattle.parquet_page.proofs.RowSums.{page_values as values_of, walk_sum, is_whole}
+use Rattle.parquet_page.proofs.RowSums.{page_values as values_of, walk_sum, is_whole, data_page_fits}
 use Rattle.column_values.specs.Column.{rows}
 use Rattle.column_values.specs.Outcome.{Outcome, Given, causes_in, cells_in, refused}
-use Rattle.column_values.proofs.NextLemmas.{given-whole}
+use Rattle.column_values.proofs.NextLemmas.{given-whole, nothing_wrong}
 use Rattle.flat_values.specs.Agreement.{AreEntriesOf}
 use Rattle.flat_values.specs.Conversion.{Conversion, Item, Value}
 use Rattle.flat_values.specs.Outcomes.{dictionary_cells, selected_outcomes}
@@ -37,9 +35,11 @@ use Rattle.parquet_scan.specs.Causes.{causes_of_chunk, causes_of_data, causes_of
 use Rattle.parquet_scan.specs.Cells.{Reading, chunk_of, dictionary_content, item_among, item_in, items_in, rows_of, walked_item, walked_reading}
 use Rattle.parquet_scan.specs.Counting.{every_row}
 use Rattle.parquet_scan.specs.Decoded.{column_rows, rows_by}
-use Rattle.parquet_scan.proofs.CauseLemmas.{one_left, one_right, then_next}
-pub use Rattle.parquet_scan.proofs.CauseLemmas.{no_cause}
+use Rattle.parquet_scan.proofs.CauseLemmas.{then_next}
 use Rattle.parquet_scan.proofs.PageLemmas.{HasWrongItem, IsOver, IsRefused, dictionary_first, first_given, first_wrong, items_many, pair_rule, some_cause}
+use Rattle.column_values.proofs.RowLemmas.{one_of-left, one_of-right}
+use Rattle.flat_values.proofs.OutcomeLemmas.{cells_in-given}
+use Rattle.parquet_page.proofs.SliceLemmas.{range-split}
 
 -- ---- rows, one after another
 
@@ -50,15 +50,15 @@ map_rows f g a (suc n) h =
     let rest : map f (range_with_len (a + 1) n) ≡ map g (range_with_len (a + 1) n) = map_rows f g (a + 1) n (λ row above below. h row (omega (arith, above)) (omega (arith, below))) in
     λ i. first i ∷ rest i
 
-pub rows_append : (a n m : ℕ) → range_with_len a (n + m) ≡ range_with_len a n ++ range_with_len (a + n) m
-rows_append a zero m =
-    let none : 0 + m ≡ m = omega arith in
-    let same : a ≡ a + 0 = omega arith in
-    ap (range_with_len a) none ∙ ap (λ start. range_with_len start m) same
-rows_append a (suc n) m =
-    let longer : suc n + m ≡ suc (n + m) = omega arith in
-    ap (range_with_len a) longer ∙ ap (λ rest. a ∷ rest) (rows_append (a + 1) n m)
-    ∙ ap (λ start. a ∷ range_with_len (a + 1) n ++ range_with_len start m) (omega arith)
+-- functions that agree on rows agree on those of them that pass a test
+pub map_passing : {X : Type 0} (f g : ℕ → X) (test : ℕ → Bool) (a n : ℕ) → ((row : ℕ) → a ≤ row → row < a + n → f row ≡ g row)
+    → map f (filter test (range_with_len a n)) ≡ map g (filter test (range_with_len a n))
+map_passing f g test a zero same = refl
+map_passing f g test a (suc n) same = by (test a) (same a (omega arith) (omega arith)) (map_passing f g test (a + 1) n (λ row above below. same row (omega (arith, above)) (omega (arith, below)))) where
+  by : (b : Bool) → f a ≡ g a → map f (filter test (range_with_len (a + 1) n)) ≡ map g (filter test (range_with_len (a + 1) n))
+      → map f (if b then a ∷ filter test (range_with_len (a + 1) n) else filter test (range_with_len (a + 1) n)) ≡ map g (if b then a ∷ filter test (range_with_len (a + 1) n) else filter test (range_with_len (a + 1) n))
+  by true first rest = λ i. first i ∷ rest i
+  by false first rest = rest
 
 -- the items of a list belong to rows one after another
 pub at_rows : {X : Type 0} (xs : List X) (a : ℕ) → map (λ row. slice_get xs (row - a)) (range_with_len a (length xs)) ≡ map Some xs
@@ -107,7 +107,7 @@ items_among reading start row (page ∷ pages) =
     (λ r above below. ap (λ b. option_and_then (item_in reading r) (cond b (Some placed) (find (λ (other : PlacedPage). holds (rows_of other) r) others))) (holds_after (rows_of placed) r above))
     ∙ items_among reading (start + page.size) (row + count) pages in
     ap (λ n. map (item_among reading (placed ∷ others)) (range_with_len row n)) (sum_by-cons values_of page pages)
-    ∙ ap (map (item_among reading (placed ∷ others))) (rows_append row count left)
+    ∙ ap (map (item_among reading (placed ∷ others))) (range-split row count left)
     ∙ map-append (item_among reading (placed ∷ others)) (range_with_len row count) (range_with_len (row + count) left)
     ∙ (λ i. own i ++ behind i)
 
@@ -139,12 +139,8 @@ pub causes_behind : (cells : List Cell) (later : List Outcome) → causes_in (ma
 causes_behind [] later = refl
 causes_behind (cell ∷ cells) later = causes_behind cells later
 
-cells_given : (cells : List Cell) → cells_in (map Given cells) ≡ cells
-cells_given [] = refl
-cells_given (cell ∷ cells) = ap (λ rest. cell ∷ rest) (cells_given cells)
-
 pub same_cells : (cells found : List Cell) → map Given cells ≡ map Given found → found ≡ cells
-same_cells cells found e = sym (cells_given found) ∙ ap cells_in (sym e) ∙ cells_given cells
+same_cells cells found e = sym (cells_in-given found) ∙ ap cells_in (sym e) ∙ cells_in-given cells
 
 -- ---- data pages, one behind the other
 
@@ -202,22 +198,14 @@ module _ (reading : Reading) (rule : Conversion) (entries : Option (List Cell)) 
     go : IsOneOf own o ⊎ (HasWrongItem reading None page o ⊎ IsOneOf (causes_in (data_rows pages causes)) o)
         → (IsOneOf (causes_in (data_rows pages causes)) o → IsOneOf (rest ++ causes) o ⊎ IsOneOf (flat_map causes_if_there (flat_map (row_items reading) pages)) o)
         → IsOneOf ((own ++ rest) ++ causes) o ⊎ IsOneOf (flat_map causes_if_there (own_items ++ flat_map (row_items reading) pages)) o
-    go (inl whole) others = inl (one_left (own ++ rest) causes o (one_left own rest o whole))
-    go (inr (inl item)) others = inr (subst (λ causes. IsOneOf causes o) (sym split) (one_left (flat_map causes_if_there own_items) (flat_map causes_if_there (flat_map (row_items reading) pages)) o (here item)))
+    go (inl whole) others = inl (one_of-left (own ++ rest) causes o (one_of-left own rest o whole))
+    go (inr (inl item)) others = inr (subst (λ causes. IsOneOf causes o) (sym split) (one_of-left (flat_map causes_if_there own_items) (flat_map causes_if_there (flat_map (row_items reading) pages)) o (here item)))
     go (inr (inr behind)) others = elim (others behind) [
-      | inl whole ↦ inl (subst (λ causes. IsOneOf causes o) (sym (append_assoc own rest causes)) (one_right own (rest ++ causes) o whole))
-      | inr item ↦ inr (subst (λ causes. IsOneOf causes o) (sym split) (one_right (flat_map causes_if_there own_items) (flat_map causes_if_there (flat_map (row_items reading) pages)) o item))
+      | inl whole ↦ inl (subst (λ causes. IsOneOf causes o) (sym (append_assoc own rest causes)) (one_of-right own (rest ++ causes) o whole))
+      | inr item ↦ inr (subst (λ causes. IsOneOf causes o) (sym split) (one_of-right (flat_map causes_if_there own_items) (flat_map causes_if_there (flat_map (row_items reading) pages)) o item))
     ]
 
 -- ---- how many rows the pages of a chunk have
-
-page_fits : (left : ℕ) (bytes : List ℕ) (read : ChunkPage × List ℕ) → data_page_at left bytes ≡ Some read → values_of read.0 ≤ left
-unfolding data_page_at
-page_fits left bytes read e =
-    let page = bind_some (page_at bytes) (λ page. data_header page.0.kind >>= λ header. given (leb (header_values header) left) (record { size = length bytes - length page.1; header = header; body = page.0.body }, page.1)) read e in
-    let header = bind_some (data_header page.0.0.kind) (λ header. given (leb (header_values header) left) (record { size = length bytes - length page.0.1; header = header; body = page.0.0.body }, page.0.1)) read page.2 in
-    let same = given_some _ _ read header.2 in
-    rw (← same.1) (leb-true _ _ same.0)
 
 -- at most as many as values are left
 pub walk_fits : (limit left : ℕ) (bytes : List ℕ) → sum_by values_of (pages_from limit left bytes).pages ≤ left
@@ -231,7 +219,7 @@ walk_fits (suc limit) (suc left) bytes = go (data_page_at (suc left) bytes) refl
       → sum_by values_of (walk_on r (λ page rest. pages_from limit (suc left - header_values page.header) rest)).pages ≤ suc left
   go None e further = omega arith
   go (Some read) e further =
-      omega (arith, page_fits (suc left) bytes read e, further read.0 read.1, sum_by-cons values_of read.0 (pages_from limit (suc left - values_of read.0) read.1).pages)
+      omega (arith, data_page_fits (suc left) bytes read e, further read.0 read.1, sum_by-cons values_of read.0 (pages_from limit (suc left - values_of read.0) read.1).pages)
 
 pub chunk_fits : (n : ℕ) (chunk : List ℕ) → sum_by values_of (chunk_pages n chunk).pages ≤ n
 unfolding chunk_pages
@@ -286,10 +274,10 @@ module _ (stored : PrimitiveType) (data_type : DataType) (rule : Conversion) (pa
     go : IsOver (over dictionary) rule (lent_data stored walk) ⊎ IsRefused (over dictionary) rule (lent_data stored walk)
         → IsOneOf (own ++ pages ++ ends) o ⊎ IsOneOf (flat_map causes_if_there (flat_map (row_items (over dictionary)) walk.pages)) o
     go (inl behind) = elim (data_wrong (over dictionary) rule behind.entries pair behind.are behind.has walk.pages ends o (subst (λ rows. IsOneOf (causes_in rows) o) behind.outcomes one)) [
-      | inl whole ↦ inl (subst (λ causes. IsOneOf causes o) (sym (append_assoc own pages ends)) (one_right own (pages ++ ends) o whole))
+      | inl whole ↦ inl (subst (λ causes. IsOneOf causes o) (sym (append_assoc own pages ends)) (one_of-right own (pages ++ ends) o whole))
       | inr item ↦ inr item
     ]
-    go (inr wrong) = inl (one_left (own ++ pages) ends o (one_left own pages o (subst (λ causes. IsOneOf causes o) (ap causes_in wrong.outcomes ∙ append-nil (wrong.cause ∷ wrong.causes) ∙ sym wrong.are) one)))
+    go (inr wrong) = inl (one_of-left (own ++ pages) ends o (one_of-left own pages o (subst (λ causes. IsOneOf causes o) (ap causes_in wrong.outcomes ∙ append-nil (wrong.cause ∷ wrong.causes) ∙ sym wrong.are) one)))
 
   by_rule : (pages : Lent) → column_rows stored data_type pages.pages pages.causes ≡ rows_by stored.physical_type pages.pages pages.causes rule
   by_rule lent = ap (λ o. option_map_or (rows_by stored.physical_type lent.pages lent.causes) o []) pair
@@ -327,25 +315,25 @@ module _ (stored : PrimitiveType) (data_type : DataType) (rule : Conversion) (pa
       let whole : n ≡ held + (n - held) = omega (arith, chunk_fits n chunk) in
       let split : flat_map causes_if_there (map item (range_with_len 0 n)) ≡ flat_map causes_if_there (flat_map (row_items reading) pages) ++ flat_map causes_if_there (map item (range_with_len (0 + held) (n - held)))
       = ap (λ n. flat_map causes_if_there (map item (range_with_len 0 n))) whole
-      ∙ ap (λ rows. flat_map causes_if_there (map item rows)) (rows_append 0 held (n - held))
+      ∙ ap (λ rows. flat_map causes_if_there (map item rows)) (range-split 0 held (n - held))
       ∙ ap (flat_map causes_if_there) (map-append item (range_with_len 0 held) (range_with_len (0 + held) (n - held)))
       ∙ flat_map-append causes_if_there (map item (range_with_len 0 held)) (map item (range_with_len (0 + held) (n - held)))
       ∙ ap (λ items. flat_map causes_if_there items ++ flat_map causes_if_there (map item (range_with_len (0 + held) (n - held)))) (items_among reading (dictionary_size chunk) 0 pages) in
       subst (λ causes. IsOneOf causes o) (sym (rows_caused item (range_with_len 0 n) ∙ split))
-      (one_left (flat_map causes_if_there (flat_map (row_items reading) pages)) (flat_map causes_if_there (map item (range_with_len (0 + held) (n - held)))) o one)
+      (one_of-left (flat_map causes_if_there (flat_map (row_items reading) pages)) (flat_map causes_if_there (map item (range_with_len (0 + held) (n - held)))) o one)
 
   -- What is wrong with what is lent of a chunk is wrong with its pages, or with the item of a row.
   pub chunk_wrong : (n : ℕ) (chunk : List ℕ) (o : Option Cause) → IsOneOf (causes_in (column_rows stored data_type (chunk_lent stored n chunk).pages (chunk_lent stored n chunk).causes)) o
       → IsOneOf (causes_of_pages (over (chunk_dictionary chunk)) n chunk ++ row_causes (item_among (over (chunk_dictionary chunk)) (pages_of_chunk n chunk)) (range_with_len 0 n)) o
   unfolding chunk_lent
-  chunk_wrong zero chunk o one = absurd (no_cause o (subst (λ rows. IsOneOf (causes_in rows) o) (by_rule (record { pages = []; causes = [] })) one))
+  chunk_wrong zero chunk o one = absurd (nothing_wrong o (subst (λ rows. IsOneOf (causes_in rows) o) (by_rule (record { pages = []; causes = [] })) one))
   chunk_wrong (suc more) chunk o one =
       let walk = chunk_pages (suc more) chunk in
       let reading = over (chunk_dictionary chunk) in
       let items = row_causes (item_among reading (pages_of_chunk (suc more) chunk)) (range_with_len 0 (suc more)) in
       elim (walk_wrong (chunk_dictionary chunk) walk o (subst (λ rows. IsOneOf (causes_in rows) o) (by_rule (behind_dictionary (chunk_dictionary chunk) (lent_data stored walk))) one)) [
-        | inl whole ↦ one_left (causes_of_walk reading walk) items o whole
-        | inr item ↦ one_right (causes_of_walk reading walk) items o (rows_within reading (suc more) chunk o item)
+        | inl whole ↦ one_of-left (causes_of_walk reading walk) items o whole
+        | inr item ↦ one_of-right (causes_of_walk reading walk) items o (rows_within reading (suc more) chunk o item)
       ]
 
 -- ---- the chunk of a column in a group

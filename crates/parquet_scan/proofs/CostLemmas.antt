@@ -254,11 +254,6 @@ module _ (group : RowGroupMetaData) (column : ColumnChunkMetaData) (intervals : 
 
 -- ---- a column as it is read, and the column of a name
 
--- a count that stands still
-pub rises_none : (told : Option (List ℕ)) (now : ℕ) (most : List ℕ → ℕ) → RisesBy told now now most
-rises_none None now most = tt
-rises_none (Some bytes) now most = omega arith
-
 pub lent_as_read : (told : Option (List ℕ)) (by_pages : Bool) (group : RowGroupMetaData) (rows : List ℕ) (data_type : DataType) (column : ColumnChunkMetaData) → is_null_type data_type ≡ false
     → IfSome told (λ bytes. lent_of_chunk by_pages bytes group rows column ≤ lent_of_read by_pages bytes group rows data_type column)
 lent_as_read None by_pages group rows data_type column not_null = tt
@@ -268,11 +263,6 @@ pub taken_as_read : (told : Option (List ℕ)) (by_pages : Bool) (index : ℕ) (
     → IfSome told (λ bytes. index + taken_of_chunk by_pages bytes group rows column ≤ index + taken_of_read by_pages bytes group rows data_type column)
 taken_as_read None by_pages index group rows data_type column not_null = tt
 taken_as_read (Some bytes) by_pages index group rows data_type column not_null = omega (arith, ap (λ b. if b then 0 else taken_of_chunk by_pages bytes group rows column) not_null)
-
-pub whole_taken : (told : Option (List ℕ)) (group : RowGroupMetaData) (rows : List ℕ) (column : ColumnChunkMetaData) (before now : ℕ) → now ≤ before + (chunk_range column).length
-    → RisesBy told before now (λ bytes. 0 + taken_of_chunk false bytes group rows column)
-whole_taken None group rows column before now h = tt
-whole_taken (Some bytes) group rows column before now h = omega (arith, h)
 
 pub lent_named : (told : Option (List ℕ)) (by_pages : Bool) (group : RowGroupMetaData) (rows : List ℕ) (field : Field) (column : ColumnChunkMetaData) → column_named group field.name ≡ Some column
     → IfSome told (λ bytes. lent_of_read by_pages bytes group rows field.data_type column ≤ lent_of_column by_pages bytes group rows field)

@@ -1,8 +1,8 @@
 -- The rows of pages that are decoded behind each other.
 use Rattle.std.proofs.Common.{◌≡◌, ◌∙◌, ℕ, Bool, true, false, List, [], ◌∷◌, ◌++◌, map, Option, refl, sym, ap, subst, inr, append_assoc, append-nil}
-use Rattle.std.proofs.lemmas.Bool.{eqb-true}
+use Rattle.std.proofs.lemmas.Bool.{eqb-true, and_parts, not-true}
 use Rattle.std.specs.Prelude.{◌==◌, ◌&&◌, ◌||◌, not, is_some, None, Result, if◌then◌else◌}
-use Rattle.columns_core.specs.Causes.{Cause, NotYetImplemented, IsOneOf, cause_of, is_empty, unless}
+use Rattle.columns_core.specs.Causes.{Cause, NotYetImplemented, IsOneOf, cause_of, is_empty}
 use Rattle.columns_core.specs.Types.{Layer}
 use Rattle.columns_core.specs.declared.data_type.DataType.{DataType, Interval, out-DataType}
 use Rattle.columns_core.specs.declared.data_type.DataType.TheOpen.{DataType-F}
@@ -24,6 +24,7 @@ use Rattle.parquet_scan.specs.Cells.{is_null_at, is_null_type}
 use Rattle.parquet_scan.specs.NotBuilt.{is_built_pair, is_byte_array, is_dictionary, is_dictionary_at}
 use Rattle.column_values.proofs.NextLemmas.{given-whole}
 use Rattle.column_values.proofs.RowLemmas.{caused-left, caused-right}
+use Rattle.parquet_page.proofs.SpelledLemmas.{none_of}
 
 -- ---- the data pages among pages
 
@@ -78,18 +79,6 @@ module _ (entries : DictContent → Result (List Cell) (List Cause)) (outcomes :
 
 -- ---- pairs of types
 
-passes : (test : Bool) (cause : Cause) → unless test cause ≡ [] → test ≡ true
-passes true cause none = refl
-passes false cause none = cc
-
-parts : (first second : Bool) → (first && second) ≡ true → (first ≡ true) × (second ≡ true)
-parts true second both = (refl, both)
-parts false second both = cc
-
-not_set : (b : Bool) → not b ≡ true → b ≡ false
-not_set true e = cc
-not_set false e = refl
-
 as_values : (physical : PhysicalType) (logical : Option PrimitiveLogicalType) (layer : Layer) → is_null_at layer ≡ false → is_dictionary_at layer ≡ false → conversion_at physical logical layer ≡ from_physical physical logical layer
 as_values physical logical DataType-F.Null present value = cc
 as_values physical logical (DataType-F.Dictionary key entry ordered) present value = cc
@@ -107,14 +96,14 @@ pub record IsCarried (stored : PrimitiveType) (data_type : DataType) : Type 0 wh
 
 pub is_carried : (stored : PrimitiveType) (data_type : DataType) → pair_causes stored data_type ≡ [] → is_null_type data_type ≡ false → IsCarried stored data_type
 is_carried stored data_type none present =
-    let carried = parts (is_built_pair stored data_type) (is_some (conversion stored data_type)) (passes (is_built_pair stored data_type && is_some (conversion stored data_type)) NotYetImplemented none) in
-    let values = parts (not (is_byte_array stored.physical_type)) (not (is_dictionary data_type)) (sym (ap (λ nulls. nulls || (not (is_byte_array stored.physical_type) && not (is_dictionary data_type))) present) ∙ carried.0) in
+    let carried = and_parts (is_built_pair stored data_type) (is_some (conversion stored data_type)) (none_of (is_built_pair stored data_type && is_some (conversion stored data_type)) NotYetImplemented none) in
+    let values = and_parts (not (is_byte_array stored.physical_type)) (not (is_dictionary data_type)) (sym (ap (λ nulls. nulls || (not (is_byte_array stored.physical_type) && not (is_dictionary data_type))) present) ∙ carried.0) in
     let only = found_only (is_repeated stored.repetition) (conversion_at stored.physical_type stored.logical_type (out-DataType data_type)) carried.1 in
-    let rule = only ∙ as_values stored.physical_type stored.logical_type (out-DataType data_type) present (not_set (is_dictionary data_type) values.1) in
+    let rule = only ∙ as_values stored.physical_type stored.logical_type (out-DataType data_type) present (not-true (is_dictionary data_type) values.1) in
     record {
       rule = rule;
       some = sym (ap is_some rule) ∙ carried.1;
-      built = not_set (is_byte_array stored.physical_type) values.0;
+      built = not-true (is_byte_array stored.physical_type) values.0;
     }
 
 given_where : (test : Bool) (rule : Conversion) → is_some (given test rule) ≡ true → test ≡ true

@@ -133,10 +133,6 @@ module _ (V : Scalar → Type 0) (same : (a b : Scalar) → V a → V b → kind
   bottom (Some a) None x y = record { is_value = x; first = above_irrefl a; second = refl; above = λ low p q. p }
   bottom (Some a) (Some b) x y = wider (least (Some a) (Some b)) _ _ (bottom_of a b x y (is_above a b) refl)
 
-  is_past-none : (low : Option Scalar) → is_past low None ≡ false
-  is_past-none None = refl
-  is_past-none (Some a) = refl
-
   -- Ends that do not cross leave room for a value.
   module _ (low high low' high' : Option Scalar) (d : Scalar) (is_default : V d)
       (v_low : IfSome low V) (v_high : IfSome high V) (v_low' : IfSome low' V) (v_high' : IfSome high' V)

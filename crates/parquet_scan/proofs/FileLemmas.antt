@@ -6,7 +6,7 @@ use Rattle.std.specs.Option.{option_map_or}
 use Rattle.std.specs.Cmp.{first_so, second_so}
 use Rattle.std.proofs.lemmas.Bool.{true≢false}
 use Rattle.parquet_base.specs.Failures.{MayFail}
-use Rattle.columns_core.specs.Causes.{Cause, ExternalFormat, NotYetImplemented, OutOfSpec, Overflow, IsOneOf, and_then, cause_of, unless}
+use Rattle.columns_core.specs.Causes.{Cause, ExternalFormat, NotYetImplemented, OutOfSpec, Overflow, IsOneOf, and_then, cause_of}
 use Rattle.columns_core.specs.declared.error.Error.{Error}
 use Rattle.columns_core.specs.declared.error.Error.TheVariants as error
 use Rattle.parquet_meta.specs.File.{footer}
@@ -19,9 +19,11 @@ use Rattle.parquet_scan.specs.Request.{Request}
 use Rattle.parquet_scan.specs.Rows.{File, file_with, first_rows, gives_rows, group_counts, intervals, kept_rows, prunes_pages}
 use Rattle.parquet_scan.specs.Scan.{FailsBy, OnFile, kept_of, kept_groups}
 use Rattle.parquet_scan.specs.declared.scanning.GroupKept.{GroupKept}
-use Rattle.parquet_scan.proofs.CauseLemmas.{TellsOf, among_first, no_cause, then_next}
+use Rattle.parquet_scan.proofs.CauseLemmas.{TellsOf, among_first, then_next}
 use Rattle.parquet_scan.proofs.KeptLemmas.{one_group}
 use Rattle.parquet_scan.proofs.ScanLemmas.{same_pruning}
+use Rattle.column_values.proofs.NextLemmas.{nothing_wrong}
+use Rattle.parquet_page.proofs.SpelledLemmas.{none_of}
 
 -- ---- lists of causes
 
@@ -35,12 +37,8 @@ not_some : (o : Option ℕ) → not (is_some o) ≡ true → o ≡ None
 not_some None h = refl
 not_some (Some n) h = absurd (true≢false (sym h))
 
-pub passes : (b : Bool) (cause : Cause) → unless b cause ≡ [] → b ≡ true
-passes true cause e = refl
-passes false cause e = absurd cc
-
 pub built_request : (request : Request) (metadata : FileMetaData) → metadata_causes request metadata ≡ [] → (is_built_request request && list_all (is_built_bound request.fields) request.bounds) ≡ true
-built_request request metadata none = passes (is_built_request request && list_all (is_built_bound request.fields) request.bounds) NotYetImplemented (nothing_first (not_built request) _ none)
+built_request request metadata none = none_of (is_built_request request && list_all (is_built_bound request.fields) request.bounds) NotYetImplemented (nothing_first (not_built request) _ none)
 
 built_whole : (request : Request) (metadata : FileMetaData) → metadata_causes request metadata ≡ [] → (not (is_some request.limit) && not (is_some request.chunk_size)) ≡ true
 built_whole request metadata none = first_so (is_built_request request) (list_all (is_built_bound request.fields) request.bounds) (built_request request metadata none)
@@ -51,7 +49,7 @@ built_limit request metadata none = not_some request.limit (first_so (not (is_so
 pub built_size : (request : Request) (metadata : FileMetaData) → metadata_causes request metadata ≡ [] → request.chunk_size ≡ None
 built_size request metadata none = not_some request.chunk_size (second_so (not (is_some request.limit)) (not (is_some request.chunk_size)) (built_whole request metadata none))
 
-flat_filter : {X : Type 0} (f : X → List Cause) (test : X → Bool) (xs : List X) → flat_map f (filter test xs) ≡ flat_map (λ x. if test x then f x else []) xs
+pub flat_filter : {X Z : Type 0} (f : X → List Z) (test : X → Bool) (xs : List X) → flat_map f (filter test xs) ≡ flat_map (λ x. if test x then f x else []) xs
 flat_filter f test [] = refl
 flat_filter f test (x ∷ xs) = by (test x) (flat_filter f test xs) where
   by : (b : Bool) → flat_map f (filter test xs) ≡ flat_map (λ x. if test x then f x else []) xs
@@ -128,7 +126,7 @@ pub meta_complete : (told : Option (List ℕ)) (request : Request) (metadata : F
 meta_complete None request metadata Legal Fails e at k = tt
 meta_complete (Some bytes) request metadata Legal Fails e at (inl h) = λ legal valid whole. h
 meta_complete (Some bytes) request metadata Legal Fails e at (inr k) = λ legal valid whole.
-    absurd (no_cause (cause_of e) (subst (λ found. IsOneOf found (cause_of e)) (no_meta request bytes metadata at valid) k))
+    absurd (nothing_wrong (cause_of e) (subst (λ found. IsOneOf found (cause_of e)) (no_meta request bytes metadata at valid) k))
 
 -- ---- what a scan of the groups tells of the file
 
@@ -168,7 +166,7 @@ module _ (request : Request) (metadata : FileMetaData) (counts : List Bool) (non
   has_cause (Err e) told before now at k = cause_in e told before now at k
 
   no_one : (bytes : List ℕ) (o : Option Cause) → footer bytes ≡ Some metadata → IsValid request bytes → IsOneOf (found bytes) o → ⊥
-  no_one bytes o at valid k = no_cause o (subst (λ causes. IsOneOf causes o) (sym (same_causes request bytes metadata counts at none counted) ∙ valid.none) k)
+  no_one bytes o at valid k = nothing_wrong o (subst (λ causes. IsOneOf causes o) (sym (same_causes request bytes metadata counts at none counted) ∙ valid.none) k)
 
   memory_alone : (e : Error) (bytes : List ℕ) (before mid now : ℕ) → before ≤ mid → footer bytes ≡ Some metadata
       → FailsBy (Some bytes) mid now (λ bytes. found bytes) e → IsValid request bytes → (MayFail before now → ⊥) → e ≡ error.OutOfMemory

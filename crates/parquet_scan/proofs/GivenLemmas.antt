@@ -1,5 +1,4 @@
 -- The chunks and the rows that are given of the groups that are read.
-use denote.Hole.Carrier
 use Rattle.std.proofs.Common.{◌≡◌, ℕ, ◌+◌, ◌-◌, ◌<◌, ◌≤◌, ◌^◌, Bool, true, false, cond, List, [], ◌∷◌, ◌++◌, length, map, drop, get_or, refl, sym, subst, ◌∙◌, ap, arith, min, All}
 use Rattle.std.specs.Prelude.{Option, Some, None, option_and_then, option_map, replicate, sum_by, filter, flat_map, zip, nat_lt, IfSome, IfOk, Result, Ok, Err, if◌then◌else◌}
 use Rattle.std.specs.List.{range_with_len, list_all}
@@ -12,10 +11,7 @@ use Rattle.columns_core.specs.Array.{cells, column_of, data_type_of}
 use Rattle.columns_core.specs.Chunk.{AreEqualLengths, rows_of as chunk_rows}
 use Rattle.columns_core.specs.declared.array.Array.{Array}
 use Rattle.columns_core.specs.declared.cell.Cell.{Cell, Null}
-use Rattle.columns_core.specs.Types.{Layer}
-use Rattle.columns_core.specs.declared.data_type.DataType as type
-use Rattle.columns_core.specs.declared.data_type.DataType.{DataType, out-DataType, roll-DataType, roll-out-DataType}
-use Rattle.columns_core.specs.declared.data_type.DataType.TheOpen.{DataType-F}
+use Rattle.columns_core.specs.declared.data_type.DataType.{DataType}
 use Rattle.columns_core.specs.declared.data_type.Field.{Field}
 use Rattle.columns_core.specs.declared.error.Error.{Error}
 use Rattle.parquet_base.specs.Intervals.{covers, is_well_shaped}
@@ -30,17 +26,16 @@ use Rattle.parquet_meta.specs.declared.metadata.FileMetaData.{FileMetaData}
 use Rattle.parquet_meta.specs.declared.metadata.RowGroupMetaData.{RowGroupMetaData}
 use Rattle.parquet_page.specs.Values.{all_some}
 use Rattle.flat_values.specs.Conversion.{Item, Value}
-use Rattle.parquet_scan.specs.Cells.{as_cell, column_cell, columns_of, given_chunk, given_chunks, given_column, group_chunks, is_null_at, is_null_type, located_item, walked_item}
+use Rattle.parquet_scan.specs.Cells.{as_cell, column_cell, columns_of, given_chunk, given_chunks, given_column, group_chunks, is_null_type, located_item, walked_item}
 use Rattle.parquet_scan.specs.Causes.{metadata_causes}
 use Rattle.parquet_scan.specs.Counting.{are_pruned, chunks_of_groups, kept_if, kept_of_groups, rows_if_read, rows_of_groups, rows_read, shown}
 use Rattle.parquet_scan.specs.Request.{Request, is_legal, is_legal_bound_of}
 use Rattle.parquet_scan.specs.Rows.{File, column_named, file_with, first_rows, given_count, group_counts, kept, kept_rows, prunes_pages}
 use Rattle.parquet_scan.specs.declared.scanning.GroupKept.{GroupKept}
 use Rattle.parquet_scan.specs.Scan.{OnFile}
-use Rattle.parquet_scan.proofs.CellLemmas.{map_rows}
+use Rattle.parquet_scan.proofs.CellLemmas.{map_rows, map_passing}
 use Rattle.parquet_scan.proofs.FileLemmas.{built_limit, built_size}
 use Rattle.parquet_scan.proofs.KeptLemmas.{one_group}
-use Rattle.parquet_scan.proofs.PickedLemmas.{map_passing}
 use Rattle.parquet_scan.proofs.ScanLemmas.{same_pruning}
 
 -- ---- lists of which each item is there
@@ -72,14 +67,6 @@ cells_read (Some bytes) by_pages group data_type column rows found not_null e =
     ∙ cells_of (item_by by_pages bytes group data_type column) rows found e
 
 -- ---- a column that is read as nulls
-
-null_layer : (layer : Layer) → is_null_at layer ≡ true → layer ≡ DataType-F.Null
-null_layer DataType-F.Null e = refl
-null_layer _ e = absurd cc
-
-pub null_type : (data_type : DataType) → is_null_type data_type ≡ true → type.Null ≡ data_type
-unfolding roll-DataType denote.Hole.Carrier.roll
-null_type data_type e = sym (ap roll-DataType (null_layer (out-DataType data_type) e)) ∙ roll-out-DataType data_type
 
 -- what stands in a row below a number
 abbrev null_in : ℕ → ℕ → Option Cell

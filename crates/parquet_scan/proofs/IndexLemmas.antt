@@ -1,30 +1,21 @@
 -- The column index of one column, and the ends that it tells.
-use Rattle.std.proofs.Common.{◌≡◌, ℕ, ◌+◌, ◌<◌, ◌≤◌, Bool, true, false, cond, List, [], ◌∷◌, ◌++◌, length, drop, get_or, Option, Some, None, refl, sym, subst, ◌∙◌, ap, arith, inl, inr}
-use Rattle.std.specs.Prelude.{◌&&◌, ◌||◌, is_none, unwrap_or, IfSome, Result, Err, nat_eq, Contains}
+use Rattle.std.proofs.Common.{◌≡◌, ℕ, ◌+◌, ◌<◌, ◌≤◌, Bool, true, false, cond, List, [], ◌∷◌, ◌++◌, length, drop, get_or, Option, Some, None, refl, sym, subst, ◌∙◌, ap}
+use Rattle.std.specs.Prelude.{◌&&◌, ◌||◌, IfSome, Result, Err, nat_eq}
 use Rattle.std.specs.Cmp.Lexicographic.{pointwise, same_text}
 use Rattle.std.specs.List.{list_all}
-use Rattle.std.specs.Option.{option_map_or}
-use Rattle.std.proofs.lemmas.Bool.{and_parts, eq-eqb, ne_eqb, true≢false}
+use Rattle.std.proofs.lemmas.Bool.{and_parts, true≢false}
 use Rattle.std.proofs.lemmas.List.{drop_all, drop_more}
-use Rattle.columns_core.specs.Causes.{ExternalFormat, NotYetImplemented, IsOneOf, and_then, cause_of, unless}
 use Rattle.columns_core.specs.declared.error.Error.{Error}
 use Rattle.columns_core.specs.declared.error.Error.TheVariants as error
-use Rattle.columns_core.specs.declared.error.Part.{Part}
 use Rattle.parquet_base.specs.Reading.{◌>>=◌}
 use Rattle.parquet_meta.specs.Indexes.{FindsIndex, FindsIndexes, field_columns, has_index, is_broken, is_read, raw_index}
 use Rattle.parquet_meta.specs.Lists.{all_of}
 use Rattle.parquet_meta.specs.Indexes.{is_first as is_first_of}
 use Rattle.parquet_meta.specs.declared.metadata.ColumnChunkMetaData.{ColumnChunkMetaData}
 use Rattle.parquet_meta.specs.declared.metadata.Index.{Index}
-use Rattle.columns_core.specs.Refusals.{IsDamaged}
 use Rattle.parquet_page.proofs.ListLemmas.{one_and}
-use Rattle.parquet_scan.specs.declared.groups.KnownEnds.{KnownEnds}
-use Rattle.parquet_scan.specs.Pages.{column_ends, column_index_causes, ends_of_pages, has_count, page_ends}
 use Rattle.parquet_scan.specs.Request.{begins, is_first}
-use Rattle.parquet_scan.specs.Scan.{FailsBy}
-use Rattle.parquet_scan.proofs.CauseLemmas.{TellsOf}
 use Rattle.parquet_scan.proofs.LocationLemmas.{one_of}
-use Rattle.parquet_scan.proofs.ReadLemmas.{first_of}
 
 -- ---- values of a list in turn
 
@@ -94,64 +85,3 @@ gives_some column (Some bytes) items none e = absurd (by (raw_index bytes column
   by : (o : Option Index) → (o >>= λ y. Some (y ∷ [])) ≡ Some [] → ⊥
   by None e = cc
   by (Some found) e = cc
-
--- ---- what is wrong with it
-
-not_carried : (count : ℕ) (bytes : List ℕ) (column : ColumnChunkMetaData) → is_read column ≡ false → column_index_causes count bytes column ≡ NotYetImplemented ∷ []
-not_carried count bytes column e =
-    ap (λ b. and_then (unless b NotYetImplemented) (unless (option_map_or (has_count count) (column_ends bytes column) false) ExternalFormat)) e
-
-carried : (count : ℕ) (bytes : List ℕ) (column : ColumnChunkMetaData) → is_read column ≡ true → column_index_causes count bytes column ≡ unless (option_map_or (has_count count) (column_ends bytes column) false) ExternalFormat
-carried count bytes column e =
-    ap (λ b. and_then (unless b NotYetImplemented) (unless (option_map_or (has_count count) (column_ends bytes column) false) ExternalFormat)) e
-
-broken : (count : ℕ) (bytes : List ℕ) (column : ColumnChunkMetaData) → is_broken bytes column ≡ true → column_index_causes count bytes column ≡ ExternalFormat ∷ []
-broken count bytes column e =
-    let parts = and_parts (is_read column) (is_none (raw_index bytes column)) e in
-    carried count bytes column parts.0 ∙ ap (λ o. unless (option_map_or (has_count count) (o >>= ends_of_pages) false) ExternalFormat) (nothing (raw_index bytes column) parts.1) where
-      nothing : (o : Option Index) → is_none o ≡ true → o ≡ None
-      nothing None e = refl
-      nothing (Some index) e = absurd (true≢false (sym e))
-
-pub index_fails : (column : ColumnChunkMetaData) (told : Option (List ℕ)) (before now count : ℕ) (e : Error) → FindsIndex column told before now (Err e) → FailsBy told before now (λ bytes. column_index_causes count bytes column) e
-index_fails column told before now count (error.InvalidArgumentError p) finds = finds
-index_fails column None before now count (error.NotYetImplemented p) finds = tt
-index_fails column (Some bytes) before now count (error.NotYetImplemented p) finds = first_of NotYetImplemented (column_index_causes count bytes column) (not_carried count bytes column finds)
-index_fails column None before now count (error.ExternalFormat p) finds = tt
-index_fails column (Some bytes) before now count (error.ExternalFormat p) finds = first_of ExternalFormat (column_index_causes count bytes column) (broken count bytes column finds)
-index_fails column told before now count (error.OutOfSpec p) finds = absurd finds
-index_fails column told before now count error.Overflow finds = absurd finds
-index_fails column told before now count error.Io finds = finds
-index_fails column told before now count error.OutOfMemory finds = tt
-
--- of an index that was read
-pub of_index : (column : ColumnChunkMetaData) (told : Option (List ℕ)) (count : ℕ) (index : Index) → is_read column ≡ true → IfSome told (λ bytes. raw_index bytes column ≡ Some index)
-    → IfSome told (λ bytes. column_index_causes count bytes column ≡ unless (option_map_or (has_count count) (ends_of_pages index) false) ExternalFormat)
-of_index column None count index read e = tt
-of_index column (Some bytes) count index read e = carried count bytes column read ∙ ap (λ o. unless (option_map_or (has_count count) (o >>= ends_of_pages) false) ExternalFormat) e
-
-pub damaged_ends : (count : ℕ) (ends : Option (List KnownEnds)) (e : Error) → IsDamaged ends e → TellsOf (unless (option_map_or (has_count count) ends false) ExternalFormat) e
-damaged_ends count ends e (inl memory) = inl memory
-damaged_ends count ends e (inr damaged) =
-    let causes : ExternalFormat ∷ [] ≡ unless (option_map_or (has_count count) ends false) ExternalFormat = sym (ap (λ o. unless (option_map_or (has_count count) o false) ExternalFormat) damaged.1) in
-    let here : Contains (ExternalFormat ∷ []) ExternalFormat = (0, omega arith, refl) in
-    let told : IsOneOf (ExternalFormat ∷ []) (cause_of e) = subst (λ o. IsOneOf (ExternalFormat ∷ []) o) (sym damaged.0) here in
-    inr (subst (λ causes. IsOneOf causes (cause_of e)) causes told)
-
-pub told_ends : (column : ColumnChunkMetaData) (told : Option (List ℕ)) (index : Index) (ends : List KnownEnds) → IfSome told (λ bytes. raw_index bytes column ≡ Some index) → ends_of_pages index ≡ Some ends → IfSome told (λ bytes. page_ends bytes column ≡ ends)
-told_ends column None index ends e are = tt
-told_ends column (Some bytes) index ends e are = ap (λ o. unwrap_or (o >>= ends_of_pages) []) e ∙ ap (λ o. unwrap_or o []) are
-
--- ends that were read are as many as there have to be, or not
-pub miscounted : (column : ColumnChunkMetaData) (told : Option (List ℕ)) (before now count : ℕ) (index : Index) (ends : List KnownEnds) (p : Part) → is_read column ≡ true → IfSome told (λ bytes. raw_index bytes column ≡ Some index)
-    → ends_of_pages index ≡ Some ends → (length ends ≡ count → ⊥) → FailsBy told before now (λ bytes. column_index_causes count bytes column) (error.ExternalFormat p)
-miscounted column None before now count index ends p read e are other = tt
-miscounted column (Some bytes) before now count index ends p read e are other =
-    first_of ExternalFormat (column_index_causes count bytes column)
-    (of_index column (Some bytes) count index read e ∙ ap (λ o. unless (option_map_or (has_count count) o false) ExternalFormat) are ∙ ap (λ b. unless b ExternalFormat) (ne_eqb (length ends) count other))
-
-pub well_counted : (column : ColumnChunkMetaData) (told : Option (List ℕ)) (count : ℕ) (index : Index) (ends : List KnownEnds) → is_read column ≡ true → IfSome told (λ bytes. raw_index bytes column ≡ Some index)
-    → ends_of_pages index ≡ Some ends → length ends ≡ count → IfSome told (λ bytes. column_index_causes count bytes column ≡ [])
-well_counted column None count index ends read e are same = tt
-well_counted column (Some bytes) count index ends read e are same =
-    of_index column (Some bytes) count index read e ∙ ap (λ o. unless (option_map_or (has_count count) o false) ExternalFormat) are ∙ ap (λ b. unless b ExternalFormat) (eq-eqb (length ends) count same)

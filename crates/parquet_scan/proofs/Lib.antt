@@ -18,7 +18,6 @@ pub mod OpenedLemmas
 pub mod Order
 pub mod PageLemmas
 pub mod PairLemmas
-pub mod PickedLemmas
 pub mod PruningLemmas
 pub mod ReadLemmas
 pub mod SameColumns

@@ -7,7 +7,7 @@ use Rattle.std.proofs.lemmas.Grind.{flat_map-append}
 use Rattle.std.proofs.lemmas.List.{drop-take, take-take, drop-drop, length-take-le, length-drop, map-append}
 use Rattle.std.proofs.lemmas.List.Folds.{list_any-append}
 use Rattle.std.proofs.lemmas.Simd.{map-map}
-use Rattle.columns_core.specs.Causes.{Cause, NotYetImplemented, IsOneOf}
+use Rattle.columns_core.specs.Causes.{Cause, IsOneOf}
 use Rattle.columns_core.specs.declared.cell.Cell.{Cell}
 use Rattle.parquet_base.specs.Reading.{◌>>=◌, given}
 use Rattle.parquet_base.specs.Intervals.{AreAdjacent, covers, end, holds, is_well_shaped, is_well_shaped_from, overlaps, rows_in_page, rows_of}
@@ -19,18 +19,16 @@ use Rattle.parquet_base.proofs.ShapeLemmas.{shape-cons, shape-le}
 use Rattle.parquet_meta.specs.Places.{after, bytes_at, lies_in, part_at}
 use Rattle.parquet_meta.specs.declared.metadata.PageLocation.{PageLocation}
 use Rattle.parquet_meta.specs.declared.metadata.Place.{Place}
-use Rattle.parquet_meta.specs.declared.metadata.PrimitiveType.{PrimitiveType}
-use Rattle.parquet_page.specs.Chunk.{ChunkPage, Dictionary, NoDictionary, Undefined, Defined, data_page_at}
+use Rattle.parquet_page.specs.Chunk.{ChunkPage}
 use Rattle.parquet_page.specs.Content.{header_values}
-use Rattle.parquet_page.specs.Lent.{Lent, behind_dictionary, dictionary_of, if_there, in_front, is_wanted, lent_parts, located_lent, wanted_page}
+use Rattle.parquet_page.specs.Lent.{Lent, if_there, is_wanted, lent_parts, located_lent, wanted_page}
 use Rattle.parquet_page.specs.Located.{page_in}
 use Rattle.parquet_page.specs.Located.{located_page as page_in_chunk}
 use Rattle.parquet_page.specs.Locations.{filtered_page, filtered_pages, located, part_of}
 use Rattle.parquet_page.specs.Selected.{covered_from, selected_of}
-use Rattle.parquet_page.specs.Spelling.{has_plain_entries}
 use Rattle.parquet_page.specs.declared.page.FilteredPage.{FilteredPage}
 use Rattle.parquet_encoding.proofs.StepLemmas.{bind_some, given_some}
-use Rattle.column_values.specs.Column.{DataPagesAre, rows}
+use Rattle.column_values.specs.Column.{rows}
 use Rattle.column_values.specs.Outcome.{Outcome, Given, causes_in}
 use Rattle.flat_values.specs.Agreement.{AreEntriesOf}
 use Rattle.flat_values.specs.Conversion.{Conversion, Item, Value}
@@ -40,9 +38,10 @@ use Rattle.parquet_scan.specs.Causes.{causes_of_data, causes_of_dictionary, caus
 use Rattle.parquet_scan.specs.Cells.{Reading, dictionary_content, item_at, item_located, items_in, named_page}
 use Rattle.parquet_scan.specs.Decoded.{rows_by}
 use Rattle.parquet_scan.specs.Located.{entry_part, entry_place, part_in}
-use Rattle.parquet_scan.proofs.CauseLemmas.{one_left, one_right}
 use Rattle.parquet_scan.proofs.CellLemmas.{causes_behind, causes_if_there, items_there, map_rows}
-use Rattle.parquet_scan.proofs.PageLemmas.{HasWrongItem, IsOver, IsRefused, dictionary_first, first_given, first_wrong, items_many}
+use Rattle.parquet_scan.proofs.PageLemmas.{HasWrongItem, IsOver, IsRefused, dictionary_first, first_given, first_wrong, items_many, some_cause}
+use Rattle.column_values.proofs.RowLemmas.{one_of-left, one_of-right}
+use Rattle.parquet_page.proofs.LocatedLemmas.{wanted_rows}
 
 -- ---- a part of a chunk
 
@@ -305,18 +304,6 @@ page_items reading page items runs are shaped =
     ap (λ o. map (λ row. option_and_then (λ items. slice_get items row) o) (rows_of runs)) are
     ∙ selected_items runs items (ap (λ n. is_well_shaped runs n) (items_many reading page items are) ∙ shaped)
 
-values_there : (body : List ℕ) (rows : ℕ) (page : ChunkPage) → page_in body rows ≡ Some page → header_values page.header ≡ rows
-unfolding page_in
-values_there body rows page e =
-    let read = bind_some (data_page_at rows body) (λ read. given ((length read.1 == 0) && (header_values read.0.header == rows)) read.0) page e in
-    let same = given_some ((length read.0.1 == 0) && (header_values read.0.0.header == rows)) read.0.0 page read.2 in
-    ap (λ (p : ChunkPage). header_values p.header) (sym same.1) ∙ eqb-true _ _ (and_parts (length read.0.1 == 0) (header_values read.0.0.header == rows) same.0).1
-
-wanted_values : (entry : FilteredPage) (part : List ℕ) (page : ChunkPage) → wanted_page entry part ≡ Some page → header_values page.header ≡ entry.num_rows
-wanted_values entry part page e =
-    let own = bind_some (given (length part == entry.length) part) (λ own. page_in own entry.num_rows) page e in
-    values_there own.0 entry.num_rows page own.2
-
 -- ---- the items of parts
 
 -- the items in the selected rows of an entry, in its part
@@ -357,7 +344,7 @@ module _ (reading : Reading) (rule : Conversion) (entries : Option (List Cell)) 
       → part_items reading part ≡ map Some (selected_of (Some part.0.selected_rows) items)
   selected_here part page items are here shaped =
       ap (λ o. map (λ row. option_and_then (item_at reading row) o) (rows_of part.0.selected_rows)) here
-      ∙ page_items reading page items part.0.selected_rows are (ap (λ n. is_well_shaped part.0.selected_rows n) (wanted_values part.0 part.1 page here) ∙ shaped)
+      ∙ page_items reading page items part.0.selected_rows are (ap (λ n. is_well_shaped part.0.selected_rows n) (wanted_rows part.0 part.1 page here) ∙ shaped)
 
   part_given : (part : FilteredPage × List ℕ) (others : List (FilteredPage × List ℕ)) → is_shaped_part part ≡ true → (page : ChunkPage) → wanted_page part.0 part.1 ≡ Some page
       → rows_over (lent (part ∷ others)) ≡ rows_over (if_there reading.stored part.0 (Some page) (lent others))
@@ -390,18 +377,18 @@ module _ (reading : Reading) (rule : Conversion) (entries : Option (List Cell)) 
   IsWrongOf parts o = IsOneOf (flat_map (causes_of_found reading) (pages_of parts)) o ⊎ IsOneOf (causes_of_parts reading parts) o
 
   wrong_page : (part : FilteredPage × List ℕ) (others : List (FilteredPage × List ℕ)) (o : Option Cause) → IsOneOf (causes_of_found reading (wanted_page part.0 part.1)) o → IsWrongOf (part ∷ others) o
-  wrong_page part others o one = inl (one_left (causes_of_found reading (wanted_page part.0 part.1)) (flat_map (causes_of_found reading) (pages_of others)) o one)
+  wrong_page part others o one = inl (one_of-left (causes_of_found reading (wanted_page part.0 part.1)) (flat_map (causes_of_found reading) (pages_of others)) o one)
 
   wrong_item : (part : FilteredPage × List ℕ) (others : List (FilteredPage × List ℕ)) (o : Option Cause) → IsOneOf (flat_map causes_if_there (part_items reading part)) o → IsWrongOf (part ∷ others) o
   wrong_item part others o one =
       inr (subst (λ causes. IsOneOf causes o) (sym (flat_map-append causes_if_there (part_items reading part) (parts_items reading others)))
-      (one_left (flat_map causes_if_there (part_items reading part)) (causes_of_parts reading others) o one))
+      (one_of-left (flat_map causes_if_there (part_items reading part)) (causes_of_parts reading others) o one))
 
   wrong_behind : (part : FilteredPage × List ℕ) (others : List (FilteredPage × List ℕ)) (o : Option Cause) → IsWrongOf others o → IsWrongOf (part ∷ others) o
-  wrong_behind part others o (inl page) = inl (one_right (causes_of_found reading (wanted_page part.0 part.1)) (flat_map (causes_of_found reading) (pages_of others)) o page)
+  wrong_behind part others o (inl page) = inl (one_of-right (causes_of_found reading (wanted_page part.0 part.1)) (flat_map (causes_of_found reading) (pages_of others)) o page)
   wrong_behind part others o (inr item) =
       inr (subst (λ causes. IsOneOf causes o) (sym (flat_map-append causes_if_there (part_items reading part) (parts_items reading others)))
-      (one_right (flat_map causes_if_there (part_items reading part)) (causes_of_parts reading others) o item))
+      (one_of-right (flat_map causes_if_there (part_items reading part)) (causes_of_parts reading others) o item))
 
   part_wrong : (part : FilteredPage × List ℕ) (others : List (FilteredPage × List ℕ)) (o : Option Cause) → is_shaped_part part ≡ true → (page : ChunkPage) → wanted_page part.0 part.1 ≡ Some page
       → IsOneOf (causes_of_data reading page) o ⊎ (HasWrongItem reading (Some part.0.selected_rows) page o ⊎ IsOneOf (causes_in (rows_over (lent others))) o)
@@ -445,17 +432,15 @@ module _ (reading : Reading) (rule : Conversion) (pair : conversion reading.stor
     by (inl behind) =
         let parts = parts_given reading rule behind.entries pair behind.are behind.has (part ∷ others) shaped (sym (ap causes_in behind.outcomes) ∙ none) in
         record { cells = parts.cells; none = λ i. behind.none i ++ parts.none i; outcomes = behind.outcomes ∙ parts.outcomes; items = parts.items }
-    by (inr wrong) = absurd (some_cause wrong.cause (wrong.causes ++ []) (sym (ap causes_in wrong.outcomes) ∙ none)) where
-      some_cause : (cause : Cause) (causes : List Cause) → cause ∷ causes ≡ [] → ⊥
-      some_cause cause causes e = cc
+    by (inr wrong) = absurd (some_cause wrong.cause (wrong.causes ++ []) (sym (ap causes_in wrong.outcomes) ∙ none))
 
   wrong_opened : (part : FilteredPage × List ℕ) (others : List (FilteredPage × List ℕ)) (o : Option Cause)
       → IsOneOf (flat_map (causes_of_found reading) (pages_of (part ∷ others))) o ⊎ IsOneOf (causes_of_parts reading (part ∷ others)) o
       → IsOneOf (causes_of_opened reading (pages_of (part ∷ others)) ++ causes_of_parts reading (part ∷ others)) o
   wrong_opened part others o (inl page) =
-      one_left (causes_of_opened reading (pages_of (part ∷ others))) (causes_of_parts reading (part ∷ others)) o
-      (one_right (causes_of_dictionary reading reading.dictionary) (flat_map (causes_of_found reading) (pages_of (part ∷ others))) o page)
-  wrong_opened part others o (inr item) = one_right (causes_of_opened reading (pages_of (part ∷ others))) (causes_of_parts reading (part ∷ others)) o item
+      one_of-left (causes_of_opened reading (pages_of (part ∷ others))) (causes_of_parts reading (part ∷ others)) o
+      (one_of-right (causes_of_dictionary reading reading.dictionary) (flat_map (causes_of_found reading) (pages_of (part ∷ others))) o page)
+  wrong_opened part others o (inr item) = one_of-right (causes_of_opened reading (pages_of (part ∷ others))) (causes_of_parts reading (part ∷ others)) o item
 
   pub located_wrong : (parts : List (FilteredPage × List ℕ)) → list_all is_shaped_part parts ≡ true → (o : Option Cause) → IsOneOf (causes_in (rows_lent parts)) o
       → IsOneOf (causes_of_opened reading (pages_of parts) ++ causes_of_parts reading parts) o
@@ -468,35 +453,8 @@ module _ (reading : Reading) (rule : Conversion) (pair : conversion reading.stor
         wrong_opened part others o (parts_wrong reading rule behind.entries pair behind.are behind.has (part ∷ others) shaped o (subst (λ rows. IsOneOf (causes_in rows) o) behind.outcomes one))
     by (inr wrong) =
         let own = subst (λ causes. IsOneOf causes o) (ap causes_in wrong.outcomes ∙ append-nil (wrong.cause ∷ wrong.causes) ∙ sym wrong.are) one in
-        one_left (causes_of_opened reading (pages_of (part ∷ others))) (causes_of_parts reading (part ∷ others)) o
-        (one_left (causes_of_dictionary reading reading.dictionary) (flat_map (causes_of_found reading) (pages_of (part ∷ others))) o own)
-
--- ---- their type
-
-abbrev AreOfType : PrimitiveType → Lent → Type 0
-AreOfType stored lent = DataPagesAre (λ page. page.type ≡ stored) lent.pages
-
-typed_behind : (stored : PrimitiveType) (before : Dictionary) (others : Lent) → AreOfType stored others → AreOfType stored (behind_dictionary before others)
-typed_behind stored NoDictionary others own = own
-typed_behind stored Undefined others own = tt
-typed_behind stored (Defined page) others own = by (has_plain_entries page.encoding) where
-  by : (b : Bool) → AreOfType stored (if b then in_front (dictionary_of page) others else record { pages = []; causes = NotYetImplemented ∷ [] })
-  by true = own
-  by false = tt
-
-typed_parts : (stored : PrimitiveType) (parts : List (FilteredPage × List ℕ)) → AreOfType stored (lent_parts stored parts)
-unfolding lent_parts
-typed_parts stored [] = tt
-typed_parts stored (part ∷ others) = by (wanted_page part.0 part.1) (typed_parts stored others) where
-  by : (o : Option ChunkPage) → AreOfType stored (lent_parts stored others) → AreOfType stored (if_there stored part.0 o (lent_parts stored others))
-  by None rest = tt
-  by (Some page) rest = (refl, rest)
-
--- the pages that are lent have the stored type
-pub typed_located : (stored : PrimitiveType) (before : Dictionary) (parts : List (FilteredPage × List ℕ)) → AreOfType stored (located_lent stored before parts)
-unfolding located_lent
-typed_located stored before [] = tt
-typed_located stored before (part ∷ others) = typed_behind stored before (lent_parts stored (part ∷ others)) (typed_parts stored (part ∷ others))
+        one_of-left (causes_of_opened reading (pages_of (part ∷ others))) (causes_of_parts reading (part ∷ others)) o
+        (one_of-left (causes_of_dictionary reading reading.dictionary) (flat_map (causes_of_found reading) (pages_of (part ∷ others))) o own)
 
 -- ---- the items of the rows of all pages
 

@@ -17,7 +17,7 @@ use Rattle.parquet_meta.specs.declared.metadata.RowGroupMetaData.{RowGroupMetaDa
 use Rattle.parquet_page.specs.Locations.{begin_in_time, begin_with_row_0, filtered_pages, has_shape, page_intervals, part_of, selected_pages}
 use Rattle.columns_core.specs.Refusals.{IsDamaged, Refuses}
 use Rattle.parquet_page.specs.declared.page.FilteredPage.{FilteredPage}
-use Rattle.parquet_page.proofs.SelectionLemmas.{Covers, some, pages-cover, pages-length, selects}
+use Rattle.parquet_page.proofs.SelectionLemmas.{Covers, some, pages-cover, selects}
 use Rattle.parquet_scan.specs.Pages.{locations, locations_causes}
 use Rattle.parquet_scan.proofs.CauseLemmas.{TellsOf}
 use Rattle.parquet_scan.proofs.ReadLemmas.{finds_fails, first_of}
@@ -185,6 +185,3 @@ pub adjacent_pages : (locations : List PageLocation) (rows : ℕ) (pages : List 
 adjacent_pages locations rows pages shape are =
     let have = have_rows locations rows shape in
     subst (λ pages. AreAdjacent 0 pages rows) (same_some (have.first ∷ have.others) pages (sym have.are ∙ are)) have.adjacent
-
-pub as_many_pages : (locations : List PageLocation) (rows : ℕ) (pages : List Interval) → page_intervals locations rows ≡ Some pages → length pages ≡ length locations
-as_many_pages locations rows pages are = pages-length locations rows pages are

@@ -8,7 +8,7 @@ use Rattle.std.proofs.lemmas.List.{take-take, length-map}
 use Rattle.std.proofs.lemmas.List.Concat.{length-flat_map}
 use Rattle.std.proofs.lemmas.Simd.{map-map}
 use Rattle.std.proofs.lemmas.List.Sums.{sum_by-cons}
-use Rattle.columns_core.specs.Causes.{Cause, ExternalFormat, NotYetImplemented, IsOneOf, and_then, is_empty, unless}
+use Rattle.columns_core.specs.Causes.{Cause, ExternalFormat, IsOneOf, and_then, is_empty, unless}
 use Rattle.columns_core.specs.declared.cell.Cell.{Cell}
 use Rattle.columns_core.specs.declared.data_type.DataType.{DataType}
 use Rattle.parquet_base.specs.Reading.{◌>>=◌}
@@ -32,20 +32,21 @@ use Rattle.parquet_page.specs.declared.page.FilteredPage.{FilteredPage}
 use Rattle.parquet_encoding.proofs.StepLemmas.{given_some}
 use Rattle.parquet_page.proofs.SelectionLemmas.{pages-length}
 use Rattle.column_values.specs.Outcome.{Outcome, Given, causes_in}
-use Rattle.column_values.proofs.NextLemmas.{given-whole}
+use Rattle.column_values.proofs.NextLemmas.{given-whole, nothing_wrong}
 use Rattle.flat_values.specs.Conversion.{Conversion, Value}
 use Rattle.flat_values.specs.Pairs.{conversion}
 use Rattle.parquet_scan.specs.Causes.{causes_of_chunk, causes_of_dictionary, causes_of_found, causes_of_opened, chunk_read_causes, located_causes, opened_located, pair_causes, row_causes}
 use Rattle.parquet_scan.specs.Cells.{Reading, chunk_of, dictionary_before, item_at, item_located, located_item, located_pages, located_reading, named_page}
 use Rattle.parquet_scan.specs.Decoded.{column_rows, rows_by}
 use Rattle.parquet_scan.specs.Located.{entry_causes, entry_part, entry_place, part_causes, part_in, place_before}
-use Rattle.parquet_scan.specs.NotBuilt.{is_built_pair}
 use Rattle.parquet_scan.specs.Pages.{location_rows, locations, locations_causes, rows_at}
-use Rattle.parquet_scan.proofs.CauseLemmas.{one_cases, one_left, one_right, then_next}
-use Rattle.parquet_scan.proofs.CellLemmas.{causes_if_there, no_cause, rows_caused, same_cells, values_uncaused}
+use Rattle.parquet_scan.proofs.CauseLemmas.{one_cases, then_next, among_first}
+use Rattle.parquet_scan.proofs.CellLemmas.{causes_if_there, rows_caused, same_cells, values_uncaused}
 use Rattle.parquet_scan.proofs.LocatedLemmas.{AreEntries, are_entries, causes_of_parts, cells_as, chunk_length, found, is_shaped_part, items_of_parts, located_given, located_wrong, named_are, none_some, opened_are, pages_of, pages_there, part_inside, part_items, part_outside, parts_items}
 use Rattle.parquet_scan.proofs.ScanLemmas.{in_filtered}
 use Rattle.parquet_scan.proofs.LocationLemmas.{HaveRows, have_rows, selection_is}
+use Rattle.column_values.proofs.RowLemmas.{one_of-left, one_of-right}
+use Rattle.parquet_scan.proofs.PageLemmas.{pair_rule}
 
 -- ---- a chunk lies in its file
 
@@ -184,8 +185,8 @@ module _ (group : RowGroupMetaData) (column : ColumnChunkMetaData) (data_type : 
 flat_more : {X : Type 0} (f g : X → List Cause) (xs : List X) (o : Option Cause) → ((x : X) → IsOneOf (f x) o → IsOneOf (g x) o) → IsOneOf (flat_map f xs) o → IsOneOf (flat_map g xs) o
 flat_more f g [] o more one = one
 flat_more f g (x ∷ xs) o more one = elim (one_cases (f x) (flat_map f xs) o one) [
-  | inl first ↦ one_left (g x) (flat_map g xs) o (more x first)
-  | inr rest ↦ one_right (g x) (flat_map g xs) o (flat_more f g xs o more rest)
+  | inl first ↦ one_of-left (g x) (flat_map g xs) o (more x first)
+  | inr rest ↦ one_of-right (g x) (flat_map g xs) o (flat_more f g xs o more rest)
 ]
 
 flat_mapped : {X Y : Type 0} (g : Y → List Cause) (f : X → Y) (xs : List X) → flat_map (λ x. g (f x)) xs ≡ flat_map g (map f xs)
@@ -194,13 +195,13 @@ flat_mapped g f (x ∷ xs) = ap (λ rest. g (f x) ++ rest) (flat_mapped g f xs)
 
 in_opened : (reading : Reading) (pages : List (Option ChunkPage)) (o : Option Cause) → IsOneOf (flat_map (causes_of_found reading) pages) o → IsOneOf (causes_of_opened reading pages) o
 in_opened reading [] o one = one
-in_opened reading (page ∷ pages) o one = one_right (causes_of_dictionary reading reading.dictionary) (flat_map (causes_of_found reading) (page ∷ pages)) o one
+in_opened reading (page ∷ pages) o one = one_of-right (causes_of_dictionary reading reading.dictionary) (flat_map (causes_of_found reading) (page ∷ pages)) o one
 
 entry_in : (bytes : List ℕ) (reading : Reading) (chunk : Place) (entry : FilteredPage) (o : Option Cause) → IsOneOf (entry_causes bytes chunk entry) o → IsOneOf (causes_of_found reading (found bytes chunk entry)) o
 entry_in bytes reading chunk entry o one = by (entry_part bytes chunk entry) one where
   by : (part : Option (List ℕ)) → IsOneOf (unless (is_some part) ExternalFormat) o → IsOneOf (causes_of_found reading (part >>= λ body. page_in body entry.num_rows)) o
   by None one = one
-  by (Some body) one = absurd (no_cause o one)
+  by (Some body) one = absurd (nothing_wrong o one)
 
 pub bodies_in : (bytes : List ℕ) (reading : Reading) (chunk : Place) (entries : List FilteredPage) (o : Option Cause) → IsOneOf (flat_map (entry_causes bytes chunk) (filter is_wanted entries)) o → IsOneOf (opened_by bytes reading chunk entries) o
 bodies_in bytes reading chunk entries o one =
@@ -215,12 +216,12 @@ damaged_before : (stored : PrimitiveType) (data_type : DataType) (part : Option 
     → IsOneOf (causes_of_opened (record { stored = stored; dictionary = option_map_or dictionary_in part Undefined; data_type = data_type }) pages) o
 damaged_before stored data_type part [] o some one = absurd (omega (arith, some))
 damaged_before stored data_type None (page ∷ pages) o some one =
-    one_left (ExternalFormat ∷ []) (flat_map (causes_of_found (record { stored = stored; dictionary = Undefined; data_type = data_type })) (page ∷ pages)) o one
-damaged_before stored data_type (Some body) (page ∷ pages) o some one = absurd (no_cause o one)
+    one_of-left (ExternalFormat ∷ []) (flat_map (causes_of_found (record { stored = stored; dictionary = Undefined; data_type = data_type })) (page ∷ pages)) o one
+damaged_before stored data_type (Some body) (page ∷ pages) o some one = absurd (nothing_wrong o one)
 
 pub before_in : (bytes : List ℕ) (stored : PrimitiveType) (data_type : DataType) (chunk : Place) (entries : List FilteredPage) (wanted : Bool) (o : Option Cause) → (wanted ≡ true → 0 < length (filter is_wanted entries))
     → IsOneOf (before_causes bytes chunk entries wanted) o → IsOneOf (opened_by bytes (reading_of bytes stored data_type chunk entries) chunk entries) o
-before_in bytes stored data_type chunk entries false o some one = absurd (no_cause o one)
+before_in bytes stored data_type chunk entries false o some one = absurd (nothing_wrong o one)
 before_in bytes stored data_type chunk entries true o some one =
     damaged_before stored data_type (part_in bytes chunk (place_before chunk entries)) (map (found bytes chunk) (filter is_wanted entries)) o (omega (arith, some refl, length-map (filter is_wanted entries) (found bytes chunk))) one
 
@@ -320,14 +321,6 @@ pub record IsRead (told : Option (List ℕ)) (group : RowGroupMetaData) (column 
   pub placed : IfSome told (λ bytes. chunk_of bytes group column ≡ Some chunk)
   pub at : IfSome told (λ bytes. locations bytes column ≡ list)
   pub parts : IfSome told (λ bytes. AreParts bytes chunk entries before bodies)
-
--- a pair that is carried has a rule
-pair_rule : (stored : PrimitiveType) (data_type : DataType) → pair_causes stored data_type ≡ [] → (rule : Conversion) × (conversion stored data_type ≡ Some rule)
-pair_rule stored data_type none = by (is_built_pair stored data_type) (conversion stored data_type) none where
-  by : (b : Bool) (o : Option Conversion) → unless (b && is_some o) NotYetImplemented ≡ [] → (rule : Conversion) × (o ≡ Some rule)
-  by true (Some rule) none = (rule, refl)
-  by true None none = absurd cc
-  by false o none = absurd cc
 
 module _ (group : RowGroupMetaData) (column : ColumnChunkMetaData) (data_type : DataType) (intervals : List Interval) (chunk : Place) (list : List PageLocation) (entries : List FilteredPage) (before : List ℕ) (bodies : List (List ℕ)) where
   abbrev stored : PrimitiveType
@@ -430,11 +423,7 @@ read_in None group column data_type rows = tt
 read_in (Some bytes) group column data_type rows = λ o one. then_more (chunk_causes column) _ _ o (by (chunk_of bytes group column) o) one where
   by : (place : Option Place) (o : Option Cause) → IsOneOf (unless (is_some place) ExternalFormat) o → IsOneOf (option_map_or (λ place. located_causes bytes group rows data_type column) place (ExternalFormat ∷ [])) o
   by None o one = one
-  by (Some place) o one = absurd (no_cause o one)
-
-first_in : (first next : List Cause) (o : Option Cause) → IsOneOf first o → IsOneOf (and_then first next) o
-first_in [] next o one = absurd (no_cause o one)
-first_in (cause ∷ causes) next o one = one
+  by (Some place) o one = absurd (nothing_wrong o one)
 
 pub locations_in : (told : Option (List ℕ)) (group : RowGroupMetaData) (column : ColumnChunkMetaData) (data_type : DataType) (rows : List ℕ) (chunk : Place) → chunk_causes column ≡ [] → IfSome told (λ bytes. chunk_of bytes group column ≡ Some chunk)
     → IfSome told (λ bytes. (o : Option Cause) → IsOneOf (locations_causes bytes group column) o → IsOneOf (causes_of_chunk true bytes group rows data_type column) o)
@@ -442,13 +431,13 @@ locations_in None group column data_type rows chunk none placed = tt
 locations_in (Some bytes) group column data_type rows chunk none placed = λ o one.
     let same : causes_of_chunk true bytes group rows data_type column ≡ located_causes bytes group rows data_type column
     = then_next (chunk_causes column) _ none ∙ ap (λ o. option_map_or (λ place. located_causes bytes group rows data_type column) o (ExternalFormat ∷ [])) placed in
-    subst (λ causes. IsOneOf causes o) (sym same) (first_in (locations_causes bytes group column) _ o one)
+    subst (λ causes. IsOneOf causes o) (sym same) (among_first (locations_causes bytes group column) _ o one)
 
 -- what is wrong with a part of what is opened
 pub within_opened : (told : Option (List ℕ)) (whole opened items part : List ℕ → List Cause) → IfSome told (λ bytes. whole bytes ≡ opened bytes ++ items bytes)
     → ((bytes : List ℕ) (o : Option Cause) → IsOneOf (part bytes) o → IsOneOf (opened bytes) o) → IfSome told (λ bytes. (o : Option Cause) → IsOneOf (part bytes) o → IsOneOf (whole bytes) o)
 within_opened None whole opened items part same more = tt
-within_opened (Some bytes) whole opened items part same more = λ o one. subst (λ causes. IsOneOf causes o) (sym same) (one_left (opened bytes) (items bytes) o (more bytes o one))
+within_opened (Some bytes) whole opened items part same more = λ o one. subst (λ causes. IsOneOf causes o) (sym same) (one_of-left (opened bytes) (items bytes) o (more bytes o one))
 
 pub told_parts : {X : Type 0} (told : Option (List ℕ)) (chunk : Place) (entries : List FilteredPage) (before : List ℕ) (items : X → List ℕ) (bodies : List X)
     → IfSome told (λ bytes. map (entry_part bytes chunk) (filter is_wanted entries) ≡ map (λ body. Some (items body)) bodies)

@@ -1,5 +1,5 @@
 -- What the pages of a column give, and what their items are.
-use Rattle.std.proofs.Common.{◌≡◌, ℕ, suc, ◌+◌, Bool, true, false, List, [], ◌∷◌, ◌++◌, length, map, refl, sym, ◌∙◌, ap, subst, inl, inr, append-nil}
+use Rattle.std.proofs.Common.{◌≡◌, ℕ, suc, Bool, true, false, List, [], ◌∷◌, ◌++◌, length, map, refl, sym, ◌∙◌, ap, subst, inl, inr, append-nil}
 use Rattle.std.specs.Prelude.{◌&&◌, Option, Some, None, ◌⊎◌, is_some, option_map, unwrap_or, flat_map, IsSome, if◌then◌else◌, Result, Ok, Err, IfErr, IfOk, OnOk}
 use Rattle.std.specs.Option.{option_map_or}
 use Rattle.std.specs.Result.{result_ok}
@@ -7,10 +7,9 @@ use Rattle.std.proofs.lemmas.List.{length-map}
 use Rattle.columns_core.specs.Causes.{Cause, ExternalFormat, NotYetImplemented, OutOfSpec, Overflow, IsOneOf, and_then, is_empty, unless}
 use Rattle.columns_core.specs.declared.cell.Cell.{Cell}
 use Rattle.columns_core.specs.declared.data_type.DataType.{DataType}
-use Rattle.parquet_base.specs.Intervals.{covers}
 use Rattle.parquet_base.specs.Reading.{◌>>=◌, given}
 use Rattle.parquet_base.specs.declared.interval.Interval.{Interval}
-use Rattle.parquet_encoding.proofs.StepLemmas.{bind_some, is_something, nothing_is, some_is, something}
+use Rattle.parquet_encoding.proofs.StepLemmas.{bind_some, is_something, nothing_is, some_is}
 use Rattle.parquet_meta.specs.declared.metadata.PhysicalType.{PhysicalType}
 use Rattle.parquet_meta.specs.declared.metadata.PrimitiveType.{PrimitiveType}
 use Rattle.parquet_page.specs.Chunk.{ChunkPage, Dictionary, NoDictionary, Undefined, Defined, DictionaryPage}
@@ -18,7 +17,7 @@ use Rattle.parquet_page.specs.Content.{DataContent, DictContent, header_values}
 use Rattle.parquet_page.specs.Lent.{Lent, behind_dictionary, dictionary_of, in_front}
 use Rattle.parquet_page.specs.Levels.{placed, present_count}
 use Rattle.parquet_page.specs.Opened.{carried_encoding, key_causes, page_causes, spelling_causes}
-use Rattle.parquet_page.specs.Selected.{covered_from, selected_of}
+use Rattle.parquet_page.specs.Selected.{selected_of}
 use Rattle.parquet_page.specs.Spelling.{dictionary_entries, has_plain_entries, header_encoding, is_keys, page_encoding, page_keys, places_and_values, spelled}
 use Rattle.parquet_page.specs.Stored.{Stored}
 use Rattle.parquet_page.specs.Values.{Encoding, Plain, Keys, DeltaPacked, DeltaLengths, dictionary_keys, encoding_of, unless_none, values_in}
@@ -27,16 +26,17 @@ use Rattle.column_values.specs.Outcome.{Outcome, Given, Refused, all_given, caus
 use Rattle.column_values.proofs.FilteredLemmas.{places-length}
 use Rattle.column_values.proofs.RowLemmas.{causes_in-append}
 use Rattle.flat_values.specs.Agreement.{AreEntriesOf}
-use Rattle.flat_values.specs.Conversion.{Conversion, Item, Value, NotInRange, NotText, convert, convert_place}
+use Rattle.flat_values.specs.Conversion.{Conversion, Item, Value, NotInRange, NotText, convert_place}
 use Rattle.flat_values.specs.Items.{page_items}
 use Rattle.flat_values.specs.Outcomes.{dictionary_cells, outcome_of, place_outcomes, selected_outcomes, stored_outcome}
 use Rattle.flat_values.specs.Pairs.{conversion}
-use Rattle.flat_values.proofs.AgreementLemmas.{places_give_items}
+use Rattle.flat_values.proofs.AgreementLemmas.{places_give_items, as_many, entries_converted}
 use Rattle.parquet_scan.specs.Causes.{causes_of_data, causes_of_defined, causes_of_dictionary, causes_of_entries, entry_count, has_dictionary, item_causes, pair_causes}
 use Rattle.parquet_scan.specs.Cells.{Reading, content_of, dictionary_content, items_in}
 use Rattle.parquet_scan.specs.Decoded.{rows_by}
 use Rattle.parquet_scan.specs.NotBuilt.{is_built_pair}
 use Rattle.parquet_scan.proofs.CauseLemmas.{one_cases}
+use Rattle.flat_values.proofs.FlatLemmas.{selected-map}
 
 -- ---- the selected rows of a page
 
@@ -122,42 +122,10 @@ pair_rule stored data_type none = by (is_built_pair stored data_type) (conversio
 
 -- ---- the entries of a dictionary
 
-cells_counted : (item : Item) (outcomes : List Outcome) → (causes_in outcomes ≡ [] → length (cells_in outcomes) ≡ length outcomes) → causes_in (outcome_of item ∷ outcomes) ≡ [] → length (cells_in (outcome_of item ∷ outcomes)) ≡ suc (length outcomes)
-cells_counted (Value cell) outcomes others none = ap suc (others none)
-cells_counted NotInRange outcomes others none = absurd cc
-cells_counted NotText outcomes others none = absurd cc
-
-stored_counted : (rule : Conversion) (stored : List Stored) → causes_in (map (stored_outcome rule) stored) ≡ [] → length (cells_in (map (stored_outcome rule) stored)) ≡ length (map (stored_outcome rule) stored)
-stored_counted rule [] none = refl
-stored_counted rule (value ∷ values) none = cells_counted (convert rule value) (map (stored_outcome rule) values) (stored_counted rule values) none
-
-all_given_are : (causes : List Cause) (found cells : List Cell) → (if is_empty causes then Ok found else Err causes) ≡ Ok cells → (causes ≡ []) × (found ≡ cells)
-all_given_are [] found cells e = (refl, cc)
-all_given_are (cause ∷ causes) found cells e = absurd cc
-
 -- a dictionary has as many entries as cells come of them
 pub entries_counted : (rule : Conversion) (type : PhysicalType) (dictionary : Dictionary) (entries : Option (List Cell)) → AreEntriesOf rule type (dictionary_content dictionary) entries → entry_count type dictionary ≡ option_map length entries
-unfolding dictionary_cells
-entries_counted rule type NoDictionary None are = refl
-entries_counted rule type NoDictionary (Some cells) are = absurd are
-entries_counted rule type Undefined None are = refl
-entries_counted rule type Undefined (Some cells) are = absurd are
-entries_counted rule type (Defined page) entries are = by (has_plain_entries page.encoding) entries are where
-  content : DictContent
-  content = record { body = page.body; num_values = page.num_values }
-
-  go : (cells : List Cell) (o : Option (List Stored)) → option_map_or (λ stored. all_given (map (stored_outcome rule) stored)) o (Err (ExternalFormat ∷ [])) ≡ Ok cells → option_map length o ≡ Some (length cells)
-  go cells None e = absurd cc
-  go cells (Some stored) e =
-      let own = all_given_are (causes_in (map (stored_outcome rule) stored)) (cells_in (map (stored_outcome rule) stored)) cells e in
-      let counted : length cells ≡ length stored = ap length (sym own.1) ∙ stored_counted rule stored own.0 ∙ length-map stored (stored_outcome rule) in
-      ap something (sym counted)
-
-  by : (plain : Bool) (entries : Option (List Cell)) → AreEntriesOf rule type (given plain content) entries → option_map length (given plain content >>= dictionary_entries type) ≡ option_map length entries
-  by true None are = absurd are
-  by true (Some cells) are = go cells (dictionary_entries type content) are
-  by false None are = refl
-  by false (Some cells) are = absurd are
+entries_counted rule type dictionary entries are =
+    as_many rule (dictionary_content dictionary >>= dictionary_entries type) entries (entries_converted rule type (dictionary_content dictionary) entries are)
 
 -- ---- what is wrong with items
 
@@ -196,18 +164,6 @@ followed_wrong first later o wrong = by (is_empty (causes_in first)) wrong where
   by false wrong = inl wrong
 
 -- ---- a page
-
-covered-map : {A B : Type 0} (f : A → B) (runs : List Interval) (row : ℕ) (xs : List A) → covered_from runs row (map f xs) ≡ map f (covered_from runs row xs)
-covered-map f runs row [] = refl
-covered-map f runs row (x ∷ xs) = by (covers runs row) (covered-map f runs (row + 1) xs) where
-  by : (b : Bool) → covered_from runs (row + 1) (map f xs) ≡ map f (covered_from runs (row + 1) xs)
-      → (if b then f x ∷ covered_from runs (row + 1) (map f xs) else covered_from runs (row + 1) (map f xs)) ≡ map f (if b then x ∷ covered_from runs (row + 1) xs else covered_from runs (row + 1) xs)
-  by true rest = ap (λ rest. f x ∷ rest) rest
-  by false rest = rest
-
-selected-map : {A B : Type 0} (f : A → B) (selected : Option (List Interval)) (xs : List A) → selected_of selected (map f xs) ≡ map f (selected_of selected xs)
-selected-map f None xs = refl
-selected-map f (Some runs) xs = covered-map f runs 0 xs
 
 -- What a page gives: its items, as many as its header says, and of selected rows what their items are.
 pub record IsGiven (reading : Reading) (rule : Conversion) (entries : Option (List Cell)) (page : ChunkPage) : Type 0 where
@@ -393,10 +349,6 @@ module _ (stored : PrimitiveType) (data_type : DataType) (rule : Conversion) (pa
   dictionary_first (Defined page) = defined_first page (has_plain_entries page.encoding) (dictionary_cells rule stored.physical_type (held page)) refl refl
 
 -- ---- results
-
-pub on_ok : {T E P Q : Type 0} (r : Result T E) → (P → Q) → OnOk r P → OnOk r Q
-on_ok (Ok x) f h = f h
-on_ok (Err e) f h = h
 
 pub if_ok : {T E : Type 0} {P Q : T → Type 0} (r : Result T E) → ((x : T) → P x → Q x) → IfOk r P → IfOk r Q
 if_ok (Ok x) f h = f x h

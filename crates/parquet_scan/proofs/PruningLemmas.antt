@@ -1,10 +1,9 @@
 -- The runs of rows that bounds keep by their pages.
-use Rattle.std.proofs.Common.{◌≡◌, ℕ, zero, suc, ◌+◌, ◌<◌, Bool, true, false, cond, List, [], ◌∷◌, length, map, drop, get_or, Option, Some, None, refl, sym, ◌∙◌, ap, arith, inl, inr}
-use Rattle.std.specs.Prelude.{◌&&◌, filter, find, is_some, unwrap_or, IfSome}
+use Rattle.std.proofs.Common.{◌≡◌, ℕ, zero, suc, ◌<◌, Bool, true, false, cond, List, [], ◌∷◌, length, map, get_or, Option, Some, None, refl, sym, ◌∙◌, ap, arith}
+use Rattle.std.specs.Prelude.{◌&&◌, filter, is_some, unwrap_or, IfSome}
 use Rattle.std.specs.List.{list_all}
 use Rattle.std.specs.Option.{option_map_or}
-use Rattle.std.proofs.lemmas.Bool.{and_parts, cases_lt, true≢false}
-use Rattle.std.proofs.lemmas.List.{drop_all, drop_more}
+use Rattle.std.proofs.lemmas.Bool.{and_parts}
 use Rattle.columns_core.specs.Causes.{ExternalFormat}
 use Rattle.columns_core.specs.declared.data_type.Field.{Field}
 use Rattle.parquet_base.specs.Intervals.{covers, is_well_shaped, maximal_runs}
@@ -15,8 +14,8 @@ use Rattle.parquet_meta.specs.declared.metadata.PageLocation.{PageLocation}
 use Rattle.parquet_meta.specs.declared.metadata.RowGroupMetaData.{RowGroupMetaData}
 use Rattle.parquet_scan.specs.declared.bound.Bound.{Bound}
 use Rattle.parquet_scan.specs.declared.groups.KnownEnds.{KnownEnds}
-use Rattle.parquet_scan.specs.Causes.{index_causes_of_bound, offset_causes_of_field}
-use Rattle.parquet_scan.specs.Pages.{column_index_causes, keeps_row, locations, locations_causes, page_ends, row_keeps, rows_at}
+use Rattle.parquet_scan.specs.Causes.{index_causes_of_bound}
+use Rattle.parquet_scan.specs.Pages.{column_index_causes, keeps_row, locations, page_ends, row_keeps, rows_at}
 use Rattle.parquet_scan.specs.Request.{are_values_of, begins, bound_type, field_of, is_legal_bound_of}
 use Rattle.parquet_scan.specs.Rows.{bound_keeps, column_named, field_locations, is_named, only_one, pages_keep}
 use Rattle.parquet_scan.proofs.KeptLemmas.{runs_shaped}
@@ -41,16 +40,6 @@ one_alone (y ∷ z ∷ xs) x e = absurd cc
 
 pub named_begins : (group : RowGroupMetaData) (name : List ℕ) (column : ColumnChunkMetaData) → column_named group name ≡ Some column → begins name column.descriptor ≡ true
 named_begins group name column e = first_passes (is_named name) group.columns [] column (one_alone (filter (is_named name) group.columns) column e)
-
-pub of_offset : (told : Option (List ℕ)) (group : RowGroupMetaData) (field : Field) (column : ColumnChunkMetaData) → column_named group field.name ≡ Some column
-    → IfSome told (λ bytes. offset_causes_of_field bytes group field ≡ locations_causes bytes group column)
-of_offset None group field column named = tt
-of_offset (Some bytes) group field column named = ap (λ o. option_map_or (locations_causes bytes group) o (ExternalFormat ∷ [])) named
-
-pub of_field : (told : Option (List ℕ)) (group : RowGroupMetaData) (name : List ℕ) (column : ColumnChunkMetaData) (list : List PageLocation) → column_named group name ≡ Some column
-    → IfSome told (λ bytes. locations bytes column ≡ list) → IfSome told (λ bytes. field_locations bytes group name ≡ list)
-of_field None group name column list named e = tt
-of_field (Some bytes) group name column list named e = ap (λ o. option_map_or (locations bytes) o []) named ∙ e
 
 at_column : (bytes : List ℕ) (group : RowGroupMetaData) (name : List ℕ) (column : ColumnChunkMetaData) (list : List PageLocation) → column_named group name ≡ Some column → field_locations bytes group name ≡ list → locations bytes column ≡ list
 at_column bytes group name column list named e = sym (ap (λ o. option_map_or (locations bytes) o []) named) ∙ e
@@ -131,13 +120,3 @@ field_there fields bound legal = by (field_of fields bound) legal where
   by : (o : Option Field) → option_map_or (λ (field : Field). are_values_of (bound_type field) bound) o false ≡ true → is_some o ≡ true
   by None legal = legal
   by (Some field) legal = refl
-
-pub one_left_of : {X : Type 0} (test : X → Bool) (xs : List X) (i : ℕ) → is_some (find test (drop i xs)) ≡ true → i < length xs
-one_left_of test xs i there = elim (cases_lt i (length xs)) [
-  | inl within ↦ within
-  | inr past ↦ absurd (true≢false (sym there ∙ ap (λ left. is_some (find test left)) (drop_all i xs past)))
-]
-
-pub next_left : {X : Type 0} (test : X → Bool) (xs : List X) (i : ℕ) (d : X) → i < length xs → test (get_or xs i d) ≡ false → is_some (find test (drop i xs)) ≡ true → is_some (find test (drop (i + 1) xs)) ≡ true
-next_left test xs i d h fails there =
-    sym (ap (λ left. is_some (find test left)) (drop_more xs i d h) ∙ ap (λ b. is_some (cond b (Some (get_or xs i d)) (find test (drop (i + 1) xs)))) fails) ∙ there

@@ -1,5 +1,5 @@
 -- The chunk of a column in a file's bytes.
-use Rattle.std.proofs.Common.{◌≡◌, ℕ, ◌<◌, ◌≤◌, Bool, true, false, List, [], ◌∷◌, length, refl, sym, subst, arith, ◌∙◌, ap}
+use Rattle.std.proofs.Common.{◌≡◌, ℕ, Bool, true, false, List, [], ◌∷◌, length, refl, sym, subst, arith, ◌∙◌, ap}
 use Rattle.std.specs.Prelude.{Option, Some, None, is_some, option_map, ◌&&◌, nat_le, Result, Ok, Err, IfOk, IfErr, OnOk, IfSome, if◌then◌else◌, Contains}
 use Rattle.columns_core.specs.Causes.{Cause, ExternalFormat, and_then, is_empty, unless}
 use Rattle.columns_core.specs.declared.error.Error.{Error}
@@ -15,7 +15,6 @@ use Rattle.parquet_scan.specs.Causes.{chunk_read_causes}
 use Rattle.parquet_scan.specs.Column.{has_values}
 use Rattle.parquet_scan.specs.Located.{part_causes, part_in}
 use Rattle.parquet_scan.specs.Scan.{FailsBy}
-use Rattle.std.proofs.lemmas.Bool.{le-leb, lt-leb}
 use Rattle.columns_core.specs.declared.error.Part.{Part}
 
 pub placed : (bytes : List ℕ) (group : RowGroupMetaData) (column : ColumnChunkMetaData) → chunk_causes column ≡ [] → has_values group column ≡ true
@@ -102,21 +101,3 @@ pub part_fails : {X : Type 0} (view : X → List ℕ) (told : Option (List ℕ))
 part_fails view told before now outer part r lies finds =
     finds_fails view (λ file. part_at file part) (λ bytes. part_causes bytes outer part) told before now r
     (λ bytes gone. first_of ExternalFormat (part_causes bytes outer part) (ap (λ o. unless (is_some o) ExternalFormat) (part_is bytes outer part lies ∙ gone))) finds
-
--- ---- the place of a chunk
-
-pub place_is : (told : Option (List ℕ)) (group : RowGroupMetaData) (column : ColumnChunkMetaData) (place : Place) (size : ℕ) → chunk_causes column ≡ [] → has_values group column ≡ true → place ≡ chunk_range column
-    → IfSome told (λ bytes. size ≡ length bytes) → after place ≤ size → IfSome told (λ bytes. chunk_of bytes group column ≡ Some place)
-place_is None group column place size none whole is told fits = tt
-place_is (Some bytes) group column place size none whole is told fits =
-    let within : nat_le (after (chunk_range column)) (length bytes) ≡ true = le-leb _ _ (omega (arith, fits, told, ap after is)) in
-    placed bytes group column none whole ∙ ap (λ b. if b then Some (chunk_range column) else None) within ∙ ap Some (sym is)
-
-pub place_fails : (told : Option (List ℕ)) (before now : ℕ) (group : RowGroupMetaData) (column : ColumnChunkMetaData) (place : Place) (size : ℕ) (p : Part) → chunk_causes column ≡ [] → has_values group column ≡ true → place ≡ chunk_range column
-    → IfSome told (λ bytes. size ≡ length bytes) → size < after place → FailsBy told before now (λ bytes. chunk_read_causes bytes group column) (error.ExternalFormat p)
-place_fails None before now group column place size p none whole is told fits = tt
-place_fails (Some bytes) before now group column place size p none whole is told fits =
-    let past : nat_le (after (chunk_range column)) (length bytes) ≡ false = lt-leb _ _ (omega (arith, fits, told, ap after is)) in
-    first_of ExternalFormat (chunk_read_causes bytes group column)
-    (ap (λ causes. and_then causes (unless (is_some (chunk_of bytes group column)) ExternalFormat)) none
-    ∙ ap (λ o. unless (is_some o) ExternalFormat) (placed bytes group column none whole ∙ ap (λ b. if b then Some (chunk_range column) else None) past))

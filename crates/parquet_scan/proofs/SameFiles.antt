@@ -24,19 +24,10 @@ use Rattle.parquet_scan.specs.LookedAt.{AgreeOn, HaveSameScan, IsSameScan, bound
 use Rattle.parquet_scan.specs.Request.{Request}
 use Rattle.parquet_scan.specs.Rows.{File, bound_keeps, file_with, first_rows, gives_rows, group_counts, groups_read, intervals, kept_rows, pages_keep, prunes_pages}
 use Rattle.parquet_scan.specs.Scan.{kept_groups}
-use Rattle.parquet_scan.proofs.FileLemmas.{built_limit, built_size, nothing_first}
+use Rattle.parquet_scan.proofs.FileLemmas.{built_limit, built_size, nothing_first, flat_filter}
 use Rattle.parquet_scan.proofs.KeptLemmas.{all_or_none}
 use Rattle.parquet_scan.proofs.SameColumns.{IsSameColumn, agree_split, column_is_same, group_causes_same, group_keeps_same, same_among, same_flat}
-
--- ---- lists
-
-filtered : {X Z : Type 0} (f : X → List Z) (test : X → Bool) (xs : List X) → flat_map f (filter test xs) ≡ flat_map (λ x. if test x then f x else []) xs
-filtered f test [] = refl
-filtered f test (x ∷ xs) = by (test x) (filtered f test xs) where
-  by : (b : Bool) → flat_map f (filter test xs) ≡ flat_map (λ x. if test x then f x else []) xs
-      → flat_map f (cond b (x ∷ filter test xs) (filter test xs)) ≡ (if b then f x else []) ++ flat_map (λ x. if test x then f x else []) xs
-  by true rest = ap (λ found. f x ++ found) rest
-  by false rest = rest
+use Rattle.parquet_scan.proofs.PageLemmas.{some_cause}
 
 module _ (first second : List ℕ) (long : length second ≡ length first) (request : Request) (metadata : FileMetaData) where
   abbrev by_pages : Bool
@@ -184,10 +175,10 @@ module _ (first second : List ℕ) (long : length second ≡ length first) (requ
       → flat_map f (reads_of groups) ≡ flat_map g (reads_of groups)
   reads_same {Z} f g each groups is h =
       let if_read : (RowGroupMetaData × List ℕ → List Z) → RowGroupMetaData × List ℕ → List Z = λ give read. if gives_rows read then give read else [] in
-      filtered f gives_rows (given_of groups)
+      flat_filter f gives_rows (given_of groups)
       ∙ given_same (if_read f) (if_read g) (λ group rows same. ap (λ found. if gives_rows (group, rows) then found else []) (each group rows same))
       (λ group rows none. ap (λ b. if b then f (group, rows) else []) none ∙ sym (ap (λ b. if b then g (group, rows) else []) none)) groups is h
-      ∙ sym (filtered g gives_rows (given_of groups))
+      ∙ sym (flat_filter g gives_rows (given_of groups))
 
   -- ---- the file
 
@@ -242,10 +233,8 @@ module _ (first second : List ℕ) (long : length second ≡ length first) (requ
         runs = λ none. runs_same metadata.row_groups (are_indexed none h);
         chunks = λ fine.
             let nothing : index_causes request one ≡ [] = nothing_first (index_causes request one) (read_causes request one) (sym (ap (λ found. and_then found (and_then (index_causes request one) (read_causes request one))) none) ∙ fine) in
-            absurd (by cause more (sym e ∙ nothing));
-      } where
-        by : (cause : Cause) (more : List Cause) → cause ∷ more ≡ [] → ⊥
-        by cause more e = cc
+            absurd (some_cause cause more (sym e ∙ nothing));
+      }
   with_indexes none h [] e reads =
       let second_is = causes_of_indexes none h ∙ sym refl in
       let parts = of_reads none h reads (group_parts by_pages request.fields second) (group_parts by_pages request.fields first) (λ group rows same. parts_same group rows request.fields same) in
@@ -261,11 +250,9 @@ module _ (first second : List ℕ) (long : length second ≡ length first) (requ
   file_is_same (cause ∷ more) e h = record {
     parts = ap (λ found. parts_with found (index_causes request other) (read_parts request other)) e ∙ sym (ap (λ found. parts_with found (index_causes request one) (read_parts request one)) e);
     causes = ap (λ found. and_then found (and_then (index_causes request other) (read_causes request other))) e ∙ sym (ap (λ found. and_then found (and_then (index_causes request one) (read_causes request one))) e);
-    runs = λ none. absurd (by cause more (sym e ∙ none));
-    chunks = λ fine. absurd (by cause more (sym e ∙ nothing_first (metadata_causes request metadata) (and_then (index_causes request one) (read_causes request one)) fine));
-  } where
-    by : (cause : Cause) (more : List Cause) → cause ∷ more ≡ [] → ⊥
-    by cause more e = cc
+    runs = λ none. absurd (some_cause cause more (sym e ∙ none));
+    chunks = λ fine. absurd (some_cause cause more (sym e ∙ nothing_first (metadata_causes request metadata) (and_then (index_causes request one) (read_causes request one)) fine));
+  }
   file_is_same [] e h =
       let both = agree_split first second (index_parts request one) (if is_empty (index_causes request one) then read_parts request one else []) h in
       with_indexes e both.0 (index_causes request one) refl both.1

@@ -2,9 +2,8 @@
 use Rattle.std.proofs.Common.{◌≡◌, ℕ, zero, suc, ◌+◌, ◌<◌, ◌≤◌, Bool, true, false, not, List, [], ◌∷◌, ◌++◌, length, map, drop, get_or, refl, sym, subst, ◌∙◌, ap, arith, append_assoc, inl, inr}
 use Rattle.std.specs.Prelude.{Option, Some, None, zip, filter, ◌&&◌, ◌||◌, ◌==◌, nat_lt, IfSome, if◌then◌else◌}
 use Rattle.std.specs.List.{flat_map, list_all}
-use Rattle.columns_core.specs.Causes.{Cause, ExternalFormat, and_then, IsOneOf, IsWantOfMemory, cause_of}
+use Rattle.columns_core.specs.Causes.{Cause, and_then, IsOneOf, IsWantOfMemory, cause_of}
 use Rattle.columns_core.specs.declared.data_type.DataType.{DataType}
-use Rattle.columns_core.specs.declared.data_type.Field.{Field}
 use Rattle.columns_core.specs.declared.error.Error.{Error}
 use Rattle.columns_core.specs.declared.error.Error.TheVariants as error
 use Rattle.parquet_meta.specs.declared.metadata.RowGroupMetaData.{RowGroupMetaData}
@@ -13,15 +12,14 @@ use Rattle.parquet_scan.specs.Counting.{are_pruned}
 use Rattle.parquet_scan.specs.Request.{Request}
 use Rattle.parquet_scan.specs.Rows.{group_counts, has_needed_indexes, prunes_pages}
 use Rattle.parquet_scan.specs.Scan.{FailsBy}
-use Rattle.std.specs.Option.{option_map_or}
 use Rattle.std.proofs.lemmas.Bool.{lt-ltb, eqb-true}
 use Rattle.std.proofs.lemmas.List.{drop_more}
 use Rattle.parquet_base.specs.Intervals.{maximal_runs}
 use Rattle.parquet_meta.specs.declared.metadata.ColumnChunkMetaData.{ColumnChunkMetaData}
-use Rattle.parquet_scan.specs.Causes.{causes_of_chunk, causes_of_column, causes_of_read, chunk_read_causes, pair_causes}
+use Rattle.parquet_scan.specs.Causes.{causes_of_chunk, causes_of_read, chunk_read_causes, pair_causes}
 use Rattle.parquet_scan.specs.Cells.{is_null_type}
-use Rattle.parquet_scan.specs.Rows.{column_named}
-use Rattle.parquet_scan.proofs.CauseLemmas.{TellsOf, among_first, one_left, one_right, then_next}
+use Rattle.parquet_scan.proofs.CauseLemmas.{TellsOf, among_first, then_next}
+use Rattle.column_values.proofs.RowLemmas.{one_of-left, one_of-right}
 
 -- ---- pruning by pages
 
@@ -76,8 +74,8 @@ fails_same told before now part whole e same fails = fails_more told before befo
 -- one that is among the causes of an item is among those of all
 one_of_all : {X : Type 0} (f : X → List Cause) (xs : List X) (i : ℕ) (d : X) (o : Option Cause) → i < length xs → IsOneOf (f (get_or xs i d)) o → IsOneOf (flat_map f xs) o
 one_of_all f [] i d o h k = absurd (omega arith)
-one_of_all f (x ∷ xs) zero d o h k = one_left (f x) (flat_map f xs) o k
-one_of_all f (x ∷ xs) (suc i) d o h k = one_right (f x) (flat_map f xs) o (one_of_all f xs i d o (omega arith) k)
+one_of_all f (x ∷ xs) zero d o h k = one_of-left (f x) (flat_map f xs) o k
+one_of_all f (x ∷ xs) (suc i) d o h k = one_of-right (f x) (flat_map f xs) o (one_of_all f xs i d o (omega arith) k)
 
 -- of an item of a list
 pub in_item : {X : Type 0} (told : Option (List ℕ)) (f : List ℕ → X → List Cause) (xs : List X) (i : ℕ) (x : X) → i < length xs → x ≡ get_or xs i x
@@ -99,20 +97,20 @@ pub in_filtered : {X : Type 0} (told : Option (List ℕ)) (f : List ℕ → X �
 in_filtered None f test xs i d h passes = tt
 in_filtered {X} (Some bytes) f test xs i d h passes = λ o one. at xs i h passes o one where
   behind : (b : Bool) (x : X) (rest : List X) (o : Option Cause) → IsOneOf (flat_map (f bytes) rest) o → IsOneOf (flat_map (f bytes) (if b then x ∷ rest else rest)) o
-  behind true x rest o one = one_right (f bytes x) (flat_map (f bytes) rest) o one
+  behind true x rest o one = one_of-right (f bytes x) (flat_map (f bytes) rest) o one
   behind false x rest o one = one
 
   at : (xs : List X) (i : ℕ) → i < length xs → test (get_or xs i d) ≡ true → (o : Option Cause) → IsOneOf (f bytes (get_or xs i d)) o → IsOneOf (flat_map (f bytes) (filter test xs)) o
   at [] i h passes o one = absurd (omega (arith, h))
-  at (x ∷ xs) zero h passes o one = subst (λ b. IsOneOf (flat_map (f bytes) (if b then x ∷ filter test xs else filter test xs)) o) (sym passes) (one_left (f bytes x) (flat_map (f bytes) (filter test xs)) o one)
+  at (x ∷ xs) zero h passes o one = subst (λ b. IsOneOf (flat_map (f bytes) (if b then x ∷ filter test xs else filter test xs)) o) (sym passes) (one_of-left (f bytes x) (flat_map (f bytes) (filter test xs)) o one)
   at (x ∷ xs) (suc i) h passes o one = behind (test x) x (filter test xs) o (at xs i (omega (arith, h)) passes o one)
 
 pair_in : {X Y : Type 0} (xs : List X) (ys : List Y) (i : ℕ) (x : X) (y : Y) (f : X × Y → List Cause) (o : Option Cause) → i < length xs → i < length ys
     → IsOneOf (f (get_or xs i x, get_or ys i y)) o → IsOneOf (flat_map f (zip xs ys)) o
 pair_in [] ys i x y f o h k one = absurd (omega arith)
 pair_in (first ∷ xs) [] i x y f o h k one = absurd (omega arith)
-pair_in (first ∷ xs) (second ∷ ys) zero x y f o h k one = one_left (f (first, second)) (flat_map f (zip xs ys)) o one
-pair_in (first ∷ xs) (second ∷ ys) (suc i) x y f o h k one = one_right (f (first, second)) (flat_map f (zip xs ys)) o (pair_in xs ys i x y f o (omega arith) (omega arith) one)
+pair_in (first ∷ xs) (second ∷ ys) zero x y f o h k one = one_of-left (f (first, second)) (flat_map f (zip xs ys)) o one
+pair_in (first ∷ xs) (second ∷ ys) (suc i) x y f o h k one = one_of-right (f (first, second)) (flat_map f (zip xs ys)) o (pair_in xs ys i x y f o (omega arith) (omega arith) one)
 
 -- of an item of two lists side by side
 pub in_pair : {X Y : Type 0} (told : Option (List ℕ)) (f : List ℕ → X × Y → List Cause) (xs : List X) (ys : List Y) (i : ℕ) (x : X) (y d : Y) → i < length xs → i < length ys → x ≡ get_or xs i x → y ≡ get_or ys i d
@@ -129,12 +127,6 @@ no_runs zero = refl
 no_runs (suc rows) = no_runs rows
 
 -- ---- a column
-
--- what is wrong with a column of a name is what is wrong with it as it is read
-pub of_column : (told : Option (List ℕ)) (by_pages : Bool) (group : RowGroupMetaData) (rows : List ℕ) (field : Field) (column : ColumnChunkMetaData) → column_named group field.name ≡ Some column
-    → IfSome told (λ bytes. causes_of_column by_pages bytes group rows field ≡ causes_of_read by_pages bytes group rows field.data_type column)
-of_column None by_pages group rows field column named = tt
-of_column (Some bytes) by_pages group rows field column named = ap (λ found. option_map_or (causes_of_read by_pages bytes group rows field.data_type) found (ExternalFormat ∷ [])) named
 
 -- what is wrong with one that is carried, read as nulls or not
 pub of_read : (told : Option (List ℕ)) (by_pages : Bool) (group : RowGroupMetaData) (rows : List ℕ) (data_type : DataType) (column : ColumnChunkMetaData) (nulls : Bool) → pair_causes column.descriptor.primitive_type data_type ≡ [] → is_null_type data_type ≡ nulls
@@ -196,11 +188,11 @@ none_of_both (Some bytes) first second none nothing = λ i. none i ++ nothing i
 
 pub in_first : (told : Option (List ℕ)) (first second : List ℕ → List Cause) → IfSome told (λ bytes. (o : Option Cause) → IsOneOf (first bytes) o → IsOneOf (first bytes ++ second bytes) o)
 in_first None first second = tt
-in_first (Some bytes) first second = λ o one. one_left (first bytes) (second bytes) o one
+in_first (Some bytes) first second = λ o one. one_of-left (first bytes) (second bytes) o one
 
 pub in_second : (told : Option (List ℕ)) (first second : List ℕ → List Cause) → IfSome told (λ bytes. (o : Option Cause) → IsOneOf (second bytes) o → IsOneOf (first bytes ++ second bytes) o)
 in_second None first second = tt
-in_second (Some bytes) first second = λ o one. one_right (first bytes) (second bytes) o one
+in_second (Some bytes) first second = λ o one. one_of-right (first bytes) (second bytes) o one
 
 -- what is wrong with the next part is wrong with both, where nothing is wrong with the first
 pub in_next : (told : Option (List ℕ)) (first next part : List ℕ → List Cause) → IfSome told (λ bytes. first bytes ≡ []) → IfSome told (λ bytes. part bytes ≡ next bytes)

@@ -36,10 +36,11 @@ use Rattle.parquet_scan.specs.Rows.{File, bound_keeps, column_named, file_with, 
 use Rattle.parquet_scan.specs.Statistics.{group_ends}
 use Rattle.parquet_scan.specs.Truth.{HasTrueStatistics, LosesNoRow, MeetsAll, OnBound, are_true, has_true_index, has_true_statistics, is_true_of_page, items_of}
 use Rattle.parquet_scan.proofs.Exact.{from_items}
-use Rattle.parquet_scan.proofs.FileLemmas.{built_request, nothing_first, passes}
+use Rattle.parquet_scan.proofs.FileLemmas.{built_request, nothing_first}
 use Rattle.parquet_scan.proofs.LocationLemmas.{have_rows}
 use Rattle.parquet_scan.proofs.SoundLists.{any_found, append_nil, fewer_found, filter_at, find_holds, find_passes, if_some, nothing_next, nothing_of_each}
 use Rattle.parquet_scan.proofs.SoundNumbers.{AreNumbers, IsNumber, both_numbers, bound_is_numbers, group_ends_are_numbers, items_are_numbers, page_ends_are_numbers, tells_of_locations}
+use Rattle.parquet_page.proofs.SpelledLemmas.{none_of}
 
 -- ---- the rows of locations
 
@@ -146,7 +147,7 @@ module _ (fields : List Field) (bytes : List ℕ) (group : RowGroupMetaData) (ro
   shaped : All (λ field. offset_causes_of_field bytes group field ≡ []) fields → has_shape (locations bytes met.column) group.num_rows ≡ true
   shaped none =
       let here = find_holds (λ (field : Field). offset_causes_of_field bytes group field ≡ []) (λ (field : Field). bytes_eq bound.field field.name) fields met.field met.found (recursion_from_All _ fields none) in
-      passes _ ExternalFormat (sym (ap (λ (o : Option ColumnChunkMetaData). option_map_or (locations_causes bytes group) o (ExternalFormat ∷ [])) met.is_column) ∙ here)
+      none_of _ ExternalFormat (sym (ap (λ (o : Option ColumnChunkMetaData). option_map_or (locations_causes bytes group) o (ExternalFormat ∷ [])) met.is_column) ∙ here)
 
   page_kept : All (λ field. offset_causes_of_field bytes group field ≡ []) fields → index_causes_of_bound bytes group bound ≡ [] → OnBound (has_true_index bytes) fields group bound → bound_keeps bytes group row bound ≡ true
   page_kept none own h =

@@ -38,9 +38,9 @@ use Rattle.parquet_scan.specs.Rows.{column_named}
 use Rattle.parquet_scan.specs.Statistics.{group_ends, known, physical_type, scalar_of, typed}
 use Rattle.parquet_scan.specs.Truth.{items_of}
 use Rattle.parquet_scan.proofs.Exact.{IsItemIn, kind-of_value, kind_at}
-use Rattle.parquet_scan.proofs.FileLemmas.{passes}
 use Rattle.parquet_scan.proofs.Order.{kind}
 use Rattle.parquet_scan.proofs.SoundLists.{all_found, and_then_all, nothing_next}
+use Rattle.parquet_page.proofs.SpelledLemmas.{none_of}
 
 abbrev pub IsNumber : Scalar → Type 0
 IsNumber value = kind value ≡ 0
@@ -155,7 +155,7 @@ counted count (Some ends) fits = eqb-true (length ends) count fits
 pub tells_of_locations : (bytes : List ℕ) (column : ColumnChunkMetaData) → column_index_causes (length (locations bytes column)) bytes column ≡ [] → length (page_ends bytes column) ≡ length (locations bytes column)
 tells_of_locations bytes column none =
     counted (length (locations bytes column)) (column_ends bytes column)
-    (passes _ ExternalFormat (nothing_next (unless (is_carried (physical_type column)) NotYetImplemented) _ none))
+    (none_of _ ExternalFormat (nothing_next (unless (is_carried (physical_type column)) NotYetImplemented) _ none))
 
 -- ---- bounds
 

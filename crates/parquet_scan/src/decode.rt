@@ -159,7 +159,7 @@ fn decode_int64<I: Pages, L: Ledger>(
             decode_values(alloc, pages, values, data_type, steps)
         }
         DataType::Timestamp(unit, _) => {
-            let values = NumberValues::<i64, i64, OneByOne<Scale>>::new(rescaled(logical, *unit));
+            let values = NumberValues::<i64, i64, Scale>::new(rescaled(logical, *unit));
             decode_values(alloc, pages, values, data_type, steps)
         }
         DataType::UInt32 => {
@@ -179,11 +179,11 @@ fn decode_int64<I: Pages, L: Ledger>(
 }
 
 /// From the unit of a column to that which is asked for.
-fn rescaled(logical: Option<&PrimitiveLogicalType>, unit: TimeUnit) -> OneByOne<Scale>
-    ensures { result.0 ≡ unit_factor (option_copied logical.entry) unit }
+fn rescaled(logical: Option<&PrimitiveLogicalType>, unit: TimeUnit) -> Scale
+    ensures { result ≡ unit_factor (option_copied logical.entry) unit }
 {
     let (factor, multiply) = unifiy_timestmap_unit(logical, unit);
-    OneByOne(Scale::new(factor, multiply))
+    Scale::new(factor, multiply)
 }
 
 fn decode_int96<I: Pages, L: Ledger>(

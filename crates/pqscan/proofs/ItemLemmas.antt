@@ -1,9 +1,9 @@
 -- Items of a command line one after another.
-use Rattle.std.proofs.Common.{◌≡◌, ℕ, zero, suc, ◌<◌, ◌≤◌, Bool, true, false, List, [], ◌∷◌, ◌++◌, length, map, take, drop, refl, sym, ◌∙◌, ap, arith, append_assoc}
-use Rattle.std.specs.Prelude.{Option, Some, None, option_map, option_and_then, is_some, All, ◌&&◌, ◌||◌, not, if◌then◌else◌, ◌==◌, nat_lt, codes}
+use Rattle.std.proofs.Common.{◌≡◌, ℕ, zero, suc, ◌≤◌, true, false, List, [], ◌∷◌, ◌++◌, length, map, take, drop, refl, ◌∙◌, ap, arith}
+use Rattle.std.specs.Prelude.{Option, Some, None, option_map, option_and_then, is_some, All, ◌&&◌, ◌||◌, not, if◌then◌else◌, codes}
 use Rattle.std.specs.List.{list_all}
-use Rattle.std.specs.Option.{option_map_or, option_zip, option_or}
-use Rattle.std.proofs.lemmas.Bool.{true≢false, lt-ltb, eqb-true}
+use Rattle.std.specs.Option.{option_zip, option_or}
+use Rattle.std.proofs.lemmas.Bool.{not-true}
 use Rattle.std.proofs.lemmas.List.{append-nil, drop_all}
 use Rattle.std.proofs.lemmas.List.Elements.{All-append}
 use Rattle.std.proofs.lemmas.List.Folds.{list_all-map}
@@ -12,88 +12,12 @@ use Rattle.std.specs.declared.alloc.Global.{Global}
 use Rattle.std.specs.Str.{bytes_eq}
 use Rattle.columns_core.specs.declared.data_type.DataType.{Int32}
 use Rattle.columns_core.specs.declared.data_type.Field.{Field}
-use Rattle.pqscan.specs.Spelled.{spelled_type}
-use Rattle.parquet_scan.specs.declared.bound.Scalar.{Scalar}
 use Rattle.parquet_scan.specs.declared.bound.Bound.{Bound}
 use Rattle.std.specs.Cmp.{first_so, second_so}
 use Rattle.pqscan.specs.Spelled.{number}
-use Rattle.pqscan.specs.Parsed.{fields_behind, bounds_behind, AreInt32}
-use Rattle.pqscan.specs.Words.{at_most_one, joined, Chunk, Limit, Summary, all_bounds, all_fields, both_ends, bounds_of, begins_with_dash, chunk_sizes, entries, Entry, field_of, has_name, limits, named_field, one_word, read_words, split_bound, split_field, summaries, two_words, with_bound, Command, spelled_command, command_of}
+use Rattle.pqscan.specs.Parsed.{bounds_behind, AreInt32}
+use Rattle.pqscan.specs.Words.{at_most_one, joined, Chunk, Limit, Summary, all_fields, bounds_of, begins_with_dash, chunk_sizes, entries, Entry, limits, one_word, read_words, split_bound, summaries, two_words, Command, spelled_command, command_of}
 use Rattle.pqscan.specs.NotBuilt.{built_command, is_built_field, is_built_word}
-
--- ---- fields
-
-pub no_field : (fields : List Field) (text : List ℕ) (texts : List (List ℕ)) → is_some (split_bound text) ≡ true → fields_behind fields (text ∷ texts) ≡ fields_behind fields texts
-no_field fields text texts e = ap (λ b. option_map (λ rest. fields ++ rest) (if b then all_fields texts else option_map (λ (found : Field × List Field). found.0 ∷ found.1) (option_zip (field_of text) (all_fields texts)))) e
-
-behind : (fields : List Field) (field : Field) (o : Option (List Field))
-    → option_map (λ rest. fields ++ rest) (option_map (λ (found : Field × List Field). found.0 ∷ found.1) (option_zip (Some field) o)) ≡ option_map (λ rest. (fields ++ field ∷ []) ++ rest) o
-behind fields field None = refl
-behind fields field (Some rest) = ap Some (sym (append_assoc fields (field ∷ []) rest))
-
-pub one_field : (fields : List Field) (field : Field) (text : List ℕ) (texts : List (List ℕ)) → is_some (split_bound text) ≡ false → field_of text ≡ Some field
-    → fields_behind fields (text ∷ texts) ≡ fields_behind (fields ++ field ∷ []) texts
-one_field fields field text texts e f =
-    ap (λ b. option_map (λ rest. fields ++ rest) (if b then all_fields texts else option_map (λ (found : Field × List Field). found.0 ∷ found.1) (option_zip (field_of text) (all_fields texts)))) e
-    ∙ ap (λ o. option_map (λ rest. fields ++ rest) (option_map (λ (found : Field × List Field). found.0 ∷ found.1) (option_zip o (all_fields texts)))) f
-    ∙ behind fields field (all_fields texts)
-
-pub bad_field : (fields : List Field) (text : List ℕ) (texts : List (List ℕ)) → is_some (split_bound text) ≡ false → field_of text ≡ None → fields_behind fields (text ∷ texts) ≡ None
-bad_field fields text texts e f =
-    ap (λ b. option_map (λ rest. fields ++ rest) (if b then all_fields texts else option_map (λ (found : Field × List Field). found.0 ∷ found.1) (option_zip (field_of text) (all_fields texts)))) e
-    ∙ ap (λ o. option_map (λ rest. fields ++ rest) (option_map (λ (found : Field × List Field). found.0 ∷ found.1) (option_zip o (all_fields texts)))) f
-
-pub no_more_fields : (fields : List Field) → fields_behind fields [] ≡ Some fields
-no_more_fields fields = ap Some (append-nil fields)
-
--- ---- bounds
-
-abbrev further : List (List ℕ) → List Field → Field → List Field → Bool → Option (List Bound)
-further texts seen field fields named =
-    if named then all_bounds texts (seen ++ field ∷ []) fields
-    else option_map (λ (found : (Option Scalar × Option Scalar) × List Bound). with_bound field.name found.0 found.1) (option_zip (both_ends texts field) (all_bounds texts (seen ++ field ∷ []) fields))
-
-pub named_before : (texts : List (List ℕ)) (bounds : List Bound) (seen fields : List Field) (field : Field) → has_name seen field ≡ true
-    → bounds_behind texts bounds seen (field ∷ fields) ≡ bounds_behind texts bounds (seen ++ field ∷ []) fields
-named_before texts bounds seen fields field e = ap (λ b. option_map (λ rest. bounds ++ rest) (further texts seen field fields b)) e
-
-pub bad_bound : (texts : List (List ℕ)) (bounds : List Bound) (seen fields : List Field) (field : Field) → has_name seen field ≡ false → both_ends texts field ≡ None
-    → bounds_behind texts bounds seen (field ∷ fields) ≡ None
-bad_bound texts bounds seen fields field e f =
-    ap (λ b. option_map (λ rest. bounds ++ rest) (further texts seen field fields b)) e
-    ∙ ap (λ o. option_map (λ rest. bounds ++ rest) (option_map (λ (found : (Option Scalar × Option Scalar) × List Bound). with_bound field.name found.0 found.1) (option_zip o (all_bounds texts (seen ++ field ∷ []) fields)))) f
-
-same_bounds : (bounds : List Bound) (field : Field) (o : Option (List Bound))
-    → option_map (λ rest. bounds ++ rest) (option_map (λ (found : (Option Scalar × Option Scalar) × List Bound). with_bound field.name found.0 found.1) (option_zip (Some (None, None)) o)) ≡ option_map (λ rest. bounds ++ rest) o
-same_bounds bounds field None = refl
-same_bounds bounds field (Some rest) = refl
-
-pub no_bound : (texts : List (List ℕ)) (bounds : List Bound) (seen fields : List Field) (field : Field) → has_name seen field ≡ false → both_ends texts field ≡ Some (None, None)
-    → bounds_behind texts bounds seen (field ∷ fields) ≡ bounds_behind texts bounds (seen ++ field ∷ []) fields
-no_bound texts bounds seen fields field e f =
-    ap (λ b. option_map (λ rest. bounds ++ rest) (further texts seen field fields b)) e
-    ∙ ap (λ o. option_map (λ rest. bounds ++ rest) (option_map (λ (found : (Option Scalar × Option Scalar) × List Bound). with_bound field.name found.0 found.1) (option_zip o (all_bounds texts (seen ++ field ∷ []) fields)))) f
-    ∙ same_bounds bounds field (all_bounds texts (seen ++ field ∷ []) fields)
-
--- one of the ends is given
-abbrev pub has_end : Option Scalar → Option Scalar → Bool
-has_end low high = is_some low || is_some high
-
-more_bounds : (bounds : List Bound) (name : List ℕ) (low high : Option Scalar) (o : Option (List Bound)) → has_end low high ≡ true
-    → option_map (λ rest. bounds ++ rest) (option_map (λ (found : (Option Scalar × Option Scalar) × List Bound). with_bound name found.0 found.1) (option_zip (Some (low, high)) o))
-    ≡ option_map (λ rest. (bounds ++ record { field = name; low = low; high = high } ∷ []) ++ rest) o
-more_bounds bounds name low high None e = refl
-more_bounds bounds name (Some low) high (Some rest) e = ap Some (sym (append_assoc bounds (record { field = name; low = Some low; high = high } ∷ []) rest))
-more_bounds bounds name None (Some high) (Some rest) e = ap Some (sym (append_assoc bounds (record { field = name; low = None; high = Some high } ∷ []) rest))
-more_bounds bounds name None None (Some rest) e = absurd (true≢false (sym e))
-
-pub one_bound : (texts : List (List ℕ)) (bounds : List Bound) (seen fields : List Field) (field : Field) (low high : Option Scalar) → has_name seen field ≡ false
-    → both_ends texts field ≡ Some (low, high) → has_end low high ≡ true
-    → bounds_behind texts bounds seen (field ∷ fields) ≡ bounds_behind texts (bounds ++ record { field = field.name; low = low; high = high } ∷ []) (seen ++ field ∷ []) fields
-one_bound texts bounds seen fields field low high e f some =
-    ap (λ b. option_map (λ rest. bounds ++ rest) (further texts seen field fields b)) e
-    ∙ ap (λ o. option_map (λ rest. bounds ++ rest) (option_map (λ (found : (Option Scalar × Option Scalar) × List Bound). with_bound field.name found.0 found.1) (option_zip o (all_bounds texts (seen ++ field ∷ []) fields)))) f
-    ∙ more_bounds bounds field.name low high (all_bounds texts (seen ++ field ∷ []) fields) some
 
 -- ---- all of it
 
@@ -115,12 +39,8 @@ no_end : (word : List ℕ) → begins_with_dash word ≡ false → bytes_eq word
 no_end [] e = refl
 no_end (first ∷ rest) e = ap (λ b. b && bytes_eq rest (codes "-")) e
 
-not_true : (b : Bool) → not b ≡ true → b ≡ false
-not_true false e = refl
-not_true true e = sym e
-
 dashless : (word : List ℕ) → is_built_word word ≡ true → begins_with_dash word ≡ false
-dashless word e = not_true (begins_with_dash word) (first_so (not (begins_with_dash word)) (is_some (split_bound word) || is_built_field word) e)
+dashless word e = not-true (begins_with_dash word) (first_so (not (begins_with_dash word)) (is_some (split_bound word) || is_built_field word) e)
 
 commands : (items : List (List ℕ)) → list_all is_built_word items ≡ true → read_words items ≡ Some (map Entry items)
 commands [] e = refl
@@ -187,38 +107,6 @@ pub not_built : (file : List ℕ) (items : List (List ℕ)) → list_all is_buil
 not_built file items e = ap (λ b. if b then spelled_command (file ∷ items) else None) e
 
 -- ---- the field of an item
-
-bytes_same : (xs ys : List ℕ) → bytes_eq xs ys ≡ true → xs ≡ ys
-bytes_same [] [] e = refl
-bytes_same [] (y ∷ ys) e = absurd (true≢false (sym e))
-bytes_same (x ∷ xs) [] e = absurd (true≢false (sym e))
-bytes_same (x ∷ xs) (y ∷ ys) e =
-    let first : x ≡ y = eqb-true x y (first_so (x == y) (bytes_eq xs ys) e) in
-    let rest : xs ≡ ys = bytes_same xs ys (second_so (x == y) (bytes_eq xs ys) e) in
-    λ i. first i ∷ rest i
-
-int32_field : (parts : List ℕ × List ℕ) → bytes_eq parts.1 (codes "Int32") ≡ true → 0 < length parts.0 → named_field parts ≡ Some (record { name = parts.0; data_type = Int32; is_nullable = true })
-int32_field parts e some =
-    ap (λ b. if b then option_map (λ data_type. record { name = parts.0; data_type = data_type; is_nullable = true }) (spelled_type parts.1) else None) (lt-ltb 0 (length parts.0) some)
-    ∙ ap (λ text. option_map (λ data_type. record { name = parts.0; data_type = data_type; is_nullable = true }) (spelled_type text)) (bytes_same parts.1 (codes "Int32") e)
-
-pub built_field : (text name data_type : List ℕ) → split_field text ≡ Some (name, data_type) → is_built_field text ≡ true → 0 < length name
-    → field_of text ≡ Some (record { name = name; data_type = Int32; is_nullable = true })
-built_field text name data_type e built some =
-    ap (option_and_then named_field) e ∙ int32_field (name, data_type) (sym (ap (λ o. option_map_or (λ (found : List ℕ × List ℕ). bytes_eq found.1 (codes "Int32")) o false) e) ∙ built) some
-
-pub nameless_field : (text name data_type : List ℕ) → split_field text ≡ Some (name, data_type) → length name ≡ 0 → field_of text ≡ None
-nameless_field text name data_type e none =
-    ap (option_and_then named_field) e
-    ∙ ap (λ n. if nat_lt 0 n then option_map (λ data_type. record { name = name; data_type = data_type; is_nullable = true }) (spelled_type data_type) else None) none
-
-pub no_parts : (text : List ℕ) → split_field text ≡ None → field_of text ≡ None
-no_parts text e = ap (option_and_then named_field) e
-
--- a built word that is no bound is a field of the type Int32
-pub field_word : (word : List ℕ) → is_built_word word ≡ true → is_some (split_bound word) ≡ false → is_built_field word ≡ true
-field_word word e none =
-    sym (ap (λ b. b || is_built_field word) none) ∙ second_so (not (begins_with_dash word)) (is_some (split_bound word) || is_built_field word) e
 
 all_one : (P : Field → Type 0) (field : Field) → P field → All P (field ∷ [])
 all_one P field h zero d k = h

@@ -1,23 +1,14 @@
 -- Lines one after another.
-use Rattle.std.proofs.Common.{◌≡◌, ℕ, zero, suc, ◌+◌, ◌<◌, List, [], ◌∷◌, ◌++◌, length, map, take, get_or, sym, ◌∙◌, ap, arith, append_assoc}
+use Rattle.std.proofs.Common.{◌≡◌, ℕ, ◌+◌, ◌<◌, List, [], ◌∷◌, ◌++◌, length, map, take, get_or, sym, ◌∙◌, ap, arith, append_assoc}
 use Rattle.std.specs.Prelude.{IfNone, Option, Some, None}
 use Rattle.std.specs.List.{flat_map, enumerate_from, range_with_len}
 use Rattle.std.proofs.lemmas.List.{append-nil, length-map, length-take-le, map_more}
 use Rattle.std.proofs.lemmas.List.Concat.{flat_map-append}
+use Rattle.parquet_page.proofs.SliceLemmas.{range-split}
 
 pub if_none : {P : Type 0} {X : Type 0} (o : Option X) → P → IfNone o P
 if_none None p = p
 if_none (Some x) p = tt
-
-range_parts : (from n k : ℕ) → range_with_len from (n + k) ≡ range_with_len from n ++ range_with_len (from + n) k
-range_parts from zero k =
-    let all : 0 + k ≡ k = omega arith in
-    let same : from ≡ from + 0 = omega arith in
-    ap (range_with_len from) all ∙ ap (λ m. range_with_len m k) same
-range_parts from (suc n) k =
-    let all : suc n + k ≡ suc (n + k) = omega arith in
-    let same : from + 1 + n ≡ from + suc n = omega arith in
-    ap (range_with_len from) all ∙ ap (λ rest. from ∷ rest) (range_parts (from + 1) n k ∙ ap (λ m. range_with_len (from + 1) n ++ range_with_len m k) same)
 
 enumerated_more : {X : Type 0} (n : ℕ) (xs : List X) (x : X) → enumerate_from n (xs ++ x ∷ []) ≡ enumerate_from n xs ++ (n + length xs, x) ∷ []
 enumerated_more n [] x = ap (λ k. (k, x) ∷ []) (omega arith)
@@ -40,7 +31,7 @@ rows_written f old before now n count begun more =
     more ∙ ap (λ front. front ++ flat_map f (range_with_len n count)) begun
     ∙ append_assoc old (flat_map f (range_with_len 0 n)) (flat_map f (range_with_len n count))
     ∙ ap (λ text. old ++ text) (sym (flat_map-append f (range_with_len 0 n) (range_with_len n count))
-    ∙ ap (flat_map f) (ap (λ m. range_with_len 0 n ++ range_with_len m count) (sym from) ∙ sym (range_parts 0 n count)))
+    ∙ ap (flat_map f) (ap (λ m. range_with_len 0 n ++ range_with_len m count) (sym from) ∙ sym (range-split 0 n count)))
 
 pub row_written : (f : ℕ → List ℕ) (old before now : List ℕ) (n : ℕ)
     → before ≡ old ++ flat_map f (range_with_len 0 n) → now ≡ before ++ f n → now ≡ old ++ flat_map f (range_with_len 0 (n + 1))

@@ -1,43 +1,17 @@
 -- From what a scan answers to what is reported.
 use Rattle.std.proofs.Common.{◌≡◌, ℕ, ◌+◌, ◌-◌, ◌^◌, All, List, [], ◌∷◌, map, min, refl, sym, subst, ◌∙◌, ap}
-use Rattle.std.specs.Prelude.{Option, Some, None, option_map, option_and_then, IfNone, IfOk, IfSome, IsSomeAnd, Result, Ok, Err, sum_by}
+use Rattle.std.specs.Prelude.{Option, Some, None, option_and_then, IfNone, IfOk, IfSome, IsSomeAnd, Result, Ok, Err, sum_by}
 use Rattle.std.proofs.lemmas.List.Elements.{All-map}
 use Rattle.std.proofs.lemmas.List.Sums.{sum_by-cons}
-use Rattle.parquet_base.specs.declared.interval.Interval.{Interval}
 use Rattle.columns_core.specs.Chunk.{rows_of}
 use Rattle.columns_core.specs.declared.array.Array.{Array}
-use Rattle.columns_core.specs.declared.cell.Cell.{Cell}
-use Rattle.columns_core.specs.declared.data_type.DataType.{DataType}
-use Rattle.parquet_scan.specs.Causes.{IsValid}
-use Rattle.parquet_scan.specs.Cells.{columns_of, given_chunks}
-use Rattle.parquet_scan.specs.Rows.{File, file_of, given_count}
-use Rattle.parquet_scan.specs.Scan.{IsApart, OnFile, kept_groups, kept_of}
+use Rattle.parquet_scan.specs.Cells.{columns_of}
+use Rattle.parquet_scan.specs.Rows.{file_of}
+use Rattle.parquet_scan.specs.Scan.{IsApart, kept_of}
 use Rattle.parquet_scan.specs.declared.scanning.GroupKept.{GroupKept}
-use Rattle.pqscan.specs.Program.{IsApartIn, IsLegal, IsReportOf, IsReported, OnCommand, report_on}
+use Rattle.pqscan.specs.Program.{IsApartIn, IsReportOf, IsReported, OnCommand, report_on}
 use Rattle.pqscan.specs.Report.{report, rows_in}
 use Rattle.pqscan.specs.Words.{Command}
-
-some_file : (command : Command) (bytes : List ℕ) (o : Option File) → file_of bytes ≡ o → IsValid command.request bytes → (o ≡ None → ⊥)
-some_file command bytes o at valid none = absurd cc
-
-same_report : (command : Command) (pages count : ℕ) (kept : List (ℕ × List Interval)) (chunks : List (List (DataType × List Cell))) (file : File) (text : List ℕ)
-    → kept ≡ kept_groups command.request file → given_chunks command.request file ≡ Some chunks → count ≡ given_count command.request file → text ≡ report command.summary kept chunks count pages
-    → report_on command pages file ≡ Some text
-same_report command pages count kept chunks file text k c n t =
-    ap (option_map (λ chunks. report command.summary (kept_groups command.request file) chunks (given_count command.request file) pages)) c
-    ∙ (λ i. Some (report command.summary (sym k i) chunks (sym n i) pages)) ∙ ap Some (sym t)
-
--- the text of a scan is the report
-pub is_reported : (told : Option (List ℕ)) (command : Command) (pages count : ℕ) (kept : List (ℕ × List Interval)) (chunks : List (List (DataType × List Cell))) (text : List ℕ)
-    → IfSome told (IsLegal command) → IfSome told (IsValid command.request) → OnFile told (λ file. kept ≡ kept_groups command.request file)
-    → OnFile told (λ file. given_chunks command.request file ≡ Some chunks) → OnFile told (λ file. count ≡ given_count command.request file)
-    → text ≡ report command.summary kept chunks count pages → IfSome told (λ bytes. IsReported command bytes pages (λ found. found ≡ text))
-is_reported None command pages count kept chunks text legal valid k c n t = tt
-is_reported (Some bytes) command pages count kept chunks text legal valid k c n t = record { legal = legal; valid = valid; report = at (file_of bytes) refl k c n } where
-  at : (o : Option File) → file_of bytes ≡ o → IfSome o (λ file. kept ≡ kept_groups command.request file) → IfSome o (λ file. given_chunks command.request file ≡ Some chunks)
-      → IfSome o (λ file. count ≡ given_count command.request file) → IsSomeAnd (option_and_then (report_on command pages) o) (λ found. found ≡ text)
-  at None found k c n = absurd (some_file command bytes None found valid refl)
-  at (Some file) found k c n = subst (λ o. IsSomeAnd o (λ found. found ≡ text)) (sym (same_report command pages count kept chunks file text k c n t)) refl
 
 -- ---- facts about the command and the bytes
 

@@ -1,19 +1,10 @@
 -- Where a word is split.
-use Rattle.std.proofs.Common.{◌≡◌, ℕ, zero, suc, ◌+◌, ◌<◌, Bool, true, false, List, [], ◌∷◌, length, take, drop, get_or, refl, sym, ◌∙◌, ap, arith, drop-cons}
+use Rattle.std.proofs.Common.{◌≡◌, ℕ, zero, suc, ◌+◌, ◌<◌, Bool, true, List, [], ◌∷◌, length, take, drop, get_or, refl, sym, ◌∙◌, ap, arith}
 use Rattle.std.specs.Prelude.{Some, None, option_map, ◌==◌, if◌then◌else◌}
 use Rattle.std.specs.Option.{option_or}
 use Rattle.pqscan.specs.Words.{end_sign, split_bound, split_field}
 
 -- ---- fields
-
--- one more byte in front, which is no colon
-pub no_colon_more : (text : List ℕ) (at : ℕ) → at < length text → (get_or text at 0 == 58) ≡ false → split_field (drop (at + 1) text) ≡ None → split_field (drop at text) ≡ None
-no_colon_more text at h other none =
-    let one : suc at ≡ at + 1 = omega arith in
-    ap split_field (drop-cons text at 0 h)
-    ∙ ap (λ rest. option_or (option_map (λ (found : List ℕ × List ℕ). (get_or text at 0 ∷ found.0, found.1)) (split_field rest)) (if get_or text at 0 == 58 then Some ([], rest) else None)) (ap (λ n. drop n text) one)
-    ∙ ap (λ o. option_or (option_map (λ (found : List ℕ × List ℕ). (get_or text at 0 ∷ found.0, found.1)) o) (if get_or text at 0 == 58 then Some ([], drop (at + 1) text) else None)) none
-    ∙ ap (λ b. if b then Some ([], drop (at + 1) text) else None) other
 
 -- the last colon stands at a place
 pub colon_at : (text : List ℕ) (at : ℕ) → at < length text → (get_or text at 0 == 58) ≡ true → split_field (drop (at + 1) text) ≡ None → split_field text ≡ Some (take at text, drop (at + 1) text)

@@ -607,64 +607,50 @@ fn numbers_of_32_bits(rt: HostRuntime) -> Result<(), Fail> {
 fn numbers_of_64_bits(rt: HostRuntime) -> Result<(), Fail> {
     let alloc = rt.alloc();
     let plain = "null 1999 -1999 0 null 86400000 1 2";
-    assert!(rt; has_cells(alloc, "time", DataType::Int64, plain)?);
-    assert!(rt; has_cells(alloc, "time", DataType::Date64, plain)?);
-    assert!(rt;
-        has_cells(
-            alloc,
-            "time",
-            DataType::Time64(TimeUnit::Microsecond),
-            plain
-        )?
-    );
-    assert!(rt; has_cells(alloc, "time", DataType::Duration(TimeUnit::Second), plain)?);
-    assert!(rt; has_cells(alloc, "time", DataType::Decimal(18, 0), plain)?);
     let word = "null 1999 4294965297 0 null 86400000 1 2";
-    assert!(rt; has_cells(alloc, "time", DataType::UInt32, word)?);
     let long = "null 1999 18446744073709549617 0 null 86400000 1 2";
-    assert!(rt; has_cells(alloc, "time", DataType::UInt64, long)?);
-    // The column has milliseconds.
-    let seconds = "null 1 -1 0 null 86400 0 0";
-    assert!(rt;
-        has_cells(
-            alloc,
+    let columns = [
+        ("time", DataType::Int64, plain),
+        ("time", DataType::Date64, plain),
+        ("time", DataType::Time64(TimeUnit::Microsecond), plain),
+        ("time", DataType::Duration(TimeUnit::Second), plain),
+        ("time", DataType::Decimal(18, 0), plain),
+        ("time", DataType::UInt32, word),
+        ("time", DataType::UInt64, long),
+        ("long_coded", DataType::Int64, "5 -1 5 5 5 -1 -1 5"),
+        (
+            "long_delta",
+            DataType::Int64,
+            "1 null 3 null 9000000000 2 null -4",
+        ),
+    ];
+    for (name, data_type, cells) in columns.iter() {
+        assert!(rt; has_cells(alloc, name, data_type.try_clone(alloc)?, cells)?);
+    }
+    Ok(())
+}
+
+#[test]
+fn times_in_other_units(rt: HostRuntime) -> Result<(), Fail> {
+    let alloc = rt.alloc();
+    // The column "time" has milliseconds, and "old" the day and its nanoseconds.
+    let columns = [
+        ("time", TimeUnit::Second, "null 1 -1 0 null 86400 0 0"),
+        (
             "time",
-            DataType::Timestamp(TimeUnit::Second, None),
-            seconds
-        )?
-    );
-    let nanos = "null 1999000000 -1999000000 0 null 86400000000000 1000000 2000000";
-    assert!(rt;
-        has_cells(
-            alloc,
-            "time",
-            DataType::Timestamp(TimeUnit::Nanosecond, None),
-            nanos
-        )?
-    );
-    let keys = "5 -1 5 5 5 -1 -1 5";
-    assert!(rt; has_cells(alloc, "long_coded", DataType::Int64, keys)?);
-    let deltas = "1 null 3 null 9000000000 2 null -4";
-    assert!(rt; has_cells(alloc, "long_delta", DataType::Int64, deltas)?);
-    let old = "86400 0 0 2 2 86400 86400 86400";
-    assert!(rt;
-        has_cells(
-            alloc,
+            TimeUnit::Nanosecond,
+            "null 1999000000 -1999000000 0 null 86400000000000 1000000 2000000",
+        ),
+        ("old", TimeUnit::Second, "86400 0 0 2 2 86400 86400 86400"),
+        (
             "old",
-            DataType::Timestamp(TimeUnit::Second, None),
-            old
-        )?
-    );
-    let ns =
-        "86400000000000 -1 1 2000000000 2000000000 86400000000000 86400000000000 86400000000000";
-    assert!(rt;
-        has_cells(
-            alloc,
-            "old",
-            DataType::Timestamp(TimeUnit::Nanosecond, None),
-            ns
-        )?
-    );
+            TimeUnit::Nanosecond,
+            "86400000000000 -1 1 2000000000 2000000000 86400000000000 86400000000000 86400000000000",
+        ),
+    ];
+    for (name, unit, cells) in columns {
+        assert!(rt; has_cells(alloc, name, DataType::Timestamp(unit, None), cells)?);
+    }
     Ok(())
 }
 

@@ -8,16 +8,17 @@ use Rattle.column_values.specs.Column.{DataPagesAre}
 use Rattle.column_values.specs.Outcome.{causes_in}
 use Rattle.parquet_scan.specs.Decoded.{column_rows}
 use Rattle.parquet_scan.proofs.CostLemmas.{few_located}
-use Rattle.parquet_scan.proofs.LocatedLemmas.{typed_located}
-use Rattle.parquet_scan.proofs.PageLemmas.{if_ok, on_ok}
+use Rattle.parquet_scan.proofs.PageLemmas.{if_ok}
 use Rattle.parquet_scan.proofs.located.decode_located.Goals as goal
+use Rattle.std.proofs.lemmas.Result.{on_ok_weaker}
+use Rattle.flat_values.proofs.ReaderLemmas.{located_pages_are}
 
 pub decode_column-requires-clause-typed : goal.decode_column-requires-clause-typed
 decode_column-requires-clause-typed g c =
     let stored = c.args.column.now.descriptor.primitive_type in
     let items : Vec ℕ Global → List ℕ = λ body. body.items in
     subst (λ (lent : Lent). DataPagesAre (λ page. page.type ≡ stored) lent.pages) (sym c.in_ok-reader.ensures.lends)
-    (typed_located stored (dictionary_in c.args.before.items) (zip (filter is_wanted c.args.pages.items) (map items c.args.bodies.items)))
+    (located_pages_are (λ page. page.type ≡ stored) stored (λ page same. same) (dictionary_in c.args.before.items) (zip (filter is_wanted c.args.pages.items) (map items c.args.bodies.items)))
 
 pub returns-clause-rows : goal.returns-clause-rows
 returns-clause-rows g c =
@@ -34,7 +35,7 @@ returns-clause-lent g c =
     let items : Vec ℕ Global → List ℕ = λ body. body.items in
     let wanted = filter is_wanted c.args.pages.items in
     let bodies = map items c.args.bodies.items in
-    on_ok c.decode_column.result
+    on_ok_weaker c.decode_column.result
     (λ lent. omega (
       arith,
       lent,

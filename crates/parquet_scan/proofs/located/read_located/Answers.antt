@@ -2,7 +2,7 @@ use Rattle.std.proofs.Common.{◌≡◌, ◌∙◌, ◌+◌, ◌-◌, ◌<◌, �
 use Rattle.std.specs.Prelude.{◌==◌, vec_len, Option, IfSome, filter, flat_map, sum_by, if◌then◌else◌, Result, Ok, Err, IfOk, OnOk}
 use Rattle.std.proofs.lemmas.Bool.{eq-eqb, eqb-true, true≢false}
 use Rattle.std.proofs.lemmas.List.{length-map}
-use Rattle.std.proofs.lemmas.Result.{err_from_is_err_and}
+use Rattle.std.proofs.lemmas.Result.{err_from_is_err_and, on_ok_weaker}
 use Rattle.columns_core.specs.Array.{cells}
 use Rattle.columns_core.specs.Causes.{Cause}
 use Rattle.columns_core.specs.Refusals.{Refuses}
@@ -28,7 +28,7 @@ use Rattle.parquet_scan.specs.Scan.{FailsBy}
 use Rattle.parquet_scan.proofs.CostLemmas.{lent_located, taken_located}
 use Rattle.parquet_scan.proofs.LocationLemmas.{selection_fails}
 use Rattle.parquet_scan.proofs.OpenedLemmas.{IsRead, IsSelected, before_causes, before_in, bodies_in, entries_shaped, locations_in, opened_by, read_count, read_fine, read_in, read_items, read_wrong, reading_of, told_causes, told_parts, within_opened}
-use Rattle.parquet_scan.proofs.PageLemmas.{if_err, if_ok, ok_always, on_ok}
+use Rattle.parquet_scan.proofs.PageLemmas.{if_err, if_ok, ok_always}
 use Rattle.parquet_scan.proofs.ScanLemmas.{fails_by_memory, fails_more, fails_within}
 use Rattle.parquet_scan.proofs.located.read_located.Goals as goal
 
@@ -294,7 +294,7 @@ returns-clause-lent g c =
     let list = c.in_ok-locations.locations.items in
     let entries = c.in_ok-pages.pages.items in
     let selected : IsSelected group intervals list entries = record { shape = c.in_ok-locations.ensures.shaped; are = ap (λ found. selected_pages intervals found group.num_rows) (sym c.deref.ensures.value) ∙ c.in_ok-pages.ensures.pages } in
-    on_ok c.decode_located.result (λ most. lent_located group column intervals list entries selected told c.args.steps.now c.decode_located.new.steps at most) c.decode_located.ensures.lent
+    on_ok_weaker c.decode_located.result (λ most. lent_located group column intervals list entries selected told c.args.steps.now c.decode_located.new.steps at most) c.decode_located.ensures.lent
 
 pub returns-clause-taken : goal.returns-clause-taken
 returns-clause-taken g c =

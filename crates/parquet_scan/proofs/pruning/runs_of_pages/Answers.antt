@@ -4,8 +4,9 @@ use Rattle.std.proofs.lemmas.Result.{err_from_is_err_and}
 use Rattle.parquet_base.specs.Intervals.{AreAdjacent, is_kept_page, maximal_runs}
 use Rattle.parquet_base.specs.declared.interval.Interval.{Interval}
 use Rattle.parquet_scan.specs.Pages.{page_keeps}
-use Rattle.parquet_scan.proofs.LocationLemmas.{adjacent_pages, as_many_pages, rows_fail}
+use Rattle.parquet_scan.proofs.LocationLemmas.{adjacent_pages, rows_fail}
 use Rattle.parquet_scan.proofs.pruning.runs_of_pages.Goals as goal
+use Rattle.parquet_page.proofs.SelectionLemmas.{pages-length}
 
 pub returns-in_err-pages-clause-memory : goal.returns-in_err-pages-clause-memory
 returns-in_err-pages-clause-memory c =
@@ -14,7 +15,7 @@ returns-in_err-pages-clause-memory c =
 
 pub kept_pages-requires : goal.kept_pages-requires
 kept_pages-requires c =
-    omega (arith, c.requires.length, as_many_pages c.args.locations.now c.args.num_rows c.in_ok-pages.pages.items c.in_ok-pages.ensures.rows, ap length c.deref.ensures.value)
+    omega (arith, c.requires.length, pages-length c.args.locations.now c.args.num_rows c.in_ok-pages.pages.items c.in_ok-pages.ensures.rows, ap length c.deref.ensures.value)
 
 pub page_runs-requires-clause-adjacent : goal.page_runs-requires-clause-adjacent
 page_runs-requires-clause-adjacent c =

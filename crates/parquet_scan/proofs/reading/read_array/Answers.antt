@@ -5,8 +5,9 @@ use Rattle.parquet_scan.specs.Costs.{lent_of_column, lent_of_read, taken_of_read
 use Rattle.parquet_scan.specs.Counting.{column_taken, rows_read}
 use Rattle.parquet_scan.proofs.CostLemmas.{lent_named, rises_as, taken_named}
 use Rattle.parquet_scan.proofs.GivenLemmas.{told_column}
-use Rattle.parquet_scan.proofs.PageLemmas.{both_if, on_ok}
+use Rattle.parquet_scan.proofs.PageLemmas.{both_if}
 use Rattle.parquet_scan.proofs.reading.read_array.Goals as goal
+use Rattle.std.proofs.lemmas.Result.{on_ok_weaker}
 
 pub returns-clause-column : goal.returns-clause-column
 returns-clause-column g c =
@@ -24,7 +25,7 @@ returns-clause-lent g c =
     let column = c.in-Some.column.now in
     let rows = rows_read by_pages group c.args.kept.now.intervals in
     let named = sym c.column_named.ensures ∙ ap option_copied c.in-Some.is in
-    on_ok c.read_column.result (rises_as told c.args.steps.now c.read_column.new.steps (λ bytes. lent_of_read by_pages bytes group rows field.data_type column) (λ bytes. lent_of_column by_pages bytes group rows field)
+    on_ok_weaker c.read_column.result (rises_as told c.args.steps.now c.read_column.new.steps (λ bytes. lent_of_read by_pages bytes group rows field.data_type column) (λ bytes. lent_of_column by_pages bytes group rows field)
     (lent_named told by_pages group rows field column named)) c.read_column.ensures.lent
 
 pub returns-clause-taken : goal.returns-clause-taken
@@ -36,5 +37,5 @@ returns-clause-taken g c =
     let column = c.in-Some.column.now in
     let rows = rows_read by_pages group c.args.kept.now.intervals in
     let named = sym c.column_named.ensures ∙ ap option_copied c.in-Some.is in
-    on_ok c.read_column.result (rises_as told (g.S.Source.taken c.args.source.now) (g.S.Source.taken c.read_column.new.source) (λ bytes. (if by_pages then offset_index_length column else 0) + taken_of_read by_pages bytes group rows field.data_type column) (λ bytes. column_taken by_pages bytes group rows field)
+    on_ok_weaker c.read_column.result (rises_as told (g.S.Source.taken c.args.source.now) (g.S.Source.taken c.read_column.new.source) (λ bytes. (if by_pages then offset_index_length column else 0) + taken_of_read by_pages bytes group rows field.data_type column) (λ bytes. column_taken by_pages bytes group rows field)
     (taken_named told by_pages group rows field column named)) c.read_column.ensures.taken

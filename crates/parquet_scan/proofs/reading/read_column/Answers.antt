@@ -1,7 +1,7 @@
 use Rattle.std.proofs.Common.{◌≡◌, ◌∙◌, ◌+◌, Bool, true, false, [], List, length, map, replicate, ap, sym, subst}
 use Rattle.std.specs.Prelude.{IfErr, IfOk, IfSome, OnOk, Some, if◌then◌else◌}
 use Rattle.std.proofs.lemmas.List.FromFn.{length-range_with_len}
-use Rattle.std.proofs.lemmas.Result.{err_from_is_err_and}
+use Rattle.std.proofs.lemmas.Result.{err_from_is_err_and, on_ok_weaker}
 use Rattle.columns_core.specs.Array.{cells}
 use Rattle.columns_core.specs.declared.cell.Cell.{Cell, Null}
 use Rattle.columns_core.specs.declared.data_type.DataType.{DataType}
@@ -16,7 +16,7 @@ use Rattle.parquet_scan.specs.Counting.{every_row, rows_read}
 use Rattle.parquet_scan.specs.Scan.{FailsBy, RisesBy}
 use Rattle.parquet_scan.proofs.CostLemmas.{lent_as_read, rises_as, taken_as_read}
 use Rattle.parquet_scan.proofs.GivenLemmas.{cells_read, nulls_read}
-use Rattle.parquet_scan.proofs.PageLemmas.{if_err, if_ok, on_ok}
+use Rattle.parquet_scan.proofs.PageLemmas.{if_err, if_ok}
 use Rattle.parquet_scan.proofs.ScanLemmas.{fails_same, fails_within, in_step, none_as, of_read}
 use Rattle.parquet_scan.proofs.reading.read_column.Goals as goal
 
@@ -52,7 +52,7 @@ returns-then-by_pages-clause-ok g c =
     let runs = c.args.kept.now.intervals in
     let ok = subst (λ (runs : List Interval). OnOk c.read_located.result (IfSome told (λ bytes. causes_of_chunk true bytes group (rows_of runs) data_type column ≡ []))) c.as_slice-intervals.ensures c.read_located.ensures.ok in
     subst (λ (b : Bool). OnOk c.read_located.result (IfSome told (λ bytes. causes_of_read b bytes group (rows_read b group runs) data_type column ≡ []))) (sym c.if-by_pages.true)
-    (on_ok c.read_located.result (λ none. none_as told (λ bytes. causes_of_read true bytes group (rows_of runs) data_type column) (λ bytes. causes_of_chunk true bytes group (rows_of runs) data_type column)
+    (on_ok_weaker c.read_located.result (λ none. none_as told (λ bytes. causes_of_read true bytes group (rows_of runs) data_type column) (λ bytes. causes_of_chunk true bytes group (rows_of runs) data_type column)
     (of_read told true group (rows_of runs) data_type column false c.in_ok-check_pair.ensures.ok (sym c.is_null_type.ensures ∙ c.if-is_null_type.false)) none) ok)
 
 pub returns-then-by_pages-clause-fails : goal.returns-then-by_pages-clause-fails
@@ -91,7 +91,7 @@ returns-then-by_pages-clause-lent g c =
     let now = c.read_located.new.steps in
     let lent = subst (λ (runs : List Interval). OnOk c.read_located.result (RisesBy told start now (λ bytes. lent_of_chunk true bytes group (rows_of runs) column))) c.as_slice-intervals.ensures c.read_located.ensures.lent in
     subst (λ (b : Bool). OnOk c.read_located.result (RisesBy told start now (λ bytes. lent_of_read b bytes group (rows_read b group runs) data_type column))) (sym c.if-by_pages.true)
-    (on_ok c.read_located.result (rises_as told start now (λ bytes. lent_of_chunk true bytes group (rows_of runs) column) (λ bytes. lent_of_read true bytes group (rows_of runs) data_type column)
+    (on_ok_weaker c.read_located.result (rises_as told start now (λ bytes. lent_of_chunk true bytes group (rows_of runs) column) (λ bytes. lent_of_read true bytes group (rows_of runs) data_type column)
     (lent_as_read told true group (rows_of runs) data_type column (sym c.is_null_type.ensures ∙ c.if-is_null_type.false))) lent)
 
 pub returns-then-by_pages-clause-taken : goal.returns-then-by_pages-clause-taken
@@ -106,7 +106,7 @@ returns-then-by_pages-clause-taken g c =
     let index = offset_index_length column in
     let taken = subst (λ (runs : List Interval). OnOk c.read_located.result (RisesBy told start now (λ bytes. index + taken_of_chunk true bytes group (rows_of runs) column))) c.as_slice-intervals.ensures c.read_located.ensures.taken in
     subst (λ (b : Bool). OnOk c.read_located.result (RisesBy told start now (λ bytes. (if b then index else 0) + taken_of_read b bytes group (rows_read b group runs) data_type column))) (sym c.if-by_pages.true)
-    (on_ok c.read_located.result (rises_as told start now (λ bytes. index + taken_of_chunk true bytes group (rows_of runs) column) (λ bytes. index + taken_of_read true bytes group (rows_of runs) data_type column)
+    (on_ok_weaker c.read_located.result (rises_as told start now (λ bytes. index + taken_of_chunk true bytes group (rows_of runs) column) (λ bytes. index + taken_of_read true bytes group (rows_of runs) data_type column)
     (taken_as_read told true index group (rows_of runs) data_type column (sym c.is_null_type.ensures ∙ c.if-is_null_type.false))) taken)
 
 pub returns-clause-fails : goal.returns-clause-fails

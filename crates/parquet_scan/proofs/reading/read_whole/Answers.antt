@@ -12,9 +12,10 @@ use Rattle.parquet_scan.specs.Decoded.{column_rows}
 use Rattle.parquet_scan.proofs.CauseLemmas.{TellsOf}
 use Rattle.parquet_scan.proofs.CellLemmas.{cells_counted, told_items, told_none, told_wrong}
 use Rattle.parquet_scan.proofs.CostLemmas.{lent_walked}
-use Rattle.parquet_scan.proofs.PageLemmas.{if_err, if_ok, ok_if, on_ok}
+use Rattle.parquet_scan.proofs.PageLemmas.{if_err, if_ok, ok_if}
 use Rattle.parquet_scan.proofs.ScanLemmas.{fails_within}
 use Rattle.parquet_scan.proofs.reading.read_whole.Goals as goal
+use Rattle.std.proofs.lemmas.Result.{on_ok_weaker}
 
 pub decode_column-requires-clause-typed : goal.decode_column-requires-clause-typed
 decode_column-requires-clause-typed g c =
@@ -63,6 +64,6 @@ returns-clause-cells g c =
 pub returns-clause-lent : goal.returns-clause-lent
 returns-clause-lent g c =
     let column = c.args.column.now in
-    on_ok c.decode_column.result (λ e. lent_walked (g.S.Source.told c.args.source.now) c.args.group.now column c.in_ok-bytes.bytes.items c.args.steps.now c.decode_column.new.steps c.in_ok-bytes.ensures.chunk c.in_ok-bytes.ensures.counted
+    on_ok_weaker c.decode_column.result (λ e. lent_walked (g.S.Source.told c.args.source.now) c.args.group.now column c.in_ok-bytes.bytes.items c.args.steps.now c.decode_column.new.steps c.in_ok-bytes.ensures.chunk c.in_ok-bytes.ensures.counted
     (e ∙ ap (λ (lent : Lent). c.args.steps.now + length lent.pages) c.in_ok-reader.ensures.lends))
     c.decode_column.ensures.lent
