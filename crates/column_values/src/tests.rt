@@ -18,31 +18,41 @@ fn run_of(part: Option<ValidityPart>) -> Option<Run> {
     }
 }
 
+const OPTIONAL: PrimitiveType = PrimitiveType {
+    physical_type: PhysicalType::Int32,
+    logical_type: None,
+    repetition: Repetition::Optional,
+};
+
+const FORTY_VALUES: DataPageHeader = DataPageHeader::V1 {
+    num_values: 40,
+    encoding: 0,
+    definition_encoding: 3,
+};
+
+/// Forty levels in one packed run.
+const FORTY_LEVELS: [u8; 10] = [6, 0, 0, 0, 11, 0xb5, 0x0f, 0xf0, 0x5a, 0x3c];
+
 #[test]
-fn parts_of_selected_rows(rt: HostRuntime) -> Result<(), Fail> {
-    let optional = PrimitiveType {
-        physical_type: PhysicalType::Int32,
-        logical_type: None,
-        repetition: Repetition::Optional,
-    };
-    // Forty levels in one packed run.
-    let whole = DataPage {
-        header: DataPageHeader::V1 {
-            num_values: 40,
-            encoding: 0,
-            definition_encoding: 3,
-        },
-        buffer: &[6, 0, 0, 0, 11, 0xb5, 0x0f, 0xf0, 0x5a, 0x3c],
-        type_: &optional,
+fn parts_of_all_rows(rt: HostRuntime) -> Result<(), Fail> {
+    let page = DataPage {
+        header: FORTY_VALUES,
+        buffer: &FORTY_LEVELS,
+        type_: &OPTIONAL,
         selected_rows: None,
     };
-    let mut walk = FilteredOptionalPageValidity::try_new(&whole)?;
+    let mut walk = FilteredOptionalPageValidity::try_new(&page)?;
     assert_eq!(rt;
-        word_of(walk.next_part(&whole, 40)),
+        word_of(walk.next_part(&page, 40)),
         Some((0x5af0_0fb5, 32, 17))
     );
-    assert_eq!(rt; word_of(walk.next_part(&whole, 40)), Some((0x3c, 8, 4)));
-    assert!(rt; walk.next_part(&whole, 40).is_none());
+    assert_eq!(rt; word_of(walk.next_part(&page, 40)), Some((0x3c, 8, 4)));
+    assert!(rt; walk.next_part(&page, 40).is_none());
+    Ok(())
+}
+
+#[test]
+fn parts_of_selected_rows(rt: HostRuntime) -> Result<(), Fail> {
     // Rows 1 to 3 and 6 to 25.
     let rows = [
         Interval {
@@ -55,8 +65,10 @@ fn parts_of_selected_rows(rt: HostRuntime) -> Result<(), Fail> {
         },
     ];
     let page = DataPage {
+        header: FORTY_VALUES,
+        buffer: &FORTY_LEVELS,
+        type_: &OPTIONAL,
         selected_rows: Some(&rows),
-        ..whole
     };
     let mut walk = FilteredOptionalPageValidity::try_new(&page)?;
     assert_eq!(rt; run_of(walk.next_part(&page, 40)), Some(Run::Passed(1)));
