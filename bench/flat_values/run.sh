@@ -4,7 +4,7 @@
 . "$(dirname "$0")/../scratch.sh"
 mkdir -p "$work/inputs"
 python3 "$here/inputs.py" "$work/inputs" > "$work/list"
-build flat_times 'parquet_base columns_core parquet_thrift parquet_encoding parquet_meta parquet_page column_values flat_values' plain 0 /dev/null /dev/null
+build flat_times 'parquet_base columns_core parquet_thrift parquet_encoding parquet_meta parquet_page page_decoding flat_values' plain 0 /dev/null /dev/null
 python3 - "$ours" "$twin" "$work/list" <<'PY'
 import math, subprocess, sys
 

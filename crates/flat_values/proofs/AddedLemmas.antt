@@ -10,8 +10,8 @@ use Rattle.parquet_page.specs.Stored.{Stored}
 use Rattle.flat_values.specs.Added.{Adds}
 use Rattle.flat_values.specs.Conversion.{Item, Value, NotInRange}
 use Rattle.flat_values.specs.Outcomes.{outcome_of}
-use Rattle.column_values.specs.Outcome.{Outcome, Given, Refused, IsCausedBy, causes_in}
-use Rattle.column_values.proofs.RowLemmas.{caused-left, caused-right}
+use Rattle.page_decoding.specs.Outcome.{Outcome, Given, Refused, IsCausedBy, causes_in}
+use Rattle.page_decoding.proofs.RowLemmas.{caused-left, caused-right}
 
 -- an error tells of something that is refused
 pub refused_at : {A : Type 0} (f : A → Outcome) (items : List A) (i : ℕ) (d item : A) (causes : List Cause) (error : Error) → i < length items → item ≡ get_or items i d → f item ≡ Refused causes → IsOneOf causes (cause_of error) → IsCausedBy (map f items) error

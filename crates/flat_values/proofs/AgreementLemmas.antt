@@ -17,7 +17,7 @@ use Rattle.parquet_page.specs.Spelling.{dictionary_entries, page_encoding, place
 use Rattle.parquet_page.specs.Stored.{Stored}
 use Rattle.parquet_page.specs.Values.{Encoding, Plain, Keys, DeltaPacked, DeltaLengths, dictionary_keys, named_by, unless_none, values_in}
 use Rattle.parquet_page.proofs.SpelledLemmas.{AreTold, values_are_spelled}
-use Rattle.column_values.specs.Outcome.{Outcome, Given, all_given, causes_in, cells_in}
+use Rattle.page_decoding.specs.Outcome.{Outcome, Given, all_given, causes_in, cells_in}
 use Rattle.flat_values.specs.Agreement.{AreEntriesOf, PlacesGiveItems}
 use Rattle.flat_values.specs.Conversion.{Conversion, Item, Value, NotInRange, NotText, convert, convert_place}
 use Rattle.flat_values.specs.Items.{page_items}

@@ -9,10 +9,10 @@ use Rattle.columns_core.specs.declared.data_type.DataType.{DataType}
 use Rattle.columns_core.specs.declared.error.Error.{Error}
 use Rattle.parquet_meta.specs.declared.metadata.PhysicalType.{PhysicalType}
 use Rattle.parquet_page.specs.Content.{Content, DataContent, DictContent}
-use Rattle.column_values.specs.NextChunk.{IsFirstChunk}
-use Rattle.column_values.specs.Outcome.{Outcome, Given, causes_in}
-use Rattle.column_values.specs.Column.{page_rows}
-use Rattle.column_values.specs.Standing.{Standing, after_page, after_pages}
+use Rattle.page_decoding.specs.NextChunk.{IsFirstChunk}
+use Rattle.page_decoding.specs.Outcome.{Outcome, Given, causes_in}
+use Rattle.page_decoding.specs.Column.{page_rows}
+use Rattle.page_decoding.specs.Standing.{Standing, after_page, after_pages}
 use Rattle.flat_values.specs.Arrays.{ArraysLeft}
 use Rattle.flat_values.specs.Conversion.{Conversion}
 use Rattle.flat_values.specs.NextArray.{GivesArray, arrays_at_most, rows_wanted}

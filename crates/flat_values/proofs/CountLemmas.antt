@@ -20,7 +20,7 @@ use Rattle.parquet_meta.specs.declared.metadata.PhysicalType.TheVariants as phys
 use Rattle.parquet_page.specs.Stored.{Stored}
 use Rattle.parquet_page.specs.Values.{Encoding, Plain, Keys, DeltaPacked, DeltaLengths, delta_length_values, delta_values, dictionary_keys, plain_values, values_in}
 use Rattle.parquet_page.proofs.SpelledLemmas.{length-keys}
-use Rattle.column_values.specs.Outcome.{Outcome}
+use Rattle.page_decoding.specs.Outcome.{Outcome}
 use Rattle.flat_values.specs.Conversion.{Conversion}
 use Rattle.flat_values.specs.Outcomes.{entry_outcome, stored_outcome, value_outcomes}
 use Rattle.flat_values.proofs.ItemLemmas.{length-chunks}

@@ -8,8 +8,8 @@ use Rattle.columns_core.specs.declared.cell.Cell.{Cell, Null}
 use Rattle.parquet_page.specs.Levels.{present_count}
 use Rattle.parquet_page.specs.Plan.{Step, along, plan, plan_from}
 use Rattle.parquet_page.proofs.SpelledLemmas.{absent_same, present_suc}
-use Rattle.column_values.specs.FilteredLeft.{stored_values}
-use Rattle.column_values.specs.Outcome.{Outcome, Given}
+use Rattle.page_decoding.specs.FilteredLeft.{stored_values}
+use Rattle.page_decoding.specs.Outcome.{Outcome, Given}
 use Rattle.flat_values.specs.Added.{Adds}
 use Rattle.flat_values.specs.Decoded.{IsMaskFor, found_mask, marked, marked_cells, spread_over, with_nulls, with_places, with_values}
 use Rattle.flat_values.specs.FlatLeft.{given_along}

@@ -29,7 +29,7 @@ use Rattle.parquet_page.specs.Opened.{page_causes}
 use Rattle.parquet_page.specs.Spelling.{page_keys, places_and_values, spelled}
 use Rattle.parquet_page.specs.Stored.{Stored, Number, Words, Octets}
 use Rattle.parquet_page.specs.Values.{dictionary_keys, plain_values}
-use Rattle.column_values.specs.Outcome.{Given, Refused}
+use Rattle.page_decoding.specs.Outcome.{Given, Refused}
 use Rattle.flat_values.specs.Conversion.{Item, Value, NotInRange, Keep, convert}
 use Rattle.flat_values.specs.Outcomes.{place_outcomes, selected_outcomes, value_outcomes}
 use Rattle.flat_values.specs.Pairs.{entry_from_physical, conversion}

@@ -22,7 +22,7 @@ use Rattle.parquet_page.specs.Opened.{key_causes}
 use Rattle.parquet_page.specs.Stored.{Octets}
 use Rattle.parquet_page.specs.Values as encoding
 use Rattle.parquet_page.specs.Values.{dictionary_keys, plain_values}
-use Rattle.column_values.specs.Outcome.{Given, causes_in, refusal_of}
+use Rattle.page_decoding.specs.Outcome.{Given, causes_in, refusal_of}
 use Rattle.flat_values.specs.Added.{Adds}
 use Rattle.flat_values.specs.Conversion.{Conversion, Keep}
 use Rattle.flat_values.specs.FixedLeft.{fixed_outcomes}

@@ -32,10 +32,10 @@ use Rattle.parquet_page.specs.declared.validity_part.ValidityPart.TheVariants as
 use Rattle.parquet_page.specs.declared.validity_part.ValidityWord.{ValidityWord}
 use Rattle.parquet_page.proofs.PlanLemmas.{along-null, along-passed, along-plan, along-present}
 use Rattle.parquet_page.proofs.SpelledLemmas.{are_placed}
-use Rattle.column_values.proofs.FilteredLemmas.{stored-plan}
-use Rattle.column_values.proofs.RowLemmas.{caused-left, caused-right}
-use Rattle.column_values.specs.FilteredLeft.{stored_values}
-use Rattle.column_values.specs.Outcome.{Outcome, Given, IsCausedBy, causes_in, page_outcomes}
+use Rattle.page_decoding.proofs.FilteredLemmas.{stored-plan}
+use Rattle.page_decoding.proofs.RowLemmas.{caused-left, caused-right}
+use Rattle.page_decoding.specs.FilteredLeft.{stored_values}
+use Rattle.page_decoding.specs.Outcome.{Outcome, Given, IsCausedBy, causes_in, page_outcomes}
 use Rattle.flat_values.specs.Conversion.{Conversion}
 use Rattle.flat_values.specs.FlatLeft.{behind_part, behind_run, causes_unless_none, given_along, part_outcomes, read_encoding, run_outcomes, value_bytes}
 use Rattle.flat_values.specs.Outcomes.{place_outcomes, placed_outcome, selected_outcomes, value_causes, value_outcomes}

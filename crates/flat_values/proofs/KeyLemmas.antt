@@ -4,7 +4,7 @@ use Rattle.std.specs.Option.{option_map_or}
 use Rattle.std.proofs.lemmas.Option.{slice_get-get_or, slice_get_past}
 use Rattle.columns_core.specs.Causes.{Cause, ExternalFormat, IsOneOf, OutOfSpec, cause_of}
 use Rattle.columns_core.specs.declared.error.Error.{Error}
-use Rattle.column_values.proofs.RowLemmas.{caused-right}
+use Rattle.page_decoding.proofs.RowLemmas.{caused-right}
 use Rattle.flat_values.proofs.AddedLemmas.{refused_at}
 use Rattle.std.proofs.lemmas.Bool.{false≢true, le-leb, leb-false, leb-true, lt-leb, or_parts}
 use Rattle.parquet_base.specs.declared.varint.Unspelled.{Unspelled}
@@ -15,7 +15,7 @@ use Rattle.parquet_encoding.proofs.WalkLemmas.{passes_none}
 use Rattle.parquet_page.specs.Opened.{key_causes, passes}
 use Rattle.columns_core.specs.declared.cell.Cell.{Cell}
 use Rattle.parquet_encoding.proofs.StepLemmas.{something}
-use Rattle.column_values.specs.Outcome.{Given, IsCausedBy, Outcome, Refused}
+use Rattle.page_decoding.specs.Outcome.{Given, IsCausedBy, Outcome, Refused}
 use Rattle.flat_values.specs.Outcomes.{entry_outcome}
 use Rattle.std.specs.Prelude.{◌||◌, ◌==◌, nat_le, slice_get, max, min, replicate, Contains, Option, Some, None, unwrap_or, Result, Err, is_ok, is_some}
 use Rattle.std.proofs.lemmas.List.{get_or-map, get_or_default, take_more, length-map, length-take, take-append-drop, take-append-le, take_all}

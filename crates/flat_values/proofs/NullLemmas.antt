@@ -5,8 +5,8 @@ use Rattle.std.proofs.Math.Nat.{div-eq-sub-div, div-eq_of_lt, mod-eq-sub-mod, mo
 use Rattle.std.proofs.lemmas.Bool.{cases_lt}
 use Rattle.std.proofs.lemmas.List.{length-drop, length-take}
 use Rattle.parquet_base.specs.Pieces.{cut}
-use Rattle.column_values.specs.Queue.{IsChunkSize}
-use Rattle.column_values.proofs.CutLemmas.{cut-first}
+use Rattle.page_decoding.specs.Queue.{IsChunkSize}
+use Rattle.page_decoding.proofs.CutLemmas.{cut-first}
 use Rattle.flat_values.specs.NullChunks.{cut_rows, rest_chunk}
 
 full_chunk : (size left : ℕ) → 0 < size → size ≤ left → cut_rows (Some size) left ≡ size ∷ cut_rows (Some size) (left - size)

@@ -14,7 +14,7 @@ use Rattle.parquet_page.specs.Content.{DictContent}
 use Rattle.parquet_page.specs.Opened.{key_causes}
 use Rattle.parquet_page.specs.Stored.{Stored}
 use Rattle.parquet_page.specs.Values.{delta_values, dictionary_keys, plain_values}
-use Rattle.column_values.specs.Outcome.{Outcome, Given, IsCausedBy, all_given, causes_in, cells_in, refusal_of}
+use Rattle.page_decoding.specs.Outcome.{Outcome, Given, IsCausedBy, all_given, causes_in, cells_in, refusal_of}
 use Rattle.flat_values.specs.Added.{Adds}
 use Rattle.flat_values.specs.Conversion.{Conversion}
 use Rattle.flat_values.specs.Encodings.{as_encoding}

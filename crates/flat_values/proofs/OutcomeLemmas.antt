@@ -9,8 +9,8 @@ use Rattle.parquet_meta.specs.declared.metadata.PhysicalType.{PhysicalType}
 use Rattle.parquet_page.specs.Content.{DictContent}
 use Rattle.parquet_page.specs.Spelling.{dictionary_entries}
 use Rattle.parquet_page.specs.Stored.{Stored}
-use Rattle.column_values.specs.Outcome.{Outcome, Given, all_given, causes_in, cells_in, refusal_of}
-use Rattle.column_values.proofs.NextLemmas.{causes_in-given}
+use Rattle.page_decoding.specs.Outcome.{Outcome, Given, all_given, causes_in, cells_in, refusal_of}
+use Rattle.page_decoding.proofs.NextLemmas.{causes_in-given}
 use Rattle.flat_values.specs.Conversion.{Conversion}
 use Rattle.flat_values.specs.Outcomes.{dictionary_cells, stored_outcome}
 

@@ -4,7 +4,7 @@ use Rattle.std.specs.Prelude.{min}
 use Rattle.std.proofs.Math.Seq.{take-nil, drop-nil}
 use Rattle.std.proofs.lemmas.List.{drop-drop, drop-map, length-drop, length-map, take-map}
 use Rattle.std.proofs.lemmas.Simd.{map-map}
-use Rattle.column_values.specs.Outcome.{Outcome}
+use Rattle.page_decoding.specs.Outcome.{Outcome}
 use Rattle.parquet_page.specs.Stored.{Stored}
 
 drop-to : {A : Type 0} (end k n : ℕ) (xs : List A) → n ≡ length xs → end ≡ min k n → drop end xs ≡ drop k xs

@@ -8,7 +8,7 @@ use Rattle.parquet_page.specs.Content.{DataContent}
 use Rattle.parquet_page.specs.Lent.{Lent, behind_dictionary, chunk_lent, data_of, dictionary_of, if_there, in_front, lent_data, lent_parts, located_lent, wanted_page}
 use Rattle.parquet_page.specs.Spelling.{has_plain_entries}
 use Rattle.parquet_page.specs.declared.page.FilteredPage.{FilteredPage}
-use Rattle.column_values.specs.Column.{DataPagesAre}
+use Rattle.page_decoding.specs.Column.{DataPagesAre}
 
 module _ (P : DataContent → Type 0) (type : PrimitiveType) (all : (page : DataContent) → page.type ≡ type → P page) where
   data_pages : (pages : List ChunkPage) → DataPagesAre P (map (data_of type None) pages)

@@ -5,8 +5,8 @@ use Rattle.std.proofs.lemmas.List.{drop-drop, map-append, take-map}
 use Rattle.columns_core.specs.Causes.{Cause, IsOneOf, IsWantOfMemory, cause_of}
 use Rattle.columns_core.specs.declared.cell.Cell.{Cell}
 use Rattle.columns_core.specs.declared.error.Error.{Error}
-use Rattle.column_values.specs.Outcome.{Outcome, Given, IsCausedBy, causes_in}
-use Rattle.column_values.proofs.RowLemmas.{caused-left, caused-right, take-split}
+use Rattle.page_decoding.specs.Outcome.{Outcome, Given, IsCausedBy, causes_in}
+use Rattle.page_decoding.proofs.RowLemmas.{caused-left, caused-right, take-split}
 use Rattle.flat_values.specs.Added.{Adds}
 
 abbrev pub given_cells : {T : Type 0} → (T → Cell) → List T → List Outcome

@@ -17,7 +17,7 @@ use Rattle.parquet_encoding.proofs.BitsLemmas.{packed-drop}
 use Rattle.parquet_meta.specs.declared.metadata.PhysicalType.TheVariants.{Boolean}
 use Rattle.parquet_page.specs.Stored.{Truth}
 use Rattle.parquet_page.specs.Values.{Encoding, Plain, Keys, DeltaPacked, DeltaLengths, goes_with, plain_values}
-use Rattle.column_values.specs.Outcome.{Outcome, Given, causes_in, refusal_of}
+use Rattle.page_decoding.specs.Outcome.{Outcome, Given, causes_in, refusal_of}
 use Rattle.flat_values.specs.Conversion.{Keep}
 use Rattle.flat_values.specs.Outcomes.{dictionary_cells, stored_outcome, value_causes, value_outcomes}
 use Rattle.flat_values.proofs.OutcomeLemmas.{all_entries, no_entries}

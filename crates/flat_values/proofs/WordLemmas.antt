@@ -8,8 +8,8 @@ use Rattle.columns_core.specs.declared.error.Error.{Error}
 use Rattle.parquet_page.specs.Levels.{present_count}
 use Rattle.parquet_page.specs.Plan.{Keep, KeepNull, Pass, Step, along, kept_count, plan, plan_from}
 use Rattle.parquet_page.proofs.SpelledLemmas.{absent_same, present_suc}
-use Rattle.column_values.specs.FilteredLeft.{stored_values}
-use Rattle.column_values.specs.Outcome.{Outcome, Given, Refused, IsCausedBy, causes_in}
+use Rattle.page_decoding.specs.FilteredLeft.{stored_values}
+use Rattle.page_decoding.specs.Outcome.{Outcome, Given, Refused, IsCausedBy, causes_in}
 use Rattle.flat_values.specs.FlatLeft.{given_along}
 use Rattle.flat_values.specs.Outcomes.{placed_outcome}
 

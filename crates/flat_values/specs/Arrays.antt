@@ -3,7 +3,7 @@ use Rattle.std.specs.Prelude.{refl}
 use Rattle.std.specs.Coded.{Coded, code_by, coded×}
 use Rattle.columns_core.specs.declared.cell.Cell.{Cell}
 use Rattle.columns_core.specs.declared.data_type.DataType.{DataType}
-use Rattle.column_values.specs.Chunks.{ChunksLeft, chunks_code}
+use Rattle.page_decoding.specs.Chunks.{ChunksLeft, chunks_code}
 use Rattle.flat_values.specs.declared.flat_decoder.FlatDecoder.{FlatDecoder}
 
 -- the type of the arrays, and what is left of the column in chunks

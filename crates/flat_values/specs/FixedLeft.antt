@@ -1,7 +1,7 @@
 -- What a place among byte strings of one size has still to give, on the bytes that it is handed.
 use Rattle.std.specs.Prelude.{◌≡◌, ℕ, List, map, Option, IsSome, IfSome, option_map}
 use Rattle.columns_core.specs.declared.cell.Cell.{Cell, Bytes}
-use Rattle.column_values.specs.Outcome.{Outcome}
+use Rattle.page_decoding.specs.Outcome.{Outcome}
 use Rattle.parquet_encoding.specs.Places.{bytes_in}
 use Rattle.parquet_encoding.specs.PlainLeft.{fixed_left, fixed_values, value_size}
 use Rattle.parquet_page.specs.Stored.{Octets}

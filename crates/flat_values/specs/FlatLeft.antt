@@ -16,9 +16,9 @@ use Rattle.parquet_page.specs.declared.run.Run.TheVariants.{Present, Null as Nul
 use Rattle.parquet_page.specs.declared.validity_part.ValidityPart.{ValidityPart}
 use Rattle.parquet_page.specs.declared.validity_part.ValidityPart.TheVariants.{Run as OfRun, Word as OfWord}
 use Rattle.parquet_page.specs.declared.validity_part.ValidityWord.{ValidityWord}
-use Rattle.column_values.specs.FilteredLeft.{IsPageOf, filtered_steps, stored_values}
-use Rattle.column_values.specs.Outcome.{Outcome, Given}
-use Rattle.column_values.specs.declared.filtered_validity.FilteredOptionalPageValidity.{FilteredOptionalPageValidity}
+use Rattle.page_decoding.specs.FilteredLeft.{IsPageOf, filtered_steps, stored_values}
+use Rattle.page_decoding.specs.Outcome.{Outcome, Given}
+use Rattle.page_decoding.specs.declared.filtered_validity.FilteredOptionalPageValidity.{FilteredOptionalPageValidity}
 use Rattle.flat_values.specs.Outcomes.{placed_outcome}
 
 -- the bytes in which the values of a page stand

@@ -1,8 +1,8 @@
 -- What a state of a decoder of flat pages means.
 use Rattle.std.specs.Prelude.{ℕ, List}
 use Rattle.parquet_page.specs.Content.{DataContent}
-use Rattle.column_values.specs.FilteredLeft.{filtered_steps}
-use Rattle.column_values.specs.Outcome.{Outcome}
+use Rattle.page_decoding.specs.FilteredLeft.{filtered_steps}
+use Rattle.page_decoding.specs.Outcome.{Outcome}
 use Rattle.flat_values.specs.FlatLeft.{IsStateOf, given_along, value_bytes, values_left}
 use Rattle.flat_values.specs.declared.flat_decoder.FlatState.{FlatState}
 

@@ -7,9 +7,9 @@ use Rattle.columns_core.specs.declared.data_type.DataType.{DataType}
 use Rattle.columns_core.specs.declared.error.Error.{Error}
 use Rattle.parquet_meta.specs.declared.metadata.PhysicalType.{PhysicalType}
 use Rattle.parquet_page.specs.Content.{Content}
-use Rattle.column_values.specs.Chunks.{GivesNext, IfGiven, Reads, standing_of}
-use Rattle.column_values.specs.Outcome.{Outcome}
-use Rattle.column_values.specs.Standing.{NoneComes, still_wanted}
+use Rattle.page_decoding.specs.Chunks.{GivesNext, IfGiven, Reads, standing_of}
+use Rattle.page_decoding.specs.Outcome.{Outcome}
+use Rattle.page_decoding.specs.Standing.{NoneComes, still_wanted}
 use Rattle.flat_values.specs.Arrays.{ArraysLeft}
 use Rattle.flat_values.specs.Conversion.{Conversion}
 use Rattle.flat_values.specs.Outcomes.{dictionary_cells, selected_outcomes}

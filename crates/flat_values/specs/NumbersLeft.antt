@@ -5,7 +5,7 @@ use Rattle.parquet_encoding.specs.DeltaLeft.{delta_left, numbers}
 use Rattle.parquet_meta.specs.declared.metadata.PhysicalType.{PhysicalType}
 use Rattle.parquet_page.specs.Stored.{Stored}
 use Rattle.parquet_page.specs.Values.{plain_values}
-use Rattle.column_values.specs.Outcome.{Outcome}
+use Rattle.page_decoding.specs.Outcome.{Outcome}
 use Rattle.flat_values.specs.Conversion.{Conversion}
 use Rattle.flat_values.specs.KeysLeft.{IsAmongKeys, keys}
 use Rattle.flat_values.specs.Outcomes.{entry_outcome, stored_outcome}

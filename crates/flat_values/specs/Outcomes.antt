@@ -11,7 +11,7 @@ use Rattle.parquet_page.specs.Opened.{key_causes, page_causes}
 use Rattle.parquet_page.specs.Spelling.{dictionary_entries, page_encoding, places_and_values}
 use Rattle.parquet_page.specs.Stored.{Stored}
 use Rattle.parquet_page.specs.Values.{Encoding, Keys, dictionary_keys, unless_none, values_in}
-use Rattle.column_values.specs.Outcome.{Outcome, Given, Refused, all_given, page_outcomes}
+use Rattle.page_decoding.specs.Outcome.{Outcome, Given, Refused, all_given, page_outcomes}
 use Rattle.flat_values.specs.Conversion.{Conversion, Item, Value, NotInRange, NotText, convert}
 
 -- an item, or what is wrong with its value

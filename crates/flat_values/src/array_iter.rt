@@ -1,16 +1,16 @@
 //! The arrays of a column, one after another.
 ghost use Rattle.std.specs.Prelude.{◌≡◌, ◌<◌, IsTrue, if◌then◌else◌, is_ok, [], None, IfOk, IfErr, IfNone};
 ghost use Rattle.columns_core.specs.Causes.{IsWantOfMemory, is_invalid_argument};
-ghost use Rattle.column_values.specs.Chunks.{GivesNext, IfGiven, Reads, ended, standing_of};
-ghost use Rattle.column_values.specs.Column.{DataPagesAre};
-ghost use Rattle.column_values.specs.Queue.{IsChunkSize};
-ghost use Rattle.column_values.specs.Standing.{NoneComes, still_wanted};
+ghost use Rattle.page_decoding.specs.Chunks.{GivesNext, IfGiven, Reads, ended, standing_of};
+ghost use Rattle.page_decoding.specs.Column.{DataPagesAre};
+ghost use Rattle.page_decoding.specs.Queue.{IsChunkSize};
+ghost use Rattle.page_decoding.specs.Standing.{NoneComes, still_wanted};
 ghost use Rattle.flat_values.specs.NextArray.{GivesArray};
 ghost use Rattle.flat_values.specs.Outcomes.{dictionary_cells, selected_outcomes};
 
 use crate::{FlatDecoder, IntoArray};
-use column_values::{Chunks, Decoder};
 use columns_core::{DataType, Error, Part};
+use page_decoding::{Chunks, Decoder};
 use parquet_base::Steps;
 use parquet_page::Pages;
 use std::alloc::Global;

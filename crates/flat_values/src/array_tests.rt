@@ -1,5 +1,5 @@
 ghost use Rattle.std.specs.Prelude.{◌≡◌, ◌<◌, IfOk, length};
-ghost use Rattle.column_values.specs.Column.{DataPagesAre};
+ghost use Rattle.page_decoding.specs.Column.{DataPagesAre};
 ghost use Rattle.parquet_meta.specs.declared.metadata.PhysicalType.TheVariants.{Boolean, FixedLenByteArray, Int32};
 ghost use Rattle.parquet_page.specs.Indexed.{indexed_pages};
 ghost use Rattle.parquet_page.specs.Reader.{reader_pages};

@@ -2,8 +2,8 @@
 ghost use Rattle.std.specs.Prelude.{◌≡◌, IsTrue, [], None, IfOk, IfErr};
 ghost use Rattle.columns_core.specs.Causes.{is_invalid_argument};
 ghost use Rattle.columns_core.specs.ElementType.{is_boolean};
-ghost use Rattle.column_values.specs.Column.{DataPagesAre};
-ghost use Rattle.column_values.specs.Queue.{IsChunkSize};
+ghost use Rattle.page_decoding.specs.Column.{DataPagesAre};
+ghost use Rattle.page_decoding.specs.Queue.{IsChunkSize};
 ghost use Rattle.parquet_meta.specs.declared.metadata.PhysicalType.TheVariants.{Boolean};
 
 use crate::{ArrayIter, TruthValues};

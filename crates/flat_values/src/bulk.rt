@@ -1,7 +1,7 @@
 //! Many values at once.
 ghost use Rattle.std.specs.Prelude.{◌≡◌, ◌++◌, map, OnOk};
 ghost use Rattle.columns_core.specs.Causes.{ComesOf};
-ghost use Rattle.column_values.specs.Outcome.{causes_in};
+ghost use Rattle.page_decoding.specs.Outcome.{causes_in};
 ghost use Rattle.flat_values.specs.Added.{Adds};
 ghost use Rattle.flat_values.specs.Conversion.{Value, convert};
 ghost use Rattle.flat_values.specs.Outcomes.{stored_outcome};

@@ -10,10 +10,10 @@ ghost use Rattle.flat_values.specs.Decoded.{IsMaskFor, marked, marked_cells};
 
 use crate::spread::spread_numbers;
 use crate::validity::{freeze_mask, mark_nulls, mark_rows};
-use column_values::DecodedState;
 use columns_core::{
     DataType, Error, MutableBitmap, MutablePrimitiveArray, NativeType, PrimitiveArray,
 };
+use page_decoding::DecodedState;
 use parquet_page::ValidityWord;
 use std::alloc::Global;
 

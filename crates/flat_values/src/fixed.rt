@@ -4,7 +4,7 @@ ghost use Rattle.std.specs.Option.{option_copied, option_map, option_map_or};
 ghost use Rattle.columns_core.specs.Causes.{ComesOf, ExternalFormat, IsWantOfMemory, OutOfSpec, cause_of, is_invalid_argument};
 ghost use Rattle.columns_core.specs.ElementType.{fixed_size};
 ghost use Rattle.columns_core.specs.declared.cell.Cell.{Bytes, Cell};
-ghost use Rattle.column_values.specs.Outcome.{Given, Refused, causes_in};
+ghost use Rattle.page_decoding.specs.Outcome.{Given, Refused, causes_in};
 ghost use Rattle.flat_values.specs.Added.{Adds};
 ghost use Rattle.flat_values.specs.Conversion.{Conversion, Keep};
 ghost use Rattle.flat_values.specs.Decoded.{IsMaskFor, marked, marked_cells};
@@ -18,8 +18,8 @@ ghost use Rattle.parquet_encoding.specs.PlainLeft.{fixed_left, fixed_values, val
 use crate::keys::{CHUNK, KeyPlace};
 use crate::validity::{freeze_mask, mark_nulls, mark_values};
 use crate::{FixedSizeBinary, IntoArray, ValueDecoder, ValueEncoding};
-use column_values::DecodedState;
 use columns_core::{DataType, Error, FixedSizeBinaryArray, MutableBitmap, Part};
+use page_decoding::DecodedState;
 use parquet_encoding::PlainFixed;
 use parquet_page::DictPage;
 use std::alloc::Global;

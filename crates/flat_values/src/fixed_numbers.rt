@@ -2,7 +2,7 @@
 ghost use Rattle.std.specs.Prelude.{◌≡◌, ◌<◌, ◌%◌, IsTrue, Some, IfOk, IfErr, OnOk, IsSome, length, take, drop, map, option_map};
 ghost use Rattle.columns_core.specs.Causes.{ComesOf, IsWantOfMemory};
 ghost use Rattle.columns_core.specs.Fixed.{pieces};
-ghost use Rattle.column_values.specs.Outcome.{causes_in};
+ghost use Rattle.page_decoding.specs.Outcome.{causes_in};
 ghost use Rattle.flat_values.specs.Added.{Adds};
 ghost use Rattle.flat_values.specs.Decoded.{IsMaskFor};
 ghost use Rattle.flat_values.specs.FixedLeft.{IsAmongFixed, fixed_outcomes};

@@ -4,8 +4,8 @@ ghost use Rattle.std.specs.List.{concat};
 ghost use Rattle.columns_core.specs.Causes.{IsWantOfMemory, is_invalid_argument};
 ghost use Rattle.columns_core.specs.ElementType.{fixed_size};
 ghost use Rattle.columns_core.specs.Fixed.{pieces};
-ghost use Rattle.column_values.specs.Column.{DataPagesAre};
-ghost use Rattle.column_values.specs.Queue.{IsChunkSize};
+ghost use Rattle.page_decoding.specs.Column.{DataPagesAre};
+ghost use Rattle.page_decoding.specs.Queue.{IsChunkSize};
 ghost use Rattle.parquet_meta.specs.declared.metadata.PhysicalType.TheVariants.{FixedLenByteArray};
 
 use crate::{ArrayIter, FixedValues};

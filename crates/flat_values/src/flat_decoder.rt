@@ -8,15 +8,15 @@ ghost use Rattle.parquet_page.specs.Levels.{present_count};
 ghost use Rattle.parquet_page.specs.Spelling.{header_encoding};
 ghost use Rattle.parquet_page.specs.ValidityParts.{part_steps, word_places};
 ghost use Rattle.parquet_page.specs.Values.{encoding_of as encoding_by, goes_with as goes_with_by, unless_none};
-ghost use Rattle.column_values.specs.FilteredLeft.{filtered_steps, stored_values};
-ghost use Rattle.column_values.specs.Outcome.{Given, causes_in};
+ghost use Rattle.page_decoding.specs.FilteredLeft.{filtered_steps, stored_values};
+ghost use Rattle.page_decoding.specs.Outcome.{Given, causes_in};
 ghost use Rattle.flat_values.specs.Encodings.{as_encoding};
 ghost use Rattle.flat_values.specs.FlatLeft.{IsStateOf, behind_part, behind_run, behind_word, causes_unless_none, given_along, part_outcomes, read_encoding, run_outcomes, values_left, word_outcomes};
 ghost use Rattle.flat_values.specs.Outcomes.{value_causes, value_outcomes};
 
 use crate::value_decoder::{ValueDecoder, ValueEncoding};
-use column_values::{DecodedState, Decoder, FilteredOptionalPageValidity};
 use columns_core::{Error, Part};
+use page_decoding::{DecodedState, Decoder, FilteredOptionalPageValidity};
 use parquet_meta::PhysicalType;
 use parquet_page::{
     DataPage, DataPageHeader, DictPage, Run, ValidityPart, ValidityWord, split_buffer,

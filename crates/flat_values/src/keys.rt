@@ -5,7 +5,7 @@ ghost use Rattle.columns_core.specs.Causes.{ComesOf, ExternalFormat, IsOneOf, ca
 ghost use Rattle.parquet_encoding.specs.HybridLeft.{hybrid_left, hybrid_values};
 ghost use Rattle.parquet_page.specs.Opened.{key_causes, passes};
 ghost use Rattle.parquet_page.specs.Values.{dictionary_keys, has_key_past};
-ghost use Rattle.column_values.specs.Outcome.{Given, causes_in};
+ghost use Rattle.page_decoding.specs.Outcome.{Given, causes_in};
 ghost use Rattle.flat_values.specs.Added.{Adds};
 ghost use Rattle.flat_values.specs.KeysLeft.{IsAmongKeys, keys};
 ghost use Rattle.flat_values.specs.Outcomes.{entry_outcome};

@@ -1,6 +1,6 @@
 //! Laws of the definitions.
 ghost use Rattle.std.specs.Prelude.{◌≡◌, ℕ, List, Option, length, map};
-ghost use Rattle.column_values.specs.Queue.{IsChunkSize};
+ghost use Rattle.page_decoding.specs.Queue.{IsChunkSize};
 ghost use Rattle.parquet_base.specs.Pieces.{cut};
 ghost use Rattle.flat_values.specs.NullChunks.{cut_rows};
 ghost use Rattle.flat_values.specs.Sound.{ConvertsToType, EndsAreStored, PageHasType};

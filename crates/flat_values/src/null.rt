@@ -1,7 +1,7 @@
 //! Columns that are read as nulls.
 ghost use Rattle.std.specs.Prelude.{◌≡◌, ◌∷◌, ◌-◌, ◌<◌, ◌≤◌, min, IsTrue, length, IfOk, IfErr};
 ghost use Rattle.columns_core.specs.Causes.{is_invalid_argument};
-ghost use Rattle.column_values.specs.Queue.{IsChunkSize};
+ghost use Rattle.page_decoding.specs.Queue.{IsChunkSize};
 ghost use Rattle.flat_values.specs.NullChunks.{cut_rows};
 
 use columns_core::{Error, NullArray, Part};
@@ -20,7 +20,7 @@ pub struct NullIter {
 
 impl Model for NullIter {
     ghost use Rattle.std.specs.Prelude.{List, ℕ};
-    ghost use Rattle.column_values.specs.Queue.{IsChunkSize};
+    ghost use Rattle.page_decoding.specs.Queue.{IsChunkSize};
     ghost use Rattle.flat_values.specs.NullChunks.{cut_rows};
 
     ghost Value = { List ℕ };

@@ -3,7 +3,7 @@ ghost use Rattle.std.specs.Prelude.{◌≡◌, IsTrue, List, [], Option, Some, O
 ghost use Rattle.std.specs.Option.{option_copied, option_map_or};
 ghost use Rattle.columns_core.specs.Causes.{ComesOf};
 ghost use Rattle.columns_core.specs.declared.cell.Cell.{Cell};
-ghost use Rattle.column_values.specs.Outcome.{causes_in};
+ghost use Rattle.page_decoding.specs.Outcome.{causes_in};
 ghost use Rattle.flat_values.specs.Added.{Adds};
 ghost use Rattle.flat_values.specs.Conversion.{Conversion};
 ghost use Rattle.flat_values.specs.Decoded.{IsMaskFor};

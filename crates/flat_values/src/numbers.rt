@@ -5,7 +5,7 @@ ghost use Rattle.columns_core.specs.Causes.{ComesOf, ExternalFormat, IsOneOf, ca
 ghost use Rattle.parquet_encoding.specs.DeltaLeft.{delta_left, numbers};
 ghost use Rattle.parquet_page.specs.Stored.{Stored};
 ghost use Rattle.parquet_page.specs.Values.{delta_values, plain_values};
-ghost use Rattle.column_values.specs.Outcome.{causes_in};
+ghost use Rattle.page_decoding.specs.Outcome.{causes_in};
 ghost use Rattle.flat_values.specs.Added.{Adds};
 ghost use Rattle.flat_values.specs.NumbersLeft.{plain_left};
 ghost use Rattle.flat_values.specs.Outcomes.{stored_outcome};

@@ -1,8 +1,8 @@
 //! Columns that are read as numbers.
 ghost use Rattle.std.specs.Prelude.{◌≡◌, IsTrue, [], None, IfOk, IfErr};
 ghost use Rattle.columns_core.specs.Causes.{is_invalid_argument};
-ghost use Rattle.column_values.specs.Column.{DataPagesAre};
-ghost use Rattle.column_values.specs.Queue.{IsChunkSize};
+ghost use Rattle.page_decoding.specs.Column.{DataPagesAre};
+ghost use Rattle.page_decoding.specs.Queue.{IsChunkSize};
 
 use crate::{ArrayIter, ConvertMany, NumberValues, ParquetNativeType};
 use columns_core::{DataType, Error, NativeType};

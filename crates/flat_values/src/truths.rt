@@ -3,15 +3,15 @@ ghost use Rattle.std.specs.Prelude.{◌≡◌, ◌++◌, IsTrue, Bool, length, m
 ghost use Rattle.columns_core.specs.Causes.{ExternalFormat, IsWantOfMemory, cause_of, is_invalid_argument};
 ghost use Rattle.columns_core.specs.ElementType.{is_boolean};
 ghost use Rattle.columns_core.specs.declared.cell.Cell.{Bool as TruthCell};
-ghost use Rattle.column_values.specs.Outcome.{Given};
+ghost use Rattle.page_decoding.specs.Outcome.{Given};
 ghost use Rattle.flat_values.specs.Decoded.{IsMaskFor, marked, marked_cells};
 ghost use Rattle.parquet_encoding.specs.Plain.{plain_bits};
 ghost use Rattle.parquet_encoding.specs.PlainLeft.{bits_left, truths};
 
 use crate::validity::{freeze_mask, mark_nulls, mark_values};
 use crate::{IntoArray, ValueDecoder, ValueEncoding};
-use column_values::DecodedState;
 use columns_core::{Bitmap, BooleanArray, DataType, Error, MutableBitmap, Part};
+use page_decoding::DecodedState;
 use parquet_encoding::PlainBits;
 use parquet_page::DictPage;
 use std::alloc::Global;

@@ -7,12 +7,12 @@ ghost use Rattle.parquet_page.specs.Content.{dict_content};
 ghost use Rattle.parquet_page.specs.Levels.{present_count};
 ghost use Rattle.parquet_page.specs.ValidityParts.{word_places};
 ghost use Rattle.parquet_page.specs.Values.{goes_with};
-ghost use Rattle.column_values.specs.Outcome.{Given, Outcome, causes_in, refusal_of};
+ghost use Rattle.page_decoding.specs.Outcome.{Given, Outcome, causes_in, refusal_of};
 ghost use Rattle.flat_values.specs.FlatLeft.{behind_word, word_outcomes};
 ghost use Rattle.flat_values.specs.Outcomes.{dictionary_cells, value_causes, value_outcomes};
 
-use column_values::DecodedState;
 use columns_core::Error;
+use page_decoding::DecodedState;
 use parquet_page::{DictPage, ValidityWord};
 use std::alloc::Global;
 

@@ -3,8 +3,8 @@ ghost use Rattle.std.specs.Option.{option_copied};
 ghost use Rattle.parquet_page.specs.Content.{DataOf, data_content, fit_in, is_shaped};
 
 use super::*;
-use column_values::Decoder;
 use columns_core::{DataType, Error};
+use page_decoding::Decoder;
 use parquet_meta::{DataPageHeader, PhysicalType, PrimitiveType, Repetition};
 use parquet_page::{DataPage, Interval};
 use std::alloc::{AllocError, Global};

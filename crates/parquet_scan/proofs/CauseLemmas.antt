@@ -5,8 +5,8 @@ use Rattle.std.specs.List.{flat_map}
 use Rattle.std.proofs.lemmas.List.Elements.{Contains-append_cases}
 use Rattle.columns_core.specs.declared.error.Error.{Error}
 use Rattle.columns_core.specs.Causes.{Cause, IsOneOf, IsWantOfMemory, cause_of, and_then}
-use Rattle.column_values.proofs.NextLemmas.{nothing_wrong}
-use Rattle.column_values.proofs.RowLemmas.{one_of-left, one_of-right}
+use Rattle.page_decoding.proofs.NextLemmas.{nothing_wrong}
+use Rattle.page_decoding.proofs.RowLemmas.{one_of-left, one_of-right}
 
 -- what an error tells of
 abbrev pub TellsOf : List Cause → Error → Type 0

@@ -24,9 +24,9 @@ use Rattle.parquet_page.specs.Chunk.{ChunkPage, Dictionary, NoDictionary, Placed
 use Rattle.parquet_page.specs.Content.{header_values}
 use Rattle.parquet_page.specs.Lent.{Lent, behind_dictionary, chunk_lent, data_of, lent_data}
 use Rattle.parquet_page.proofs.RowSums.{page_values as values_of, walk_sum, is_whole, data_page_fits}
-use Rattle.column_values.specs.Column.{rows}
-use Rattle.column_values.specs.Outcome.{Outcome, Given, causes_in, cells_in, refused}
-use Rattle.column_values.proofs.NextLemmas.{given-whole, nothing_wrong}
+use Rattle.page_decoding.specs.Column.{rows}
+use Rattle.page_decoding.specs.Outcome.{Outcome, Given, causes_in, cells_in, refused}
+use Rattle.page_decoding.proofs.NextLemmas.{given-whole, nothing_wrong}
 use Rattle.flat_values.specs.Agreement.{AreEntriesOf}
 use Rattle.flat_values.specs.Conversion.{Conversion, Item, Value}
 use Rattle.flat_values.specs.Outcomes.{dictionary_cells, selected_outcomes}
@@ -37,7 +37,7 @@ use Rattle.parquet_scan.specs.Counting.{every_row}
 use Rattle.parquet_scan.specs.Decoded.{column_rows, rows_by}
 use Rattle.parquet_scan.proofs.CauseLemmas.{then_next}
 use Rattle.parquet_scan.proofs.PageLemmas.{HasWrongItem, IsOver, IsRefused, dictionary_first, first_given, first_wrong, items_many, pair_rule, some_cause}
-use Rattle.column_values.proofs.RowLemmas.{one_of-left, one_of-right}
+use Rattle.page_decoding.proofs.RowLemmas.{one_of-left, one_of-right}
 use Rattle.flat_values.proofs.OutcomeLemmas.{cells_in-given}
 use Rattle.parquet_page.proofs.SliceLemmas.{range-split}
 

@@ -15,15 +15,15 @@ use Rattle.parquet_meta.specs.declared.metadata.PhysicalType.{PhysicalType}
 use Rattle.parquet_meta.specs.declared.metadata.PrimitiveLogicalType.{PrimitiveLogicalType}
 use Rattle.parquet_meta.specs.declared.metadata.PrimitiveType.{PrimitiveType}
 use Rattle.parquet_page.specs.Content.{Content, DataContent, DictContent, DataOf, DictOf}
-use Rattle.column_values.specs.Column.{DataPagesAre, entries_behind, followed_by, page_rows, rows}
-use Rattle.column_values.specs.Outcome.{Outcome, Given, IsCausedBy, causes_in, refused}
+use Rattle.page_decoding.specs.Column.{DataPagesAre, entries_behind, followed_by, page_rows, rows}
+use Rattle.page_decoding.specs.Outcome.{Outcome, Given, IsCausedBy, causes_in, refused}
 use Rattle.flat_values.specs.Conversion.{Conversion, Months, DaysAndMilliseconds}
 use Rattle.flat_values.specs.Pairs.{conversion, conversion_at, from_fixed, from_physical, is_repeated}
 use Rattle.parquet_scan.specs.Causes.{pair_causes}
 use Rattle.parquet_scan.specs.Cells.{is_null_at, is_null_type}
 use Rattle.parquet_scan.specs.NotBuilt.{is_built_pair, is_byte_array, is_dictionary, is_dictionary_at}
-use Rattle.column_values.proofs.NextLemmas.{given-whole}
-use Rattle.column_values.proofs.RowLemmas.{caused-left, caused-right}
+use Rattle.page_decoding.proofs.NextLemmas.{given-whole}
+use Rattle.page_decoding.proofs.RowLemmas.{caused-left, caused-right}
 use Rattle.parquet_page.proofs.SpelledLemmas.{none_of}
 
 -- ---- the data pages among pages

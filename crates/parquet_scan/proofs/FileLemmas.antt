@@ -22,7 +22,7 @@ use Rattle.parquet_scan.specs.declared.scanning.GroupKept.{GroupKept}
 use Rattle.parquet_scan.proofs.CauseLemmas.{TellsOf, among_first, then_next}
 use Rattle.parquet_scan.proofs.KeptLemmas.{one_group}
 use Rattle.parquet_scan.proofs.ScanLemmas.{same_pruning}
-use Rattle.column_values.proofs.NextLemmas.{nothing_wrong}
+use Rattle.page_decoding.proofs.NextLemmas.{nothing_wrong}
 use Rattle.parquet_page.proofs.SpelledLemmas.{none_of}
 
 -- ---- lists of causes

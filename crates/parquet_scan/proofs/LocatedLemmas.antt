@@ -28,8 +28,8 @@ use Rattle.parquet_page.specs.Locations.{filtered_page, filtered_pages, located,
 use Rattle.parquet_page.specs.Selected.{covered_from, selected_of}
 use Rattle.parquet_page.specs.declared.page.FilteredPage.{FilteredPage}
 use Rattle.parquet_encoding.proofs.StepLemmas.{bind_some, given_some}
-use Rattle.column_values.specs.Column.{rows}
-use Rattle.column_values.specs.Outcome.{Outcome, Given, causes_in}
+use Rattle.page_decoding.specs.Column.{rows}
+use Rattle.page_decoding.specs.Outcome.{Outcome, Given, causes_in}
 use Rattle.flat_values.specs.Agreement.{AreEntriesOf}
 use Rattle.flat_values.specs.Conversion.{Conversion, Item, Value}
 use Rattle.flat_values.specs.Outcomes.{dictionary_cells, selected_outcomes}
@@ -40,7 +40,7 @@ use Rattle.parquet_scan.specs.Decoded.{rows_by}
 use Rattle.parquet_scan.specs.Located.{entry_part, entry_place, part_in}
 use Rattle.parquet_scan.proofs.CellLemmas.{causes_behind, causes_if_there, items_there, map_rows}
 use Rattle.parquet_scan.proofs.PageLemmas.{HasWrongItem, IsOver, IsRefused, dictionary_first, first_given, first_wrong, items_many, some_cause}
-use Rattle.column_values.proofs.RowLemmas.{one_of-left, one_of-right}
+use Rattle.page_decoding.proofs.RowLemmas.{one_of-left, one_of-right}
 use Rattle.parquet_page.proofs.LocatedLemmas.{wanted_rows}
 
 -- ---- a part of a chunk

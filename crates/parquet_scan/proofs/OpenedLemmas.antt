@@ -31,8 +31,8 @@ use Rattle.parquet_page.specs.Locations.{has_shape, selected_pages}
 use Rattle.parquet_page.specs.declared.page.FilteredPage.{FilteredPage}
 use Rattle.parquet_encoding.proofs.StepLemmas.{given_some}
 use Rattle.parquet_page.proofs.SelectionLemmas.{pages-length}
-use Rattle.column_values.specs.Outcome.{Outcome, Given, causes_in}
-use Rattle.column_values.proofs.NextLemmas.{given-whole, nothing_wrong}
+use Rattle.page_decoding.specs.Outcome.{Outcome, Given, causes_in}
+use Rattle.page_decoding.proofs.NextLemmas.{given-whole, nothing_wrong}
 use Rattle.flat_values.specs.Conversion.{Conversion, Value}
 use Rattle.flat_values.specs.Pairs.{conversion}
 use Rattle.parquet_scan.specs.Causes.{causes_of_chunk, causes_of_dictionary, causes_of_found, causes_of_opened, chunk_read_causes, located_causes, opened_located, pair_causes, row_causes}
@@ -45,7 +45,7 @@ use Rattle.parquet_scan.proofs.CellLemmas.{causes_if_there, rows_caused, same_ce
 use Rattle.parquet_scan.proofs.LocatedLemmas.{AreEntries, are_entries, causes_of_parts, cells_as, chunk_length, found, is_shaped_part, items_of_parts, located_given, located_wrong, named_are, none_some, opened_are, pages_of, pages_there, part_inside, part_items, part_outside, parts_items}
 use Rattle.parquet_scan.proofs.ScanLemmas.{in_filtered}
 use Rattle.parquet_scan.proofs.LocationLemmas.{HaveRows, have_rows, selection_is}
-use Rattle.column_values.proofs.RowLemmas.{one_of-left, one_of-right}
+use Rattle.page_decoding.proofs.RowLemmas.{one_of-left, one_of-right}
 use Rattle.parquet_scan.proofs.PageLemmas.{pair_rule}
 
 -- ---- a chunk lies in its file

@@ -21,10 +21,10 @@ use Rattle.parquet_page.specs.Selected.{selected_of}
 use Rattle.parquet_page.specs.Spelling.{dictionary_entries, has_plain_entries, header_encoding, is_keys, page_encoding, page_keys, places_and_values, spelled}
 use Rattle.parquet_page.specs.Stored.{Stored}
 use Rattle.parquet_page.specs.Values.{Encoding, Plain, Keys, DeltaPacked, DeltaLengths, dictionary_keys, encoding_of, unless_none, values_in}
-use Rattle.column_values.specs.Column.{followed_by, rows}
-use Rattle.column_values.specs.Outcome.{Outcome, Given, Refused, all_given, causes_in, cells_in, page_outcomes, refusal_of, refused}
-use Rattle.column_values.proofs.FilteredLemmas.{places-length}
-use Rattle.column_values.proofs.RowLemmas.{causes_in-append}
+use Rattle.page_decoding.specs.Column.{followed_by, rows}
+use Rattle.page_decoding.specs.Outcome.{Outcome, Given, Refused, all_given, causes_in, cells_in, page_outcomes, refusal_of, refused}
+use Rattle.page_decoding.proofs.FilteredLemmas.{places-length}
+use Rattle.page_decoding.proofs.RowLemmas.{causes_in-append}
 use Rattle.flat_values.specs.Agreement.{AreEntriesOf}
 use Rattle.flat_values.specs.Conversion.{Conversion, Item, Value, NotInRange, NotText, convert_place}
 use Rattle.flat_values.specs.Items.{page_items}

@@ -19,7 +19,7 @@ use Rattle.parquet_meta.specs.declared.metadata.ColumnChunkMetaData.{ColumnChunk
 use Rattle.parquet_scan.specs.Causes.{causes_of_chunk, causes_of_read, chunk_read_causes, pair_causes}
 use Rattle.parquet_scan.specs.Cells.{is_null_type}
 use Rattle.parquet_scan.proofs.CauseLemmas.{TellsOf, among_first, then_next}
-use Rattle.column_values.proofs.RowLemmas.{one_of-left, one_of-right}
+use Rattle.page_decoding.proofs.RowLemmas.{one_of-left, one_of-right}
 
 -- ---- pruning by pages
 

@@ -6,8 +6,8 @@ use Rattle.columns_core.specs.declared.data_type.DataType.{DataType}
 use Rattle.parquet_meta.specs.declared.metadata.PhysicalType.{PhysicalType}
 use Rattle.parquet_meta.specs.declared.metadata.PrimitiveType.{PrimitiveType}
 use Rattle.parquet_page.specs.Content.{Content}
-use Rattle.column_values.specs.Column.{rows}
-use Rattle.column_values.specs.Outcome.{Outcome}
+use Rattle.page_decoding.specs.Column.{rows}
+use Rattle.page_decoding.specs.Outcome.{Outcome}
 use Rattle.flat_values.specs.Conversion.{Conversion}
 use Rattle.flat_values.specs.Outcomes.{dictionary_cells, selected_outcomes}
 use Rattle.flat_values.specs.Pairs.{conversion}

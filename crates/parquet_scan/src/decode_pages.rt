@@ -3,15 +3,15 @@ ghost use Rattle.std.specs.Prelude.{◌≡◌, ◌++◌, ◌+◌, ◌-◌, ◌^�
 ghost use Rattle.std.specs.Option.{option_copied};
 ghost use Rattle.columns_core.specs.Array.{cells, data_type_of};
 ghost use Rattle.columns_core.specs.Causes.{ComesOf};
-ghost use Rattle.column_values.specs.Column.{DataPagesAre, entries_behind, page_rows, rows};
-ghost use Rattle.column_values.specs.Outcome.{Given, causes_in};
+ghost use Rattle.page_decoding.specs.Column.{DataPagesAre, entries_behind, page_rows, rows};
+ghost use Rattle.page_decoding.specs.Outcome.{Given, causes_in};
 ghost use Rattle.parquet_page.specs.Content.{DataOf, content, data_content, is_shaped};
 ghost use Rattle.parquet_scan.specs.Decoded.{rows_by};
 
 use crate::into_column::IntoColumn;
-use column_values::Decoder;
 use columns_core::{Array, DataType, Error};
 use flat_values::FlatDecoder;
+use page_decoding::Decoder;
 use parquet_base::Steps;
 use parquet_page::{DataPage, Page, Pages};
 use std::alloc::Global;

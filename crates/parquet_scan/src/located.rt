@@ -6,7 +6,7 @@ ghost use Rattle.parquet_base.specs.Intervals.{is_well_shaped, rows_of};
 ghost use Rattle.parquet_meta.specs.Indexes.{offset_index_length};
 ghost use Rattle.parquet_meta.specs.Places.{lies_in as lies_in_by};
 ghost use Rattle.parquet_page.specs.Lent.{are_well_shaped, first_start as first_start_by, has_parts, is_wanted as is_wanted_by, located_parts};
-ghost use Rattle.column_values.specs.Outcome.{Given, causes_in};
+ghost use Rattle.page_decoding.specs.Outcome.{Given, causes_in};
 ghost use Rattle.flat_values.specs.Conversion.{Value};
 ghost use Rattle.parquet_scan.specs.Causes.{causes_of_chunk, pair_causes};
 ghost use Rattle.parquet_scan.specs.Cells.{is_null_type, located_item};

@@ -1,5 +1,5 @@
 use Rattle.std.proofs.Common.{◌≡◌, ℕ, subst, sym}
-use Rattle.column_values.specs.Column.{DataPagesAre}
+use Rattle.page_decoding.specs.Column.{DataPagesAre}
 use Rattle.parquet_meta.specs.declared.metadata.PhysicalType.TheVariants.{FixedLenByteArray}
 use Rattle.parquet_page.specs.Reader.{reader_pages}
 use Rattle.flat_values.proofs.array_tests.arrays_of_byte_strings.Goals as goal

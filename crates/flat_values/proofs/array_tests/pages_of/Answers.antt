@@ -2,7 +2,7 @@ use Rattle.std.proofs.Common.{◌≡◌, ◌∙◌, ap, subst, sym}
 use Rattle.std.proofs.lemmas.Result.{IfOk-weaker}
 use Rattle.parquet_page.specs.Content.{DataContent}
 use Rattle.parquet_page.specs.Lent.{Lent}
-use Rattle.column_values.specs.Column.{DataPagesAre}
+use Rattle.page_decoding.specs.Column.{DataPagesAre}
 use Rattle.flat_values.proofs.ReaderLemmas.{chunk_pages_are}
 use Rattle.flat_values.proofs.array_tests.pages_of.Goals as goal
 

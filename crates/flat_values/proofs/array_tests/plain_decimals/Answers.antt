@@ -1,5 +1,5 @@
 use Rattle.std.proofs.Common.{◌∙◌, ◌≡◌, ℕ, ap, subst, sym}
-use Rattle.column_values.specs.Column.{DataPagesAre}
+use Rattle.page_decoding.specs.Column.{DataPagesAre}
 use Rattle.flat_values.specs.declared.fixed_bytes.Decimals.{Decimals}
 use Rattle.parquet_meta.specs.declared.metadata.PhysicalType.TheVariants.{FixedLenByteArray}
 use Rattle.parquet_page.specs.Reader.{reader_pages}

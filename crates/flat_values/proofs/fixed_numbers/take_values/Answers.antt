@@ -1,6 +1,6 @@
 use Rattle.std.proofs.Common.{List, Some, map, subst}
 use Rattle.parquet_encoding.specs.PlainLeft.{fixed_left}
-use Rattle.column_values.specs.Outcome.{Outcome}
+use Rattle.page_decoding.specs.Outcome.{Outcome}
 use Rattle.flat_values.specs.Added.{Adds}
 use Rattle.flat_values.specs.KeysLeft.{keys}
 use Rattle.flat_values.proofs.FixedPlaceLemmas.{keys_rest, plain_rest, plain_taken}

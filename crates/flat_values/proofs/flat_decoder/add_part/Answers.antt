@@ -1,6 +1,6 @@
 use Rattle.std.proofs.Common.{arith, None}
 use Rattle.parquet_page.specs.ValidityParts.{word_places}
-use Rattle.column_values.proofs.FilteredLemmas.{stored-plan}
+use Rattle.page_decoding.proofs.FilteredLemmas.{stored-plan}
 use Rattle.flat_values.proofs.flat_decoder.add_part.Goals as goal
 
 pub add_word-requires-clause-enough : goal.add_word-requires-clause-enough

@@ -1,8 +1,8 @@
 use Rattle.std.proofs.Common.{rules, ◌∙◌, take}
 use Rattle.std.specs.Option.{option_copied}
 use Rattle.parquet_page.specs.Content.{data_content}
-use Rattle.column_values.specs.FilteredLeft.{filtered_steps}
-use Rattle.column_values.specs.Outcome.{IsCausedBy}
+use Rattle.page_decoding.specs.FilteredLeft.{filtered_steps}
+use Rattle.page_decoding.specs.Outcome.{IsCausedBy}
 use Rattle.flat_values.specs.FlatLeft.{given_along, values_left}
 use Rattle.flat_values.proofs.FlatLemmas.{Turn, part-caused, turn, turned}
 use Rattle.flat_values.proofs.flat_decoder.add_rows.Given.{Over}

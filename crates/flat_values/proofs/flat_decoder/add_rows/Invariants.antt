@@ -2,8 +2,8 @@ use Rattle.std.proofs.Common.{◌≡◌, ◌++◌, drop, length, map, take}
 use Rattle.std.specs.Option.{option_copied}
 use Rattle.columns_core.specs.declared.error.Error.{Error}
 use Rattle.parquet_page.specs.Content.{data_content}
-use Rattle.column_values.specs.FilteredLeft.{filtered_steps}
-use Rattle.column_values.specs.Outcome.{Given, IsCausedBy}
+use Rattle.page_decoding.specs.FilteredLeft.{filtered_steps}
+use Rattle.page_decoding.specs.Outcome.{Given, IsCausedBy}
 use Rattle.flat_values.specs.FlatLeft.{IsStateOf, given_along, values_left}
 use Rattle.flat_values.proofs.flat_decoder.add_rows.Given as goal
 

@@ -2,7 +2,7 @@ use Rattle.std.proofs.Common.{ℕ, ◌++◌, ◌∙◌, ap, get_or, map, rules}
 use Rattle.std.proofs.lemmas.Iterator.{YieldsList-from_map_by, YieldsList-from_slice}
 use Rattle.std.proofs.lemmas.Iterator.Consumers.{YieldsList-at}
 use Rattle.std.proofs.lemmas.List.{map-append}
-use Rattle.column_values.specs.Outcome.{Given, Outcome}
+use Rattle.page_decoding.specs.Outcome.{Given, Outcome}
 use Rattle.flat_values.proofs.ExtendLemmas.{shown_from_extend}
 use Rattle.flat_values.proofs.keys.extend_found.Goals as goal
 

@@ -1,7 +1,7 @@
 use Rattle.std.proofs.Common.{List, ◌∙◌, ap, append-nil, map, refl, subst, sym, Some}
 use Rattle.columns_core.specs.declared.error.Error.TheVariants as errors
 use Rattle.columns_core.specs.declared.error.Part.TheVariants.{Values}
-use Rattle.column_values.specs.Outcome.{Given, Outcome}
+use Rattle.page_decoding.specs.Outcome.{Given, Outcome}
 use Rattle.flat_values.specs.Added.{Adds}
 use Rattle.flat_values.specs.Outcomes.{entry_outcome}
 use Rattle.flat_values.proofs.KeyLemmas.{found_named, no_keys, past_refused}

@@ -3,7 +3,7 @@ use Rattle.std.proofs.lemmas.List.{length-map}
 use Rattle.std.proofs.lemmas.Result.{err_from_is_err_and}
 use Rattle.parquet_encoding.proofs.WalkLemmas.{passes_none}
 use Rattle.parquet_page.specs.Values.{plain_values}
-use Rattle.column_values.specs.Outcome.{IsCausedBy, Outcome}
+use Rattle.page_decoding.specs.Outcome.{IsCausedBy, Outcome}
 use Rattle.flat_values.specs.Added.{Adds}
 use Rattle.flat_values.specs.Outcomes.{stored_outcome}
 use Rattle.flat_values.proofs.PlainTakes.{behind_place, taken_pieces}

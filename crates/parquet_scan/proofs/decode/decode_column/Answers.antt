@@ -3,7 +3,7 @@ use Rattle.std.specs.Prelude.{Option, IfOk}
 use Rattle.std.specs.Option.{option_map_or}
 use Rattle.columns_core.specs.Array.{cells}
 use Rattle.columns_core.specs.declared.data_type.DataType.{out-DataType}
-use Rattle.column_values.specs.Outcome.{Given}
+use Rattle.page_decoding.specs.Outcome.{Given}
 use Rattle.flat_values.specs.Conversion.{Conversion}
 use Rattle.flat_values.specs.Pairs.{from_physical}
 use Rattle.parquet_scan.specs.Decoded.{rows_by}

@@ -3,7 +3,7 @@ use Rattle.std.specs.Prelude.{Ok, option_map}
 use Rattle.std.proofs.lemmas.Result.{err_from_is_err_and}
 use Rattle.parquet_page.specs.Content.{content}
 use Rattle.parquet_page.specs.Lending.{ticks}
-use Rattle.column_values.proofs.NextLemmas.{is-lent, lends-error}
+use Rattle.page_decoding.proofs.NextLemmas.{is-lent, lends-error}
 use Rattle.parquet_scan.proofs.DecodeLemmas.{first_is, rows_taken, wrong_end, wrong_page}
 use Rattle.parquet_scan.proofs.decode_pages.decode_pages.Goals as goal
 

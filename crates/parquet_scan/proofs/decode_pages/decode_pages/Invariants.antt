@@ -1,7 +1,7 @@
 use Rattle.std.proofs.Common.{◌≡◌, ◌+◌, ◌++◌, ◌-◌, ◌^◌, ◌≤◌, length, map}
 use Rattle.std.specs.Prelude.{None, IfSome, min, option_map}
-use Rattle.column_values.specs.Column.{DataPagesAre, rows}
-use Rattle.column_values.specs.Outcome.{Given}
+use Rattle.page_decoding.specs.Column.{DataPagesAre, rows}
+use Rattle.page_decoding.specs.Outcome.{Given}
 use Rattle.parquet_scan.proofs.decode_pages.decode_pages.Given as goal
 
 -- The rows so far stand in front of those of the pages that are left.

@@ -4,8 +4,8 @@ use Rattle.std.proofs.lemmas.Slice.Zip.{length-zip}
 use Rattle.columns_core.specs.Causes.{ComesOf}
 use Rattle.parquet_page.specs.Lent.{Lent, is_wanted}
 use Rattle.parquet_page.specs.Located.{dictionary_in}
-use Rattle.column_values.specs.Column.{DataPagesAre}
-use Rattle.column_values.specs.Outcome.{causes_in}
+use Rattle.page_decoding.specs.Column.{DataPagesAre}
+use Rattle.page_decoding.specs.Outcome.{causes_in}
 use Rattle.parquet_scan.specs.Decoded.{column_rows}
 use Rattle.parquet_scan.proofs.CostLemmas.{few_located}
 use Rattle.parquet_scan.proofs.PageLemmas.{if_ok}

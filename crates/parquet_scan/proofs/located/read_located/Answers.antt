@@ -18,7 +18,7 @@ use Rattle.parquet_meta.specs.declared.metadata.RowGroupMetaData.{RowGroupMetaDa
 use Rattle.parquet_page.specs.Lent.{first_start, is_wanted, located_parts}
 use Rattle.parquet_page.specs.Locations.{selected_pages}
 use Rattle.parquet_page.specs.declared.page.FilteredPage.{FilteredPage}
-use Rattle.column_values.specs.Outcome.{causes_in}
+use Rattle.page_decoding.specs.Outcome.{causes_in}
 use Rattle.parquet_scan.specs.Causes.{causes_of_chunk, chunk_read_causes, pair_causes, row_causes}
 use Rattle.parquet_scan.specs.Cells.{Reading, chunk_of, located_item}
 use Rattle.parquet_scan.specs.Decoded.{column_rows}

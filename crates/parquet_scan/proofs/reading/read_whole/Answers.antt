@@ -1,8 +1,8 @@
 use Rattle.std.proofs.Common.{◌≡◌, ◌∙◌, ◌+◌, length, ap, sym, subst, false}
 use Rattle.std.specs.Prelude.{map, IfErr, IfOk}
 use Rattle.columns_core.specs.Array.{cells}
-use Rattle.column_values.specs.Column.{DataPagesAre}
-use Rattle.column_values.specs.Outcome.{Given, causes_in}
+use Rattle.page_decoding.specs.Column.{DataPagesAre}
+use Rattle.page_decoding.specs.Outcome.{Given, causes_in}
 use Rattle.flat_values.proofs.ReaderLemmas.{chunk_pages_are}
 use Rattle.parquet_page.specs.Content.{DataContent}
 use Rattle.parquet_page.specs.Lent.{Lent, chunk_lent}

@@ -1,6 +1,6 @@
 use Rattle.std.proofs.Common.{◌≡◌, ℕ, ap, sym, subst, ◌∙◌}
 use Rattle.columns_core.specs.ElementType.{fixed_size}
-use Rattle.column_values.specs.Column.{DataPagesAre}
+use Rattle.page_decoding.specs.Column.{DataPagesAre}
 use Rattle.parquet_meta.specs.declared.metadata.PhysicalType.TheVariants.{FixedLenByteArray}
 use Rattle.flat_values.proofs.fixed_size_binary.ArrayIter+I+FixedValues.new.Goals as goal
 

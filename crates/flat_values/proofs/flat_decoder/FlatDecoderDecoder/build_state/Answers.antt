@@ -4,8 +4,8 @@ use Rattle.std.specs.Option.{option_copied}
 use Rattle.columns_core.specs.Causes.{cause_of}
 use Rattle.parquet_page.specs.Content.{data_content}
 use Rattle.parquet_page.specs.Levels.{body_of}
-use Rattle.column_values.specs.FilteredLeft.{filtered_steps}
-use Rattle.column_values.specs.Outcome.{IsCausedBy}
+use Rattle.page_decoding.specs.FilteredLeft.{filtered_steps}
+use Rattle.page_decoding.specs.Outcome.{IsCausedBy}
 use Rattle.flat_values.specs.Encodings.{as_encoding}
 use Rattle.flat_values.specs.FlatLeft.{IsStateOf, given_along, values_left}
 use Rattle.flat_values.specs.Outcomes.{selected_outcomes}

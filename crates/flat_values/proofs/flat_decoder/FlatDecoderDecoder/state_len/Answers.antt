@@ -1,5 +1,5 @@
 use Rattle.std.proofs.Common.{◌∙◌, arith, sym}
-use Rattle.column_values.specs.FilteredLeft.{filtered_steps}
+use Rattle.page_decoding.specs.FilteredLeft.{filtered_steps}
 use Rattle.flat_values.specs.FlatLeft.{value_bytes, values_left}
 use Rattle.flat_values.proofs.WordLemmas.{length-given}
 use Rattle.flat_values.proofs.flat_decoder.FlatDecoderDecoder.state_len.Goals as goal

@@ -1,7 +1,7 @@
 use Rattle.std.proofs.Common.{◌≡◌, ◌++◌, ◌-◌, ◌∙◌, ap, arith, drop, length, map, sym, take, Some}
 use Rattle.std.specs.Prelude.{option_copied, option_map}
 use Rattle.std.proofs.lemmas.Result.{on_ok_weaker}
-use Rattle.column_values.specs.Outcome.{Given}
+use Rattle.page_decoding.specs.Outcome.{Given}
 use Rattle.flat_values.specs.Decoded.{marked_cells, with_values}
 use Rattle.flat_values.specs.NumbersLeft.{number_left}
 use Rattle.flat_values.specs.declared.numbers.NumberPlace.{NumberPlace}

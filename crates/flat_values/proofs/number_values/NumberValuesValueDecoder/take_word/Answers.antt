@@ -2,8 +2,8 @@ use Rattle.std.proofs.Common.{◌≡◌, ◌∙◌, ◌++◌, List, ap, arith, d
 use Rattle.std.specs.Prelude.{option_copied, option_map}
 use Rattle.std.proofs.lemmas.Result.{on_ok_weaker}
 use Rattle.parquet_page.specs.ValidityParts.{word_places, word_steps}
-use Rattle.column_values.proofs.FilteredLemmas.{stored-plan}
-use Rattle.column_values.specs.Outcome.{Given, IsCausedBy, Outcome}
+use Rattle.page_decoding.proofs.FilteredLemmas.{stored-plan}
+use Rattle.page_decoding.specs.Outcome.{Given, IsCausedBy, Outcome}
 use Rattle.flat_values.specs.Decoded.{marked_cells}
 use Rattle.flat_values.specs.FlatLeft.{given_along, word_outcomes}
 use Rattle.flat_values.specs.NumbersLeft.{number_left}

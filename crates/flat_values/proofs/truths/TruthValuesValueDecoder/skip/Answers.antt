@@ -1,5 +1,5 @@
 use Rattle.columns_core.specs.declared.cell.Cell.{Bool as TruthCell}
-use Rattle.column_values.specs.Outcome.{Given}
+use Rattle.page_decoding.specs.Outcome.{Given}
 use Rattle.parquet_encoding.specs.PlainLeft.{bits_left, truths}
 use Rattle.flat_values.proofs.OutcomeLemmas.{behind}
 use Rattle.flat_values.proofs.truths.TruthValuesValueDecoder.skip.Goals as goal

@@ -2,7 +2,7 @@ use Rattle.std.proofs.Common.{◌∙◌, ◌++◌, ap, map, sym, take}
 use Rattle.std.proofs.lemmas.List.{take-map}
 use Rattle.std.proofs.lemmas.Result.{on_ok_weaker}
 use Rattle.columns_core.specs.declared.cell.Cell.{Bool as TruthCell}
-use Rattle.column_values.specs.Outcome.{Given}
+use Rattle.page_decoding.specs.Outcome.{Given}
 use Rattle.flat_values.specs.Decoded.{marked_cells}
 use Rattle.parquet_encoding.specs.PlainLeft.{bits_left, truths}
 use Rattle.flat_values.proofs.DecodedLemmas.{given-with_values}

@@ -1,7 +1,7 @@
 use Rattle.std.proofs.Common.{◌∙◌, rules}
 use Rattle.std.specs.Option.{option_copied}
 use Rattle.parquet_page.specs.ValidityParts.{word_places}
-use Rattle.column_values.specs.Outcome.{IsCausedBy}
+use Rattle.page_decoding.specs.Outcome.{IsCausedBy}
 use Rattle.flat_values.specs.FlatLeft.{word_outcomes}
 use Rattle.flat_values.proofs.FlatLemmas.{null-turned, present-turned, run-caused}
 use Rattle.flat_values.proofs.value_decoder.ValueDecoder.take_word.Goals as goal

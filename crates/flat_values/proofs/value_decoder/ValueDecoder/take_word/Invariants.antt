@@ -3,7 +3,7 @@ use Rattle.std.specs.Option.{option_copied}
 use Rattle.columns_core.specs.declared.error.Error.{Error}
 use Rattle.parquet_page.specs.Levels.{present_count}
 use Rattle.parquet_page.specs.ValidityParts.{word_places}
-use Rattle.column_values.specs.Outcome.{Given, IsCausedBy}
+use Rattle.page_decoding.specs.Outcome.{Given, IsCausedBy}
 use Rattle.flat_values.specs.FlatLeft.{behind_word, word_outcomes}
 use Rattle.flat_values.proofs.value_decoder.ValueDecoder.take_word.Given as goal
 

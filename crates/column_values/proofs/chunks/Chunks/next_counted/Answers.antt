@@ -1,4 +1,0 @@
-use Rattle.column_values.proofs.chunks.Chunks.next_counted.Goals as goal
-
-pub returns-clause-chunk : goal.returns-clause-chunk
-returns-clause-chunk g c = rw (← c.self.view_is) c.read_chunk.ensures.chunk
