@@ -1,23 +1,12 @@
 //! `pqscan`: rows of a Parquet file as text, without the row groups in which no row can meet the bounds.
 #![tactic(auto)]
 
-mod column;
-mod command;
-mod number;
-mod program;
-mod sink;
-mod status;
-#[cfg(test)]
-mod tests;
-mod text;
-
 ghost use Rattle.std.specs.Prelude.{◌≡◌, ◌<◌};
 
 use parquet_base::Steps;
 use parquet_meta::FileSource;
-pub use program::run;
-pub use sink::{FailingSink, MemorySink, Sink, StdSink, write_all};
-pub use status::{Status, status_text};
+pub use pq_common::{FailingSink, MemorySink, Sink, Status, StdSink, status_text, write_all};
+pub use scan_program::run;
 use std::alloc::{AllocError, Global};
 use std::env;
 use std::marker::Brand;

@@ -1,0 +1,17 @@
+-- Rows as lines of text: the cells of all columns, with a tab between each two of them.
+use Rattle.std.specs.Prelude.{ℕ, List, [], ◌∷◌, ◌++◌, slice_get}
+use Rattle.std.specs.List.{join_by}
+use Rattle.std.specs.Option.{option_map_or}
+use Rattle.columns_core.specs.declared.cell.Cell.{Cell}
+use Rattle.columns_core.specs.declared.data_type.DataType.{DataType}
+use Rattle.pq_common.specs.CellText.{cell_text}
+
+abbrev pub line : List ℕ → List ℕ
+line text = text ++ 10 ∷ []
+
+-- the cell of a column in a row
+abbrev pub cell_at : ℕ → DataType × List Cell → List ℕ
+cell_at row column = option_map_or cell_text (slice_get column.1 row) []
+
+abbrev pub row_line : List (DataType × List Cell) → ℕ → List ℕ
+row_line columns row = line (join_by (cell_at row) (9 ∷ []) columns)

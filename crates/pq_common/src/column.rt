@@ -1,0 +1,102 @@
+//! A column of numbers as text. Its bytes are written from the last to the first, as the digits of a number come.
+ghost use Rattle.std.specs.Prelude.{◌≡◌, ◌+◌, ◌-◌, ◌*◌, ◌<◌, ◌≤◌, [], ◌∷◌, ◌++◌, codes, drop, flat_map, length, map, slice_get, OnOk};
+ghost use Rattle.std.specs.List.{range_with_len};
+ghost use Rattle.std.specs.Option.{option_map_or};
+ghost use Rattle.columns_core.specs.Array.{column_of};
+ghost use Rattle.columns_core.specs.Column.{cell_of};
+ghost use Rattle.columns_core.specs.declared.cell.Cell.{Int};
+ghost use Rattle.pq_common.specs.CellText.{cell_text};
+ghost use Rattle.pq_common.specs.Rows.{row_line};
+
+use crate::number::write_i32;
+use columns_core::{Array, PrimitiveArray};
+use std::alloc::AllocError;
+
+/// The most bytes of a number of 32 bits.
+const MAX_NUMBER_BYTES: usize = 11;
+
+/// The most bytes of a line.
+const MAX_LINE_BYTES: usize = MAX_NUMBER_BYTES + 1;
+
+/// How many bytes are written before they go to the text.
+const BLOCK_BYTES: usize = 4096;
+
+/// Writes the lines of all rows at the end, a block at a time.
+pub fn push_lines(text: &mut Vec<u8>, array: &PrimitiveArray<i32>) -> Result<(), AllocError>
+    ensures { OnOk result (text.new.items ≡ text.old.items ++ flat_map (row_line (column_of (Array.Int32 array.now) ∷ [])) (range_with_len 0 (length array.now.items))) }
+{
+    let mut block = [0; BLOCK_BYTES];
+    let mut row = 0;
+    while row < array.len() {
+        let count = (BLOCK_BYTES / MAX_LINE_BYTES).min(array.len() - row);
+        let start = write_lines(&mut block, array, row, row + count);
+        text.extend_from_slice(&block[start..])?;
+        row += count;
+    }
+    Ok(())
+}
+
+/// Writes the lines of rows at the end of a block, and says where they begin.
+fn write_lines(block: &mut [u8], array: &PrimitiveArray<i32>, from: usize, to: usize) -> usize
+    requires room { 12 * (to - from) ≤ length block.old }
+    requires within { (from ≤ to) × (to ≤ length array.now.items) }
+    ensures start { result ≤ length block.old }
+    ensures written { drop result block.new ≡ flat_map (row_line (column_of (Array.Int32 array.now) ∷ [])) (range_with_len from (to - from)) }
+{
+    let mut start = block.len();
+    for row in (from..to).rev() {
+        start = write_line(block, start, array, row);
+    }
+    start
+}
+
+/// Writes the line of a row before a place, and says where it begins.
+fn write_line(block: &mut [u8], end: usize, array: &PrimitiveArray<i32>, row: usize) -> usize
+    requires room { (12 ≤ end) × (end ≤ length block.old) }
+    requires within { row < length array.now.items }
+    ensures start { (result ≤ end) × (end ≤ result + 12) }
+    ensures written { drop result block.new ≡ row_line (column_of (Array.Int32 array.now) ∷ []) row ++ drop end block.old }
+{
+    block[end - 1] = b'\n';
+    write_number(block, end - 1, array, row)
+}
+
+/// Writes the number or null of a row before a place, and says where it begins.
+fn write_number(block: &mut [u8], end: usize, array: &PrimitiveArray<i32>, row: usize) -> usize
+    requires room { (11 ≤ end) × (end ≤ length block.old) }
+    requires within { row < length array.now.items }
+    ensures start { (result ≤ end) × (end ≤ result + 11) }
+    ensures written { drop result block.new ≡ option_map_or cell_text (slice_get (map (cell_of Int) array.now.items) row) [] ++ drop end block.old }
+{
+    match array.get(row) {
+        None => write_null(block, end),
+        Some(number) => write_i32(block, end, number),
+    }
+}
+
+fn write_null(block: &mut [u8], end: usize) -> usize
+    requires { (4 ≤ end) × (end ≤ length block.old) }
+    ensures start { result + 4 ≡ end }
+    ensures written { drop result block.new ≡ codes "null" ++ drop end block.old }
+{
+    let start = end - 4;
+    block[start..end].copy_from_slice(b"null");
+    start
+}
+
+/// Writes the number or null of a row at the end.
+pub(crate) fn push_number(
+    text: &mut Vec<u8>,
+    array: &PrimitiveArray<i32>,
+    row: usize,
+) -> Result<(), AllocError>
+    ensures { OnOk result (text.new.items ≡ text.old.items ++ option_map_or cell_text (slice_get (map (cell_of Int) array.now.items) row) []) }
+{
+    // A row behind the last has no cell.
+    if row >= array.len() {
+        return Ok(());
+    }
+    let mut block = [0; MAX_NUMBER_BYTES];
+    let start = write_number(&mut block, MAX_NUMBER_BYTES, array, row);
+    text.extend_from_slice(&block[start..])
+}

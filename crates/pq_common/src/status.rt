@@ -1,0 +1,56 @@
+//! How a run ends.
+ghost use Rattle.std.specs.Prelude.{◌≡◌};
+ghost use Rattle.pq_common.specs.Endings.{number_of, text_for};
+
+/// One for each way.
+#[derive(Clone, Copy, Debug, PartialEq, Eq)]
+pub enum Status {
+    Done,
+    Words,
+    Argument,
+    NotCarried,
+    Damaged,
+    NotValid,
+    Range,
+    Reading,
+    Writing,
+    Memory,
+}
+
+impl Status {
+    /// The exit status of the program.
+    pub fn number(&self) -> u8
+        ensures { result ≡ number_of self.now }
+    {
+        match self {
+            Status::Done => 0,
+            Status::Words => 2,
+            Status::Argument => 3,
+            Status::NotCarried => 4,
+            Status::Damaged => 5,
+            Status::NotValid => 6,
+            Status::Range => 7,
+            Status::Reading => 8,
+            Status::Writing => 9,
+            Status::Memory => 10,
+        }
+    }
+}
+
+/// What the program says of a run that ended so.
+pub fn status_text(status: Status) -> &'static str
+    ensures { result.now ≡ text_for status }
+{
+    match status {
+        Status::Done => "ok",
+        Status::Words => "usage: pqscan FILE ITEM... [--chunk N] [--limit N] [--summary]",
+        Status::Argument => "the request does not fit the file",
+        Status::NotCarried => "not carried",
+        Status::Damaged => "the file is damaged",
+        Status::NotValid => "a text or key is not valid",
+        Status::Range => "a value is out of range",
+        Status::Reading => "reading failed",
+        Status::Writing => "writing failed",
+        Status::Memory => "out of memory",
+    }
+}

@@ -1,8 +1,0 @@
-pub mod Appended
-pub mod Examples
-pub mod ItemLemmas
-pub mod Joined
-pub mod NumberLemmas
-pub mod ReportLemmas
-pub mod ScanLemmas
-pub mod SplitLemmas

@@ -1,0 +1,5 @@
+pub mod NotBuilt
+pub mod Parsed
+pub mod Program
+pub mod Report
+pub mod Words
