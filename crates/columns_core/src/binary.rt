@@ -72,8 +72,8 @@ impl<O: Offset> BinaryArray<O> {
         ensures err { IfErr result IsWantOfMemory }
     {
         Ok(BinaryArray {
-            data_type: self.data_type.try_clone(alloc)?,
             items: self.items.try_clone(alloc)?,
+            data_type: self.data_type.try_clone(alloc)?,
         })
     }
 }
