@@ -20,7 +20,7 @@ cd "$work/repo"
 
 # seconds COMMAND..: the processor seconds of a command; what it says is in $work/said.
 seconds() {
-    if ! { time -p "$@" >"$work/said" 2>&1; } 2>"$work/time"; then
+    if ! time -p sh -c '"$@" >"$0" 2>&1' "$work/said" "$@" 2>"$work/time"; then
         cat "$work/said" >&2
         echo "proof_time.sh: $* failed" >&2
         exit 1
