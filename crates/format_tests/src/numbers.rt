@@ -1,6 +1,9 @@
+//! Numbers of bytes, and runs of rows.
 ghost use Rattle.std.specs.Prelude.{◌≡◌};
 
-use super::{Interval, Unspelled, common_runs, from_zigzag, page_runs, runs_of_all, varint_at};
+use parquet_base::{
+    Interval, Unspelled, common_runs, from_zigzag, page_runs, runs_of_all, varint_at,
+};
 use std::test::*;
 
 fn run(start: usize, length: usize) -> Interval

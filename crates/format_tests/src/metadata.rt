@@ -1,30 +1,89 @@
-use crate::{
+//! Footers, and what they say.
+use crate::written::{MAGIC, Written};
+use parquet_meta::{
     Failed, FailingSource, FileSource, MemorySource, Place, RawStatistics, Source, read_exact_at,
     read_metadata,
 };
-use std::alloc::Global;
+use parquet_thrift::{BINARY, I32, STRUCT};
+use std::alloc::{AllocError, Global};
 use std::process::Abort;
 use std::test::Fail;
 
-/// One required INT32 column `a` with the rows 10, 12, 15, 18 and 20, in one group and one plain page.
-const ONE_GROUP: [u8; 124] = [
-    80, 65, 82, 49, 21, 0, 21, 40, 21, 40, 44, 21, 10, 21, 0, 21, 6, 21, 6, 0, 0, 10, 0, 0, 0, 12,
-    0, 0, 0, 15, 0, 0, 0, 18, 0, 0, 0, 20, 0, 0, 0, 21, 2, 25, 44, 72, 6, 115, 99, 104, 101, 109,
-    97, 21, 2, 0, 21, 2, 37, 0, 24, 1, 97, 0, 22, 10, 25, 28, 25, 28, 38, 8, 28, 21, 2, 25, 21, 0,
-    25, 24, 1, 97, 21, 0, 22, 10, 22, 74, 22, 74, 38, 8, 60, 54, 0, 40, 4, 20, 0, 0, 0, 24, 4, 10,
-    0, 0, 0, 0, 0, 0, 22, 74, 22, 10, 0, 0, 75, 0, 0, 0, 80, 65, 82, 49,
-];
+/// The version, and the schema of one required INT32 column `a`.
+fn write_schema(file: &mut Written) -> Result<(), AllocError> {
+    file.int(1, 1)?;
+    file.list(1, 2, STRUCT)?;
+    file.text(4, b"schema")?;
+    file.int(1, 1)?;
+    file.end()?;
+    file.int(1, 1)?;
+    file.int(2, 0)?;
+    file.text(1, b"a")?;
+    file.end()
+}
 
-/// The same column without a group.
-const NO_GROUPS: [u8; 40] = [
-    80, 65, 82, 49, 21, 2, 25, 44, 72, 6, 115, 99, 104, 101, 109, 97, 21, 2, 0, 21, 2, 37, 0, 24,
-    1, 97, 0, 22, 0, 25, 12, 0, 28, 0, 0, 0, 80, 65, 82, 49,
-];
+/// A chunk of 37 bytes with five values from 10 to 20 and no null.
+fn write_chunk(file: &mut Written) -> Result<(), AllocError> {
+    file.long(2, 4)?;
+    file.begin(1)?;
+    file.int(1, 1)?;
+    file.list(1, 1, I32)?;
+    file.raw(&[0])?;
+    file.list(1, 1, BINARY)?;
+    file.raw(&[1, b'a'])?;
+    file.int(1, 0)?;
+    file.long(1, 5)?;
+    file.long(1, 37)?;
+    file.long(1, 37)?;
+    file.long(2, 4)?;
+    file.begin(3)?;
+    file.long(3, 0)?;
+    file.text(2, &[20, 0, 0, 0])?;
+    file.text(1, &[10, 0, 0, 0])?;
+    file.end()?;
+    file.end()?;
+    file.end()
+}
 
-/// Where the footer of `ONE_GROUP` begins.
+/// The column `a` with the rows 10, 12, 15, 18 and 20, in one group and one plain page.
+fn one_group(alloc: Global) -> Result<Vec<u8>, AllocError> {
+    let mut file = Written::new(alloc);
+    file.raw(MAGIC)?;
+    file.page_header()?;
+    for row in [10, 12, 15, 18, 20] {
+        file.raw(&[row, 0, 0, 0])?;
+    }
+    write_schema(&mut file)?;
+    file.long(1, 5)?;
+    file.list(1, 1, STRUCT)?;
+    file.list(1, 1, STRUCT)?;
+    write_chunk(&mut file)?;
+    file.long(1, 37)?;
+    file.long(1, 5)?;
+    file.end()?;
+    file.end()?;
+    file.raw(&[75, 0, 0, 0])?;
+    file.raw(MAGIC)?;
+    Ok(file.into_bytes())
+}
+
+/// The column without a group.
+fn no_groups(alloc: Global) -> Result<Vec<u8>, AllocError> {
+    let mut file = Written::new(alloc);
+    file.raw(MAGIC)?;
+    write_schema(&mut file)?;
+    file.long(1, 0)?;
+    file.list(1, 0, STRUCT)?;
+    file.end()?;
+    file.raw(&[28, 0, 0, 0])?;
+    file.raw(MAGIC)?;
+    Ok(file.into_bytes())
+}
+
+/// Where the footer of `one_group` begins.
 const FOOTER: usize = 41;
 
-/// For each value of a byte, and each byte of the footer of `ONE_GROUP` that is changed to it: `o` where the rules of the format
+/// For each value of a byte, and each byte of the footer of `one_group` that is changed to it: `o` where the rules of the format
 /// still give metadata, and `x` where the file is damaged.
 const CHANGED: [(u8, &[u8; 75]); 4] = [
     (
@@ -53,9 +112,9 @@ fn outcome<S: Source>(alloc: Global, source: &mut S) -> u8 {
     }
 }
 
-/// What comes of `ONE_GROUP` with one byte changed.
+/// What comes of `one_group` with one byte changed.
 fn outcome_with(alloc: Global, place: usize, value: u8) -> Result<u8, Fail> {
-    let mut bytes = Vec::from_slice(alloc, &ONE_GROUP)?;
+    let mut bytes = one_group(alloc)?;
     if place < bytes.len() {
         bytes[place] = value;
     }
@@ -64,7 +123,9 @@ fn outcome_with(alloc: Global, place: usize, value: u8) -> Result<u8, Fail> {
 
 #[test]
 fn reads_the_metadata_of_one_group(rt: HostRuntime) -> Result<(), Fail> {
-    let mut source = MemorySource::new(Vec::from_slice(rt.alloc(), &ONE_GROUP)?);
+    let file = one_group(rt.alloc())?;
+    assert_eq!(rt; file.len(), 124);
+    let mut source = MemorySource::new(file);
     let Ok(metadata) = read_metadata(rt.alloc(), &mut source) else {
         return Err(Fail::from("no metadata"));
     };
@@ -84,7 +145,7 @@ fn reads_the_metadata_of_one_group(rt: HostRuntime) -> Result<(), Fail> {
             assert_eq!(rt; ends.max_value, Some(20));
         }
     }
-    let mut empty = MemorySource::new(Vec::from_slice(rt.alloc(), &NO_GROUPS)?);
+    let mut empty = MemorySource::new(no_groups(rt.alloc())?);
     assert_eq!(rt; outcome(rt.alloc(), &mut empty), 0);
     Ok(())
 }
@@ -111,36 +172,16 @@ fn judges_damaged_footers(rt: HostRuntime) -> Result<(), Fail> {
 }
 
 #[test]
-fn refuses_a_negative_count_where_it_is_used(rt: HostRuntime) -> Result<(), Fail> {
-    let mut bytes = Vec::from_slice(rt.alloc(), &ONE_GROUP)?;
-    if 94 < bytes.len() {
-        bytes[94] = 1;
-    }
-    let Ok(metadata) = read_metadata(rt.alloc(), &mut MemorySource::new(bytes)) else {
-        return Err(Fail::from("no metadata"));
-    };
-    for group in metadata.row_groups.as_slice() {
-        for column in group.columns() {
-            let Err(error) = column.statistics(rt.alloc()) else {
-                return Err(Fail::from("statistics of a negative count"));
-            };
-            assert_eq!(rt; error.number(), 3);
-        }
-    }
-    Ok(())
-}
-
-#[test]
 fn fails_where_the_source_does(rt: HostRuntime) -> Result<(), Fail> {
     // Five calls: the size, and for the last eight bytes and for the footer the size and the bytes.
     for (failing, first, second) in [(1, 6, 0), (3, 6, 0), (5, 6, 0), (6, 0, 6)] {
-        let bytes = Vec::from_slice(rt.alloc(), &ONE_GROUP)?;
+        let bytes = one_group(rt.alloc())?;
         let listed = Vec::from_slice(rt.alloc(), &[failing])?;
         let mut source = FailingSource::new(bytes, listed);
         assert_eq!(rt; outcome(rt.alloc(), &mut &mut source), first);
         assert_eq!(rt; outcome(rt.alloc(), &mut source), second);
     }
-    let mut source = MemorySource::new(Vec::from_slice(rt.alloc(), &ONE_GROUP)?);
+    let mut source = MemorySource::new(one_group(rt.alloc())?);
     let behind = Place {
         offset: 121,
         length: 4,

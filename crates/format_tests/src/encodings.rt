@@ -1,7 +1,10 @@
+//! Bytes of pages, and the values that they spell.
 ghost use Rattle.std.specs.Prelude.{◌≡◌, ◌≤◌, ◌<◌, IsSome};
 ghost use Rattle.parquet_encoding.specs.HybridLeft.{hybrid_left};
 
-use super::*;
+use parquet_encoding::{
+    DeltaBinary, DeltaLength, HybridRle, HybridRun, PlainBits, PlainBytes, PlainFixed,
+};
 use std::process::Abort;
 use std::test::*;
 

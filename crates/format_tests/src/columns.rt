@@ -1,4 +1,9 @@
-use super::*;
+//! Bitmaps, offsets, arrays, chunks and the text of errors.
+use columns_core::{
+    Array, BinaryArray, Bitmap, BitmapIter, BooleanArray, Boxed, Cell, Chunk, DataType,
+    DictionaryArray, DictionaryKey, Error, FixedSizeBinaryArray, IntegerType, MutableBitmap,
+    NativeType, NullArray, Offset, Offsets, Part, PrimitiveArray, Utf8Array,
+};
 use std::process::Abort;
 use std::test::*;
 

@@ -1,18 +1,14 @@
-use crate::{
+//! Page headers, and the indexes of pages.
+use crate::written::Written;
+use columns_core::{Error, Name, Seq};
+use parquet_meta::{
     ColumnChunkMetaData, ColumnDescriptor, DataPageHeader, Index, MemorySource, PageHeader,
     PageKind, PageLocation, PhysicalType, Place, PrimitiveType, Repetition, get_field_columns,
     get_field_pages, page_header_at, read_pages_locations, read_raw_indexes,
 };
-use columns_core::{Error, Name, Seq};
-use parquet_thrift::Unspelled;
+use parquet_thrift::{STRUCT, Unspelled};
 use std::alloc::{AllocError, Global};
 use std::test::Fail;
-
-/// An offset index of three locations.
-const LOCATIONS: [u8; 28] = [
-    0x19, 0x3c, 0x16, 0x08, 0x15, 0xc8, 0x01, 0x16, 0x00, 0x00, 0x16, 0xd0, 0x01, 0x15, 0xc8, 0x01,
-    0x16, 0x14, 0x00, 0x16, 0x98, 0x03, 0x15, 0x64, 0x16, 0x32, 0x00, 0x00,
-];
 
 /// Bytes of ends.
 const ENDS: [u8; 12] = [2; 12];
@@ -61,11 +57,11 @@ fn column(
 }
 
 #[test]
-fn reads_page_headers(rt: HostRuntime) {
-    let data = [
-        0x15, 0x00, 0x15, 0x28, 0x15, 0x28, 0x2c, 0x15, 0x0a, 0x15, 0x00, 0x15, 0x06, 0x15, 0x06,
-        0x00, 0x00, 0x0a,
-    ];
+fn reads_page_headers(rt: HostRuntime) -> Result<(), Fail> {
+    let mut data = Written::new(rt.alloc());
+    data.page_header()?;
+    data.raw(&[10])?;
+    let data = data.into_bytes();
     let header = DataPageHeader::V1 {
         num_values: 5,
         encoding: 0,
@@ -75,11 +71,23 @@ fn reads_page_headers(rt: HostRuntime) {
         kind: PageKind::Data(header),
         size: 20,
     };
-    assert_eq!(rt; page_header_at(&data), Ok((expected, [0x0a].as_slice())));
-    assert_eq!(rt; page_header_at(&data[..16]), Err(Unspelled));
-    let dictionary = [
-        0x15, 0x04, 0x25, 0x10, 0x4c, 0x15, 0x04, 0x15, 0x04, 0x00, 0x00,
-    ];
+    assert_eq!(rt;
+        page_header_at(data.as_slice()),
+        Ok((expected, [10].as_slice()))
+    );
+    assert_eq!(rt;
+        page_header_at(&data.as_slice()[..data.len().saturating_sub(2)]),
+        Err(Unspelled)
+    );
+    let mut dictionary = Written::new(rt.alloc());
+    dictionary.int(1, 2)?;
+    dictionary.int(2, 8)?;
+    dictionary.begin(4)?;
+    dictionary.int(1, 2)?;
+    dictionary.int(1, 2)?;
+    dictionary.end()?;
+    dictionary.end()?;
+    let dictionary = dictionary.into_bytes();
     let expected = PageHeader {
         kind: PageKind::Dictionary {
             num_values: 2,
@@ -87,17 +95,36 @@ fn reads_page_headers(rt: HostRuntime) {
         },
         size: 8,
     };
-    assert_eq!(rt; page_header_at(&dictionary), Ok((expected, [].as_slice())));
+    assert_eq!(rt;
+        page_header_at(dictionary.as_slice()),
+        Ok((expected, [].as_slice()))
+    );
+    Ok(())
+}
+
+/// An offset index of three locations.
+fn locations(alloc: Global) -> Result<Vec<u8>, AllocError> {
+    let mut index = Written::new(alloc);
+    index.list(1, 3, STRUCT)?;
+    for (offset, size, first_row) in [(4, 100, 0), (104, 100, 10), (204, 50, 25)] {
+        index.long(1, offset)?;
+        index.int(1, size)?;
+        index.long(1, first_row)?;
+        index.end()?;
+    }
+    index.end()?;
+    Ok(index.into_bytes())
 }
 
 #[test]
 fn reads_the_locations_of_pages(rt: HostRuntime) -> Result<(), Fail> {
     let alloc = rt.alloc();
-    let mut source = MemorySource::new(Vec::from_slice(alloc, &LOCATIONS)?);
+    let index = locations(alloc)?;
     let place = Place {
         offset: 0,
-        length: 28,
+        length: index.len() as u64,
     };
+    let mut source = MemorySource::new(index);
     let mut columns = Vec::new(alloc);
     columns.push(column(alloc, "a", PhysicalType::Int32, Some(place))?)?;
     columns.push(column(alloc, "b", PhysicalType::Int32, None)?)?;

@@ -1,4 +1,5 @@
-use crate::{BINARY, Compact, FieldHeader, I32, I64, LIST, ListHeader, STRUCT, Unspelled};
+//! Bytes of the compact protocol, and what they spell.
+use parquet_thrift::{BINARY, Compact, FieldHeader, I32, I64, LIST, ListHeader, STRUCT, Unspelled};
 use std::process::Abort;
 use std::test::Fail;
 
