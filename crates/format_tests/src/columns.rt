@@ -71,32 +71,40 @@ fn offsets<O: Offset>(rt: &HostRuntime, lengths: &[usize]) -> Result<Offsets<O>,
     Ok(offsets)
 }
 
+/// `a`, a character of two bytes, `b`, and a byte that begins no character.
+const JOINED: [u8; 5] = [0x61, 0xC3, 0xA4, 0x62, 0xFF];
+
+fn texts(rt: &HostRuntime, lengths: &[usize]) -> Result<Utf8Array<i64>, Error> {
+    let places = offsets(rt, lengths)?;
+    let values = Vec::from_slice(rt.alloc(), &JOINED)?;
+    Utf8Array::try_new(DataType::LargeUtf8, places, values, None)
+}
+
 #[test]
-fn texts_are_tested_item_by_item(rt: HostRuntime) -> Result<(), Fail> {
-    let bytes = [0x61, 0xC3, 0xA4, 0x62, 0xFF];
+fn texts_are_tested_item_by_item(rt: HostRuntime) {
     for (lengths, fits) in [([1, 2, 1], true), ([2, 1, 1], false), ([3, 1, 1], false)] {
-        let values = Vec::from_slice(rt.alloc(), &bytes)?;
-        let places = offsets::<i64>(&rt, &lengths)?;
-        match Utf8Array::try_new(DataType::LargeUtf8, places, values, None) {
+        match texts(&rt, &lengths) {
             Err(e) => assert!(rt; !fits && matches!(e, Error::OutOfSpec(_))),
-            Ok(texts) => {
-                assert!(rt; fits);
-                assert_eq!(rt; texts.len(), 3);
-            }
+            Ok(texts) => assert!(rt; fits && texts.len() == 3),
         }
-        let values = Vec::from_slice(rt.alloc(), &bytes)?;
-        let places = offsets::<i32>(&rt, &lengths)?;
-        let strings = BinaryArray::try_new(DataType::Binary, places, values, None)?;
-        assert_eq!(rt; strings.len(), 3);
-        let values = Vec::from_slice(rt.alloc(), &bytes)?;
-        let places = offsets::<i32>(&rt, &lengths)?;
-        assert!(rt;
-            matches!(
-                BinaryArray::try_new(DataType::LargeBinary, places, values, None),
-                Err(Error::InvalidArgumentError(_))
-            )
-        );
     }
+}
+
+fn byte_strings(rt: &HostRuntime, is_large: bool) -> Result<BinaryArray<i32>, Error> {
+    let places = offsets(rt, &[2, 1, 1])?;
+    let values = Vec::from_slice(rt.alloc(), &JOINED)?;
+    let data_type = if is_large {
+        DataType::LargeBinary
+    } else {
+        DataType::Binary
+    };
+    BinaryArray::try_new(data_type, places, values, None)
+}
+
+#[test]
+fn byte_strings_refuse_other_types(rt: HostRuntime) -> Result<(), Fail> {
+    assert_eq!(rt; byte_strings(&rt, false)?.len(), 3);
+    assert!(rt; is_refused(byte_strings(&rt, true)));
     Ok(())
 }
 
