@@ -71,32 +71,40 @@ fn offsets<O: Offset>(rt: &HostRuntime, lengths: &[usize]) -> Result<Offsets<O>,
     Ok(offsets)
 }
 
+/// `a`, a character of two bytes, `b`, and a byte that begins no character.
+const JOINED: [u8; 5] = [0x61, 0xC3, 0xA4, 0x62, 0xFF];
+
+fn texts(rt: &HostRuntime, lengths: &[usize]) -> Result<Utf8Array<i64>, Error> {
+    let places = offsets(rt, lengths)?;
+    let values = Vec::from_slice(rt.alloc(), &JOINED)?;
+    Utf8Array::try_new(DataType::LargeUtf8, places, values, None)
+}
+
 #[test]
-fn texts_are_tested_item_by_item(rt: HostRuntime) -> Result<(), Fail> {
-    let bytes = [0x61, 0xC3, 0xA4, 0x62, 0xFF];
+fn texts_are_tested_item_by_item(rt: HostRuntime) {
     for (lengths, fits) in [([1, 2, 1], true), ([2, 1, 1], false), ([3, 1, 1], false)] {
-        let values = Vec::from_slice(rt.alloc(), &bytes)?;
-        let places = offsets::<i64>(&rt, &lengths)?;
-        match Utf8Array::try_new(DataType::LargeUtf8, places, values, None) {
+        match texts(&rt, &lengths) {
             Err(e) => assert!(rt; !fits && matches!(e, Error::OutOfSpec(_))),
-            Ok(texts) => {
-                assert!(rt; fits);
-                assert_eq!(rt; texts.len(), 3);
-            }
+            Ok(texts) => assert!(rt; fits && texts.len() == 3),
         }
-        let values = Vec::from_slice(rt.alloc(), &bytes)?;
-        let places = offsets::<i32>(&rt, &lengths)?;
-        let strings = BinaryArray::try_new(DataType::Binary, places, values, None)?;
-        assert_eq!(rt; strings.len(), 3);
-        let values = Vec::from_slice(rt.alloc(), &bytes)?;
-        let places = offsets::<i32>(&rt, &lengths)?;
-        assert!(rt;
-            matches!(
-                BinaryArray::try_new(DataType::LargeBinary, places, values, None),
-                Err(Error::InvalidArgumentError(_))
-            )
-        );
     }
+}
+
+fn byte_strings(rt: &HostRuntime, is_large: bool) -> Result<BinaryArray<i32>, Error> {
+    let places = offsets(rt, &[2, 1, 1])?;
+    let values = Vec::from_slice(rt.alloc(), &JOINED)?;
+    let data_type = if is_large {
+        DataType::LargeBinary
+    } else {
+        DataType::Binary
+    };
+    BinaryArray::try_new(data_type, places, values, None)
+}
+
+#[test]
+fn byte_strings_refuse_other_types(rt: HostRuntime) -> Result<(), Fail> {
+    assert_eq!(rt; byte_strings(&rt, false)?.len(), 3);
+    assert!(rt; is_refused(byte_strings(&rt, true)));
     Ok(())
 }
 
@@ -160,21 +168,36 @@ fn has_cell(rt: &HostRuntime, array: &Array, i: usize, cell: &Cell) -> Result<bo
 }
 
 #[test]
-fn arrays_refuse_other_types_lengths_and_sizes(rt: HostRuntime) -> Result<(), Fail> {
+fn numbers_refuse_other_types_and_lengths(rt: HostRuntime) -> Result<(), Fail> {
     let there = [true, false];
     assert!(rt; is_refused(numbers(&rt, DataType::Int64, &[1i32, 2], &there)));
     assert!(rt; is_refused(numbers(&rt, DataType::Date32, &[1i32], &there)));
-    let days = numbers(&rt, DataType::Date32, &[19000i32, 0], &there)?;
-    let days = Array::Int32(days);
-    assert!(rt;
-        has_cell(&rt, &days, 0, &Cell::Int(19000))? && has_cell(&rt, &days, 1, &Cell::Null)?
-    );
+    let days = Array::Int32(numbers(&rt, DataType::Date32, &[19000i32, 0], &there)?);
+    assert!(rt; has_cell(&rt, &days, 0, &Cell::Int(19000))?);
+    assert!(rt; has_cell(&rt, &days, 1, &Cell::Null)?);
+    Ok(())
+}
+
+#[test]
+fn arrays_of_other_types_differ(rt: HostRuntime) -> Result<(), Fail> {
+    let days = Array::Int32(numbers(&rt, DataType::Date32, &[19000i32], &[true])?);
     assert!(rt; days.try_clone(rt.alloc())? == days);
-    assert!(rt; days != Array::Int32(numbers(&rt, DataType::Int32, &[19000i32, 0], &there)?));
+    assert!(rt; days != Array::Int32(numbers(&rt, DataType::Int32, &[19000i32], &[true])?));
+    Ok(())
+}
+
+#[test]
+fn truths_refuse_other_types(rt: HostRuntime) -> Result<(), Fail> {
     let values = mask(&rt, &[true, true])?;
     assert!(rt; is_refused(BooleanArray::try_new(DataType::UInt8, values, None)));
-    let truths = BooleanArray::try_new(DataType::Boolean, mask(&rt, &there)?, None)?;
+    let values = mask(&rt, &[true, false])?;
+    let truths = BooleanArray::try_new(DataType::Boolean, values, None)?;
     assert!(rt; has_cell(&rt, &Array::Boolean(truths), 1, &Cell::Bool(false))?);
+    Ok(())
+}
+
+#[test]
+fn bytes_of_one_size_refuse_other_sizes(rt: HostRuntime) -> Result<(), Fail> {
     let six = [1u8, 2, 3, 4, 5, 6];
     for (size, bytes, fits) in [
         (3, &six[..], true),
@@ -182,13 +205,20 @@ fn arrays_refuse_other_types_lengths_and_sizes(rt: HostRuntime) -> Result<(), Fa
         (4, &six[..], false),
         (2, &six[..], false),
     ] {
+        let validity = mask(&rt, &[true, false])?;
         let bytes = Vec::from_slice(rt.alloc(), bytes)?;
-        let validity = Some(mask(&rt, &there)?);
-        let array = FixedSizeBinaryArray::try_new(DataType::FixedSizeBinary(size), bytes, validity);
+        let data_type = DataType::FixedSizeBinary(size);
+        let array = FixedSizeBinaryArray::try_new(data_type, bytes, Some(validity));
         assert_eq!(rt; is_refused(array), !fits);
     }
+    Ok(())
+}
+
+#[test]
+fn nulls_are_null(rt: HostRuntime) -> Result<(), Fail> {
     let nulls = Array::Null(NullArray::new(2));
-    assert!(rt; has_cell(&rt, &nulls, 1, &Cell::Null)? && nulls.try_clone(rt.alloc())? == nulls);
+    assert!(rt; has_cell(&rt, &nulls, 1, &Cell::Null)?);
+    assert!(rt; nulls.try_clone(rt.alloc())? == nulls);
     Ok(())
 }
 

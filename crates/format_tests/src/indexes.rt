@@ -6,7 +6,7 @@ use parquet_meta::{
     PageKind, PageLocation, PhysicalType, Place, PrimitiveType, Repetition, get_field_columns,
     get_field_pages, page_header_at, read_pages_locations, read_raw_indexes,
 };
-use parquet_thrift::{STRUCT, Unspelled};
+use parquet_thrift::{BINARY, FALSE, STRUCT, TRUE, Unspelled};
 use std::alloc::{AllocError, Global};
 use std::test::Fail;
 
@@ -145,11 +145,16 @@ fn read_end(alloc: Global, physical_type: PhysicalType, end: &[u8]) -> Result<Ve
     let Ok(length) = u8::try_from(end.len()) else {
         return Err(Error::Overflow);
     };
-    let mut bytes = Vec::from_slice(alloc, &[0x19, 0x11, 0x02, 0x19, 0x18, length])?;
-    bytes.extend_from_slice(end)?;
-    bytes.extend_from_slice(&[0x19, 0x18, length])?;
-    bytes.extend_from_slice(end)?;
-    bytes.push(0)?;
+    let mut index = Written::new(alloc);
+    index.list(1, 1, TRUE)?;
+    index.raw(&[FALSE])?;
+    for _ in 0..2 {
+        index.list(1, 1, BINARY)?;
+        index.raw(&[length])?;
+        index.raw(end)?;
+    }
+    index.end()?;
+    let bytes = index.into_bytes();
     let place = Place {
         offset: 0,
         length: bytes.len() as u64,
