@@ -156,7 +156,7 @@ fn length_with(bytes: usize, additional: usize, size: usize) -> Result<usize, Er
 pub type Iter<I> = ArrayIter<I, FixedValues>;
 
 impl<I: Pages> ArrayIter<I, FixedValues> {
-    /// The rows of these pages, at most so many.
+    /// The rows of these pages, at most so many. Where the type is that of byte strings of one size, the pages have such byte strings.
     pub fn new(
         alloc: Global,
         iter: I,
@@ -164,7 +164,7 @@ impl<I: Pages> ArrayIter<I, FixedValues> {
         num_rows: usize,
         chunk_size: Option<usize>,
     ) -> Result<Self, Error>
-        requires takes { DataPagesAre (λ page. page.type.physical_type ≡ FixedLenByteArray (fixed_size data_type)) (I.to_come iter) }
+        requires takes { 0 < fixed_size data_type → DataPagesAre (λ page. page.type.physical_type ≡ FixedLenByteArray (fixed_size data_type)) (I.to_come iter) }
         ensures ok { IfOk result (λ _. IsChunkSize chunk_size × (0 < fixed_size data_type)) }
         ensures err { IfErr result (λ e. IsTrue (is_invalid_argument e) × (IsChunkSize chunk_size → 0 < fixed_size data_type → ⊥)) }
         ensures values { IfOk result (λ arrays. arrays.chunks.decoder.values.size ≡ fixed_size data_type) }
