@@ -486,6 +486,57 @@ fn plain_numbers(rt: HostRuntime) -> Result<(), Fail> {
     Ok(())
 }
 
+/// What a chunk of INT32 is refused by.
+fn refusal_of(alloc: Global, repetition: Repetition, chunk: Vec<u8>) -> Option<Error> {
+    numbers_of(alloc, repetition, chunk).err()
+}
+
+#[test]
+fn parts_that_refusals_name(rt: HostRuntime) -> Result<(), Fail> {
+    let alloc = rt.alloc();
+    let (optional, required) = (Repetition::Optional, Repetition::Required);
+    assert_eq!(rt;
+        refusal_of(alloc, required, Vec::new(alloc)),
+        Some(Error::ExternalFormat(Part::Header))
+    );
+    // An encoding that is not read, and keys without a dictionary.
+    for encoding in [7, 8] {
+        let chunk = page(alloc, 4, encoding, &[], &[])?;
+        assert_eq!(rt;
+            refusal_of(alloc, required, chunk),
+            Some(Error::NotYetImplemented(Part::Header))
+        );
+    }
+    // Levels that are longer than the page.
+    let chunk = page(alloc, 4, 0, &[9, 0, 0, 0], &[])?;
+    assert_eq!(rt;
+        refusal_of(alloc, optional, chunk),
+        Some(Error::ExternalFormat(Part::Levels))
+    );
+    // Two keys of one bit, 0 and 1, over one entry.
+    let mut chunk = dictionary(alloc, 1, &[5, 0, 0, 0])?;
+    chunk.append(&mut page(alloc, 2, 8, &[], &[1, 3, 2])?)?;
+    assert_eq!(rt;
+        refusal_of(alloc, required, chunk),
+        Some(Error::OutOfSpec(Part::Dictionary))
+    );
+    // A located page that ends a byte early.
+    let chunk = page(alloc, 4, 0, &[], &[1, 0, 0, 0, 2, 0, 0, 0, 3, 0, 0, 0, 4, 0, 0, 0])?;
+    let pages = located_pages(
+        alloc,
+        PhysicalType::Int32,
+        required,
+        chunk,
+        &[located(0, 32, 0)],
+        Interval::new(0, 4),
+    )?;
+    assert_eq!(rt;
+        numbers_read(alloc, pages).err(),
+        Some(Error::ExternalFormat(Part::Location))
+    );
+    Ok(())
+}
+
 #[test]
 fn selected_numbers_by_keys(rt: HostRuntime) -> Result<(), Fail> {
     let alloc = rt.alloc();
