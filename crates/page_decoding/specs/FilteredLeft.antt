@@ -57,10 +57,10 @@ IsLongestOf limit walk page (Some run) behind = (run_rows run ≡ limit) ⊎ ((r
 
 -- A run is as long as it can be, and a word has rows of both kinds. It has fewer than 32 where that many are asked for, or where the packed levels or an
 -- interval end.
-abbrev pub IsLongestPartOf : ℕ → FilteredOptionalPageValidity → DataContent → Option ValidityPart → List Step → Type 0
-IsLongestPartOf limit walk page None behind = Unit {0}
-IsLongestPartOf limit walk page (Some (OfRun run)) behind = IsLongestOf limit walk page (Some run) behind
-IsLongestPartOf limit walk page (Some (OfWord word)) behind = HasBothKinds word
+abbrev pub IsLongestPartOf : ℕ → DataContent → FilteredOptionalPageValidity → FilteredOptionalPageValidity → Option ValidityPart → Type 0
+IsLongestPartOf limit page old new None = Unit {0}
+IsLongestPartOf limit page old new (Some (OfRun run)) = IsLongestOf limit old page (Some run) (filtered_steps new page)
+IsLongestPartOf limit page old new (Some (OfWord word)) = HasBothKinds word
 
 -- so many stored values are passed over, if there are any
 abbrev pub PassesOver : ℕ → Option Run → Type 0
@@ -84,9 +84,9 @@ pub record IsPartOf (limit : ℕ) (old new : List Bool) (part : ValidityPart) : 
   pub most : part_rows part ≤ limit
 
 -- a run of all rows of one kind up to a limit, or a word of both kinds
-abbrev pub IsWholePart : ℕ → List Bool → List Bool → ValidityPart → Type 0
-IsWholePart limit old new (OfRun run) = IsRunOf limit old new run
-IsWholePart limit old new (OfWord word) = HasBothKinds word
+abbrev pub IsWholePart : ℕ → DataContent → OptionalPageValidity → OptionalPageValidity → ValidityPart → Type 0
+IsWholePart limit page old new (OfRun run) = IsRunOf limit (places_left old page) (places_left new page) run
+IsWholePart limit page old new (OfWord word) = HasBothKinds word
 
 -- so many of the selected rows are given, up to the row at which the others are looked for
 pub record AreGiven (count : ℕ) (old new : List ℕ) (place : ℕ) : Type 0 where

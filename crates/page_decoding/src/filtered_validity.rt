@@ -73,7 +73,7 @@ impl FilteredOptionalPageValidity {
         requires page { IsPageOf self.old (data_content page.now) }
         requires limit { 0 < limit }
         ensures part { GivesPart limit (filtered_steps self.old (data_content page.now)) (filtered_steps self.new (data_content page.now)) result }
-        ensures longest { IsLongestPartOf limit self.old (data_content page.now) result (filtered_steps self.new (data_content page.now)) }
+        ensures longest { IsLongestPartOf limit (data_content page.now) self.old self.new result }
         ensures page { IsPageOf self.new (data_content page.now) }
     {
         match page.selected_rows {
@@ -135,7 +135,7 @@ impl FilteredOptionalPageValidity {
         requires rows { rows.now ≡ selected_rows (data_content page.now) }
         requires limit { 0 < limit }
         ensures part { GivesPart limit (filtered_steps self.old (data_content page.now)) (filtered_steps self.new (data_content page.now)) result }
-        ensures longest { IsLongestPartOf limit self.old (data_content page.now) result (filtered_steps self.new (data_content page.now)) }
+        ensures longest { IsLongestPartOf limit (data_content page.now) self.old self.new result }
         ensures page { IsPageOf self.new (data_content page.now) }
     {
         let mut ahead = self.rows;
@@ -207,7 +207,7 @@ impl FilteredOptionalPageValidity {
         requires fits { self.old.row + length (places_left self.old.places (data_content page.now)) < 2 ^ 64 }
         ensures ended { IfNone result (places_left self.old.places (data_content page.now) ≡ []) }
         ensures part { IfSome result (IsPartOf limit (places_left self.old.places (data_content page.now)) (places_left self.new.places (data_content page.now))) }
-        ensures whole { IfSome result (IsWholePart limit (places_left self.old.places (data_content page.now)) (places_left self.new.places (data_content page.now))) }
+        ensures whole { IfSome result (IsWholePart limit (data_content page.now) self.old.places self.new.places) }
         ensures given { IfSome result (λ part. AreGiven (part_rows part) (rows_left self.old.rows rows.now) (rows_left self.new.rows rows.now) self.new.rows.place) }
         ensures row { IfSome result (λ part. self.new.row ≡ self.old.row + part_rows part) }
         ensures place { IfSome result (λ part. self.new.place ≡ self.new.row) }

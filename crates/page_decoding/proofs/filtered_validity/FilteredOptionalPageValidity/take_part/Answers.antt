@@ -43,4 +43,4 @@ returns-clause-given c =
 pub returns-clause-whole : goal.returns-clause-whole
 returns-clause-whole c =
     let page = data_content c.args.page.now in
-    whole-of c.args.limit (places_left c.args.self.now.places page) (places_left c.next_part.new.self page) c.in_ok-part.part c.in_ok-part.ensures.part c.in_ok-part.ensures.longest
+    whole-of c.args.limit page c.args.self.now.places c.next_part.new.self c.in_ok-part.part c.in_ok-part.ensures.part c.in_ok-part.ensures.longest
