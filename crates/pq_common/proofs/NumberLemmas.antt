@@ -80,28 +80,3 @@ read_next digits at number h =
     ap (read_from number) (drop-cons digits at 0 h)
     ∙ ap (λ n. option_and_then (λ next. read_from next (drop n digits)) (with_digit number (get_or digits at 0))) one
 
--- ---- numbers of 32 bits
-
-abbrev pub int32_in : Option ℤ → Option Cell
-int32_in o = option_and_then (λ n. if is_int32 n then Some (Int n) else None) o
-
-too_large : (n : ℤ) → is_i128 n ≡ false → is_int32 n ≡ false
-too_large (pos n) e = grind (arith, ltb-false n (2 ^ 127) e)
-too_large (negsuc n) e = grind (arith, ltb-false (n + 1) (2 ^ 127) e)
-
-of_fitting : (n : ℤ) (b : Bool) → is_i128 n ≡ b → int32_in (if b then Some n else None) ≡ int32_in (Some n)
-of_fitting n true e = refl
-of_fitting n false e = sym (ap (λ b. if b then Some (Int n) else None) (too_large n e))
-
--- A number of 32 bits is one of 128 bits.
-pub int32_fits : (o : Option ℤ) → int32_in (option_and_then fits_i128 o) ≡ int32_in o
-int32_fits None = refl
-int32_fits (Some n) = of_fitting n (is_i128 n) refl
-
-or_none : (o : Option Cell) → option_or o None ≡ o
-or_none None = refl
-or_none (Some cell) = refl
-
-pub int32_spelled : (text : List ℕ) → spelled_value Int32 text ≡ int32_in (signed_number text)
-unfolding out-DataType denote.Hole.Carrier.out
-int32_spelled text = or_none (int32_in (signed_number text))

@@ -7,7 +7,7 @@ ghost use Rattle.pq_common.specs.CellText.{cell_text, hexadecimal, quoted_byte};
 ghost use Rattle.pq_common.specs.Rows.{cell_at};
 
 use crate::column::push_number;
-use crate::number::push_signed;
+use crate::digits::push_signed;
 use columns_core::{Array, Cell, Error};
 use std::alloc::{AllocError, Global};
 
