@@ -45,6 +45,7 @@ fn push_cell_text(text: &mut Vec<u8>, cell: &Cell) -> Result<(), AllocError>
         Cell::DaysMs(days, milliseconds) => push_days(text, *days, *milliseconds),
         Cell::Text(name) => push_quoted(text, name.as_str().as_bytes()),
         Cell::Bytes(bytes) => push_bytes(text, bytes.as_slice()),
+        // No cell of a flat column is a list.
         Cell::Cells(_) => Ok(()),
     }
 }

@@ -1,7 +1,6 @@
 //! The numbers that texts spell.
-ghost use Rattle.std.specs.Prelude.{◌≡◌, option_and_then};
-ghost use Rattle.pq_common.specs.Numbers as spec;
-ghost use Rattle.pq_common.specs.Spelled as spelled;
+ghost use Rattle.std.specs.Prelude.{◌≡◌, None, option_and_then, if◌then◌else◌};
+ghost use Rattle.pq_common.specs.Spelled as spec;
 
 /// The most digits of a count.
 const MOST_COUNT_DIGITS: usize = 20;
@@ -11,14 +10,14 @@ const MOST_DIGITS: usize = 39;
 
 /// The number that 1 to 20 decimal digits spell, if it has 64 bits.
 pub fn count(text: &[u8]) -> Option<u64>
-    ensures { result ≡ spelled.number text.now }
+    ensures { result ≡ spec.number text.now }
 {
     u64::try_from(unsigned(text, MOST_COUNT_DIGITS)?).ok()
 }
 
 /// The number that an optional minus and 1 to 39 decimal digits spell, if it has 128 bits.
 pub fn signed_number(text: &[u8]) -> Option<i128>
-    ensures { result ≡ spelled.signed_number text.now }
+    ensures { result ≡ spec.signed_number text.now }
 {
     match text.split_first() {
         Some((b'-', digits)) => 0i128.checked_sub_unsigned(unsigned(digits, MOST_DIGITS)?),
@@ -28,7 +27,7 @@ pub fn signed_number(text: &[u8]) -> Option<i128>
 
 /// The number that so many decimal digits at most spell, if it has 128 bits.
 fn unsigned(digits: &[u8], most: usize) -> Option<u128>
-    ensures { result ≡ option_and_then (spelled.fits 128) (spelled.digits_at_most most digits.now) }
+    ensures { result ≡ option_and_then (spec.fits 128) (spec.digits_at_most most digits.now) }
 {
     if digits.is_empty() || digits.len() > most {
         return None;
@@ -42,7 +41,7 @@ fn unsigned(digits: &[u8], most: usize) -> Option<u128>
 
 /// The number with one more digit behind it.
 fn with_digit(number: u128, digit: u8) -> Option<u128>
-    ensures { result ≡ spec.with_digit number digit }
+    ensures { result ≡ (if spec.is_digit digit then spec.fits 128 (spec.add_digit number digit) else None) }
 {
     if !digit.is_ascii_digit() {
         return None;

@@ -8,11 +8,7 @@ use columns_core::{Cell, DataType, Name, Seq};
 use std::alloc::{AllocError, Global};
 
 /// The value of a type that a text spells.
-pub fn value(
-    alloc: Global,
-    data_type: &DataType,
-    text: &str,
-) -> Result<Option<Cell>, AllocError>
+pub fn value(alloc: Global, data_type: &DataType, text: &str) -> Result<Option<Cell>, AllocError>
     ensures { IfOk result (λ found. found ≡ spec.spelled_value data_type.now text.now) }
 {
     let data_type = entry_type(data_type);
