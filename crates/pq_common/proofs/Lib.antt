@@ -1,3 +1,5 @@
 pub mod Appended
+pub mod HexLemmas
 pub mod NumberLemmas
 pub mod RowLemmas
+pub mod TextLemmas

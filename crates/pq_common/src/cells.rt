@@ -7,7 +7,7 @@ ghost use Rattle.pq_common.specs.CellText.{cell_text, hexadecimal, quoted_byte};
 ghost use Rattle.pq_common.specs.Rows.{cell_at};
 
 use crate::column::push_number;
-use crate::number::push_signed;
+use crate::digits::push_signed;
 use columns_core::{Array, Cell, Error};
 use std::alloc::{AllocError, Global};
 
@@ -45,6 +45,7 @@ fn push_cell_text(text: &mut Vec<u8>, cell: &Cell) -> Result<(), AllocError>
         Cell::DaysMs(days, milliseconds) => push_days(text, *days, *milliseconds),
         Cell::Text(name) => push_quoted(text, name.as_str().as_bytes()),
         Cell::Bytes(bytes) => push_bytes(text, bytes.as_slice()),
+        // No cell of a flat column is a list.
         Cell::Cells(_) => Ok(()),
     }
 }

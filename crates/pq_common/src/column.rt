@@ -8,7 +8,7 @@ ghost use Rattle.columns_core.specs.declared.cell.Cell.{Int};
 ghost use Rattle.pq_common.specs.CellText.{cell_text};
 ghost use Rattle.pq_common.specs.Rows.{row_line};
 
-use crate::number::write_i32;
+use crate::digits::write_i32;
 use columns_core::{Array, PrimitiveArray};
 use std::alloc::AllocError;
 

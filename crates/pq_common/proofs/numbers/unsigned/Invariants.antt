@@ -1,6 +1,6 @@
 use Rattle.std.proofs.Common.{◌≡◌, ◌<◌, ◌^◌, drop}
 use Rattle.pq_common.proofs.NumberLemmas.{read_from}
-use Rattle.pq_common.proofs.number.digits_value.Given as goal
+use Rattle.pq_common.proofs.numbers.unsigned.Given as goal
 
 -- what the digits spell is what those that are left spell behind the number so far
 abbrev pub invariant-loop-digit : goal.invariant-loop-digit

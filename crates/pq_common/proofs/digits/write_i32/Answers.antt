@@ -3,7 +3,7 @@ use Rattle.std.specs.Fmt.{decimal}
 use Rattle.std.proofs.lemmas.Fmt.{length-decimal-le}
 use Rattle.std.proofs.lemmas.List.{drop-set}
 use Rattle.itoa.proofs.Decimal.{minus_first}
-use Rattle.pq_common.proofs.number.write_i32.Goals as goal
+use Rattle.pq_common.proofs.digits.write_i32.Goals as goal
 
 short : (n : ℕ) → n < 2 ^ 32 → length (decimal n) ≤ 10
 short n h = length-decimal-le 10 n (omega arith) (omega arith) (omega arith)
