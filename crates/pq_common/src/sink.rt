@@ -1,4 +1,4 @@
-//! Where the program's text goes.
+//! Where a tool's text goes.
 ghost use Rattle.std.specs.Prelude.{◌≡◌, ◌+◌, ◌-◌, ◌<◌, ◌≤◌, ℕ, List, Option, Some, None, length, take, true, IsTrue, IsFalse, IfOk, IfErr, OnOk, OnErr, MatchResult};
 ghost use Rattle.parquet_base.specs.Failures.{CountsFailures};
 ghost use Rattle.parquet_meta.specs.Source.{counted as counted_by};
@@ -82,6 +82,7 @@ impl MemorySink {
         }
     }
 
+    /// What it was given.
     pub fn bytes(&self) -> &[u8]
         ensures { result.now ≡ self.now.bytes }
     {
@@ -165,6 +166,7 @@ impl FailingSink {
         })
     }
 
+    /// What it was given.
     pub fn bytes(&self) -> &[u8]
         ensures { result.now ≡ self.now.memory.bytes }
     {
@@ -210,6 +212,7 @@ pub struct StdSink<R: Print + Drop> {
 }
 
 impl<R: Print + Drop> StdSink<R> {
+    /// Standard output, with no fault so far.
     pub fn new(rt: R) -> Self
         ensures { result.faults ≡ 0 }
     {
