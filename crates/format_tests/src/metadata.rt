@@ -137,6 +137,7 @@ fn reads_the_metadata_of_one_group(rt: HostRuntime) -> Result<(), Fail> {
             assert!(rt; column.descriptor().flat);
             assert_eq!(rt; column.num_values(), 5);
             assert_eq!(rt; column.byte_range(), (4, 37));
+            assert!(rt; matches!(column.counts(), Ok((Some(0), None))));
             let Ok(Some(RawStatistics::Int32(ends))) = column.statistics(rt.alloc()) else {
                 return Err(Fail::from("no statistics"));
             };
