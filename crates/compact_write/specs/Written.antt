@@ -65,9 +65,9 @@ list_start_bytes previous id kind count = field_header_bytes previous id list_ki
 
 -- ---- values
 
-abbrev pub count_of : Values → ℕ
-count_of no_values = 0
-count_of (values v vs) = suc (count_of vs)
+abbrev pub value_count : Values → ℕ
+value_count no_values = 0
+value_count (values v vs) = suc (value_count vs)
 
 abbrev pub truth_byte : Bool → ℕ
 truth_byte true = 1
@@ -80,7 +80,7 @@ unfoldable mutual
   value_bytes (number n) = signed_bytes n
   value_bytes (double bytes) = bytes
   value_bytes (binary bytes) = binary_bytes bytes
-  value_bytes (list kind vs) = list_header_bytes kind (count_of vs) ++ elements_bytes vs
+  value_bytes (list kind vs) = list_header_bytes kind (value_count vs) ++ elements_bytes vs
   value_bytes (map vs) = []
   value_bytes (struct fs) = fields_bytes 0 fs
 
@@ -90,7 +90,7 @@ unfoldable mutual
   element_bytes (number n) = signed_bytes n
   element_bytes (double bytes) = bytes
   element_bytes (binary bytes) = binary_bytes bytes
-  element_bytes (list kind vs) = list_header_bytes kind (count_of vs) ++ elements_bytes vs
+  element_bytes (list kind vs) = list_header_bytes kind (value_count vs) ++ elements_bytes vs
   element_bytes (map vs) = []
   element_bytes (struct fs) = fields_bytes 0 fs
 
@@ -107,8 +107,8 @@ unfoldable mutual
 -- ---- what can be written
 
 -- numbers of 16, 32 and 64 bits
-abbrev pub bits_of : ℕ → ℕ
-bits_of kind = if nat_lt kind 5 then 16 else if nat_lt kind 6 then 32 else 64
+abbrev pub kind_bits : ℕ → ℕ
+kind_bits kind = if nat_lt kind 5 then 16 else if nat_lt kind 6 then 32 else 64
 
 abbrev pub is_number_kind : ℕ → Bool
 is_number_kind kind = nat_lt 3 kind && nat_lt kind 7
@@ -128,20 +128,20 @@ unfoldable mutual
   -- a value of this kind that is a field
   pub CanWrite : ℕ → Value → Type 0
   CanWrite kind (truth b) = kind ≡ truth_kind b
-  CanWrite kind (number n) = IsTrue (is_number_kind kind) × (zigzag_of n < 2 ^ bits_of kind)
+  CanWrite kind (number n) = IsTrue (is_number_kind kind) × (zigzag_of n < 2 ^ kind_bits kind)
   CanWrite kind (double bytes) = (kind ≡ 7) × (length bytes ≡ 8)
   CanWrite kind (binary bytes) = (kind ≡ 8) × (length bytes < 2 ^ 64)
-  CanWrite kind (list of vs) = (kind ≡ list_kind) × IsTrue (is_value_kind of) × (count_of vs < 2 ^ 64) × CanWriteElements of vs
+  CanWrite kind (list of vs) = (kind ≡ list_kind) × IsTrue (is_value_kind of) × (value_count vs < 2 ^ 64) × CanWriteElements of vs
   CanWrite kind (map vs) = ⊥
   CanWrite kind (struct fs) = (kind ≡ struct_kind) × CanWriteFields 0 fs
 
   -- a value in a list whose elements have this kind
   pub CanWriteElement : ℕ → Value → Type 0
   CanWriteElement kind (truth b) = kind ≡ 1
-  CanWriteElement kind (number n) = IsTrue (is_number_kind kind) × (zigzag_of n < 2 ^ bits_of kind)
+  CanWriteElement kind (number n) = IsTrue (is_number_kind kind) × (zigzag_of n < 2 ^ kind_bits kind)
   CanWriteElement kind (double bytes) = (kind ≡ 7) × (length bytes ≡ 8)
   CanWriteElement kind (binary bytes) = (kind ≡ 8) × (length bytes < 2 ^ 64)
-  CanWriteElement kind (list of vs) = (kind ≡ list_kind) × IsTrue (is_value_kind of) × (count_of vs < 2 ^ 64) × CanWriteElements of vs
+  CanWriteElement kind (list of vs) = (kind ≡ list_kind) × IsTrue (is_value_kind of) × (value_count vs < 2 ^ 64) × CanWriteElements of vs
   CanWriteElement kind (map vs) = ⊥
   CanWriteElement kind (struct fs) = (kind ≡ struct_kind) × CanWriteFields 0 fs
 
