@@ -20,3 +20,4 @@ pub mod OffsetIndex
 pub mod ColumnIndex
 pub mod PageIndexes
 pub mod Indexes
+pub mod Records

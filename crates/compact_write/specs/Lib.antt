@@ -1,0 +1,4 @@
+pub mod Written
+pub mod Fields
+pub mod Calls
+pub mod ReadBack

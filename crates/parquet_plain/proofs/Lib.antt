@@ -1,0 +1,15 @@
+pub mod StructLemmas
+pub mod SchemaLemmas
+pub mod FooterLemmas
+pub mod PlaceLemmas
+pub mod PageLemmas
+pub mod EndLemmas
+pub mod CanLemmas
+pub mod BodyLemmas
+pub mod ValueLemmas
+pub mod SpelledLemmas
+pub mod LocatedLemmas
+pub mod PieceLemmas
+pub mod FitLemmas
+pub mod OrderLemmas
+pub mod NumberOrder

@@ -1,0 +1,9 @@
+pub mod Structs
+pub mod Description
+pub mod File
+pub mod Bodies
+pub mod Columns
+pub mod Orders
+pub mod Fits
+pub mod Found
+pub mod Laws
