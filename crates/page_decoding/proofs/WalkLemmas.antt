@@ -22,7 +22,7 @@ use Rattle.parquet_page.specs.declared.validity_part.ValidityPart.{ValidityPart}
 use Rattle.parquet_page.specs.declared.validity_part.ValidityPart.TheVariants.{Run as OfRun, Word as OfWord}
 use Rattle.parquet_page.proofs.PlanLemmas.{kept_as}
 use Rattle.parquet_page.proofs.ValidityLemmas.{copies-kept, plan-all}
-use Rattle.page_decoding.specs.FilteredLeft.{AreGiven, IsLongestOf, IsLongestPartOf, IsPageOf, IsPartOf, IsRunOf, IsWholePart, PassesOver, filtered_steps, places_left, selected_rows}
+use Rattle.page_decoding.specs.FilteredLeft.{AreGiven, EndsInterval, IsLongestOf, IsLongestPartOf, IsPageOf, IsPartOf, IsRunOf, IsWholePart, PassesOver, filtered_steps, places_left, selected_rows}
 use Rattle.page_decoding.specs.declared.filtered_validity.FilteredOptionalPageValidity.{FilteredOptionalPageValidity}
 use Rattle.page_decoding.proofs.FilteredLemmas.{begins, behind-gap, is_range, keeps-rows, none-selected, not-passed, other-step, passes-rows}
 
@@ -226,14 +226,14 @@ takes limit page first taken before old new run rest stands some most split own 
         long own.kind count run own.is own.some,
         omega (arith, own.begins.most, most),
       );
-      longest = elim own.begins.longest as (λ _. (count ≡ limit) ⊎ ((count ≡ first_left before.rows (selected_rows page)) ⊎ BeginsOtherwise (step_of run) (filtered_steps new page))) [ inl all ↦ ended all | inr other ↦ otherwise other gives.selected own.begins.most ];
+      longest = elim own.begins.longest as (λ _. (count ≡ limit) ⊎ (EndsInterval before page run ⊎ BeginsOtherwise (step_of run) (filtered_steps new page))) [ inl all ↦ ended all | inr other ↦ otherwise other gives.selected own.begins.most ];
       is_page = gives.is_page;
     } where
-      ended : run_rows run ≡ taken → (run_rows run ≡ limit) ⊎ ((run_rows run ≡ first_left before.rows (selected_rows page)) ⊎ BeginsOtherwise (step_of run) (filtered_steps new page))
-      ended all = elim (cases_lt limit (first_left before.rows (selected_rows page))) [ inl less ↦ inl (omega (arith, all, most, less)) | inr more ↦ inr (inl (omega (arith, all, most, more))) ]
+      ended : run_rows run ≡ taken → (run_rows run ≡ limit) ⊎ (EndsInterval before page run ⊎ BeginsOtherwise (step_of run) (filtered_steps new page))
+      ended all = elim (cases_lt limit (first_left before.rows (selected_rows page))) [ inl less ↦ inl (omega (arith, all, most, less)) | inr more ↦ inr (inl (own.some, omega (arith, all, most, more))) ]
 
       otherwise : BeginsOtherwise own.kind (places_left new.places page) → ((k : ℕ) → k < taken → is_selected page.selected (old.row + k) ≡ true) → run_rows run ≤ taken
-          → (run_rows run ≡ limit) ⊎ ((run_rows run ≡ first_left before.rows (selected_rows page)) ⊎ BeginsOtherwise (step_of run) (filtered_steps new page))
+          → (run_rows run ≡ limit) ⊎ (EndsInterval before page run ⊎ BeginsOtherwise (step_of run) (filtered_steps new page))
       otherwise other all within =
           let next = λ (less : run_rows run < taken). ap (is_selected page.selected) took.row ∙ all (run_rows run) less in
           let S : Step → Type 0 = λ step. BeginsOtherwise step (filtered_steps new page) in

@@ -50,13 +50,17 @@ pub record IsPageOf (walk : FilteredOptionalPageValidity) (page : DataContent) :
   pub fits : header_values page.header < 2 ^ 64
   pub rows : rows_left walk.rows (selected_rows page) ≡ filter (is_selected page.selected) (range_with_len walk.row (length (places_left walk.places page)))
 
--- A run has as many rows as are asked for or as are left of an interval, or another step stands behind it.
+-- a run of selected rows that is all that is left of an interval
+abbrev pub EndsInterval : FilteredOptionalPageValidity → DataContent → Run → Type 0
+EndsInterval walk page run = (0 < run_rows run) × (run_rows run ≡ first_left walk.rows (selected_rows page))
+
+-- A run has as many rows as are asked for or as are left of an interval, or another step stands behind it. One that is passed over has no selected row, so another
+-- step stands behind it.
 abbrev pub IsLongestOf : ℕ → FilteredOptionalPageValidity → DataContent → Option Run → List Step → Type 0
 IsLongestOf limit walk page None behind = Unit {0}
-IsLongestOf limit walk page (Some run) behind = (run_rows run ≡ limit) ⊎ ((run_rows run ≡ first_left walk.rows (selected_rows page)) ⊎ BeginsOtherwise (step_of run) behind)
+IsLongestOf limit walk page (Some run) behind = (run_rows run ≡ limit) ⊎ (EndsInterval walk page run ⊎ BeginsOtherwise (step_of run) behind)
 
--- A run is as long as it can be, and a word has rows of both kinds. It has fewer than 32 where that many are asked for, or where the packed levels or an
--- interval end.
+-- A run is as long as it can be, and a word has rows of both kinds.
 abbrev pub IsLongestPartOf : ℕ → DataContent → FilteredOptionalPageValidity → FilteredOptionalPageValidity → Option ValidityPart → Type 0
 IsLongestPartOf limit page old new None = Unit {0}
 IsLongestPartOf limit page old new (Some (OfRun run)) = IsLongestOf limit old page (Some run) (filtered_steps new page)

@@ -67,8 +67,8 @@ impl FilteredOptionalPageValidity {
         }
     }
 
-    /// The next part, with `limit` selected rows at most: a run as long as it can be, or the bits of packed levels, not all the same, of selected rows that
-    /// stand side by side. A word has 32 rows, but where `limit`, the packed levels or an interval end it. The page is that of `try_new`.
+    /// The next part, with `limit` selected rows at most: a run as long as it can be, or the bits of at most 32 packed levels, not all the same, of selected
+    /// rows that stand side by side. The page is that of `try_new`.
     pub fn next_part(&mut self, page: &DataPage<'_>, limit: usize) -> Option<ValidityPart>
         requires page { IsPageOf self.old (data_content page.now) }
         requires limit { 0 < limit }

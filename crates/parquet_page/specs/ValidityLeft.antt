@@ -49,7 +49,7 @@ abbrev pub IsLongest : ℕ → Option Run → List Step → Type 0
 IsLongest limit None behind = Unit {0}
 IsLongest limit (Some run) behind = (run_rows run ≡ limit) ⊎ BeginsOtherwise (step_of run) behind
 
--- A run is as long as it can be, and a word has rows of both kinds. It has fewer than 32 where that many are asked for, or where the packed levels end.
+-- A run is as long as it can be, and a word has rows of both kinds.
 abbrev pub IsLongestPart : ℕ → Option ValidityPart → List Step → Type 0
 IsLongestPart limit None behind = Unit {0}
 IsLongestPart limit (Some (OfRun run)) behind = IsLongest limit (Some run) behind

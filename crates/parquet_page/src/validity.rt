@@ -86,8 +86,8 @@ impl OptionalPageValidity {
         Some(kept_run(present, rows))
     }
 
-    /// The next rows in one part, at most `limit`: a run as long as it can be, or the bits of packed levels that are not all the same. A word has 32
-    /// rows, but where `limit` or the packed levels end it. The page is that of `try_new`.
+    /// The next rows in one part, at most `limit`: a run as long as it can be, or the bits of at most 32 packed levels that are not all the same. The
+    /// page is that of `try_new`.
     pub fn next_part(&mut self, page: &DataPage<'_>, limit: usize) -> Option<ValidityPart>
         requires page { IsSome (optional_left self.old (data_content page.now)) }
         requires limit { 0 < limit }
