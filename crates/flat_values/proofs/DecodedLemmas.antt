@@ -3,7 +3,7 @@ use Rattle.std.proofs.Common.{◌≡◌, ℕ, zero, suc, ◌+◌, ◌-◌, ◌�
 use Rattle.std.specs.Prelude.{Some, None, if◌then◌else◌}
 use Rattle.std.proofs.lemmas.List.{drop-map, length-append, length-drop, length-map, length-replicate, length-take-le, map-append, take-map, take_at}
 use Rattle.std.proofs.lemmas.Simd.{map-map}
-use Rattle.columns_core.specs.Column.{FitsMask, cell_of, masked, where_set}
+use Rattle.columns_core.specs.Column.{cell_of, masked, where_set}
 use Rattle.columns_core.specs.declared.cell.Cell.{Cell, Null}
 use Rattle.parquet_page.specs.Levels.{present_count}
 use Rattle.parquet_page.specs.Plan.{Step, along, plan, plan_from}
