@@ -1,4 +1,5 @@
 pub mod Appended
+mod Examples
 pub mod HexLemmas
 pub mod NumberLemmas
 pub mod RowLemmas
