@@ -1,0 +1,5 @@
+pub mod ListLemmas
+pub mod ElementLemmas
+pub mod StepLemmas
+pub mod GroupLemmas
+pub mod StatisticsLemmas

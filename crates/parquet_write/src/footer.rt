@@ -1,0 +1,68 @@
+//! The footer, and the end of the file.
+
+ghost use Rattle.std.specs.Prelude.{◌≡◌, ◌++◌, length, sum_by, All, IfOk};
+ghost use Rattle.compact_write.specs.Calls.{Writes};
+ghost use Rattle.parquet_plain.specs.Structs.{footer_bytes};
+ghost use Rattle.parquet_write.specs.Told.{HasColumns, end_of_file_bytes, file_told};
+
+use crate::facts::{Bases, GroupFacts};
+use crate::group::write_group;
+use crate::measure::{sum, to_measure, write_measure};
+use crate::schema::write_schema;
+use compact_write::{write_count_field, write_end, write_list_start};
+use parquet_meta::ColumnDescriptor;
+use parquet_thrift::STRUCT;
+use std::alloc::AllocError;
+
+/// The bytes that a file begins and ends with.
+pub const MAGIC: &[u8; 4] = b"PAR1";
+
+/// The rows of all groups.
+fn rows_of(groups: &[GroupFacts]) -> Result<u64, AllocError>
+    ensures { IfOk result (λ rows. rows ≡ sum_by (λ group. group.rows) groups.now) }
+{
+    let mut rows = 0;
+    for group in groups {
+        rows = sum(rows, group.rows)?;
+    }
+    Ok(rows)
+}
+
+fn write_footer(
+    out: &mut Vec<u8>,
+    columns: &[ColumnDescriptor],
+    bases: Bases,
+    groups: &[GroupFacts],
+) -> Result<(), AllocError>
+    requires even { All (HasColumns (length columns.now)) groups.now }
+    ensures written { Writes (footer_bytes (file_told columns.now bases groups.now)) out.old result out.new }
+{
+    write_count_field(out, 0, 1, 1)?;
+    write_list_start(out, 1, 2, STRUCT, columns.len() + 1)?;
+    write_schema(out, columns)?;
+    write_measure(out, 2, 3, rows_of(groups)?)?;
+    write_list_start(out, 3, 4, STRUCT, groups.len())?;
+    for group in groups {
+        write_group(out, columns, bases, group)?;
+    }
+    write_end(out)?;
+    Ok(())
+}
+
+/// The footer, its length, and the magic.
+pub fn write_end_of_file(
+    out: &mut Vec<u8>,
+    columns: &[ColumnDescriptor],
+    bases: Bases,
+    groups: &[GroupFacts],
+) -> Result<(), AllocError>
+    requires even { All (HasColumns (length columns.now)) groups.now }
+    ensures written { Writes (end_of_file_bytes columns.now bases groups.now) out.old result out.new }
+{
+    let start = out.len();
+    write_footer(out, columns, bases, groups)?;
+    let length = to_measure(out.len() - start)?;
+    out.extend_from_slice(&length.to_le_bytes())?;
+    out.extend_from_slice(MAGIC)?;
+    Ok(())
+}

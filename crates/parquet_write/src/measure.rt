@@ -1,0 +1,38 @@
+//! Places and lengths: numbers below 2^63, as the format stores them. No vector is longer, so one above them counts
+//! as want of memory.
+
+ghost use Rattle.std.specs.Prelude.{◌≡◌, ◌<◌, ◌≤◌, ◌+◌, IfOk};
+ghost use Rattle.compact_write.specs.Calls.{Writes};
+ghost use Rattle.compact_write.specs.Written.{count_field_bytes, i64_kind, most_step};
+
+use compact_write::write_large_field;
+use std::alloc::AllocError;
+
+/// The first number that is not stored.
+const TOO_LARGE: u64 = 1 << 63;
+
+/// A field of 64 bits.
+pub fn write_measure(out: &mut Vec<u8>, previous: u8, id: u8, number: u64) -> Result<(), AllocError>
+    requires rises { previous < id }
+    requires near { id ≤ previous + most_step }
+    ensures written { Writes (count_field_bytes previous id i64_kind number) out.old result out.new }
+{
+    if number >= TOO_LARGE {
+        return Err(AllocError);
+    }
+    write_large_field(out, previous, id, number)
+}
+
+/// The sum of two.
+pub fn sum(first: u64, second: u64) -> Result<u64, AllocError>
+    ensures { IfOk result (λ n. n ≡ first + second) }
+{
+    first.checked_add(second).ok_or(AllocError)
+}
+
+/// A length that a header of 32 bits can tell.
+pub fn to_measure(length: usize) -> Result<u32, AllocError>
+    ensures { IfOk result (λ n. n ≡ length) }
+{
+    u32::try_from(length).map_err(|_| AllocError)
+}
