@@ -11,7 +11,8 @@ use columns_core::{
 };
 use flat_values::{
     ArrayIter, DaysAndMillis, DaysToMillis, Decimals, FixedNumbers, FixedValues, InBulk, IntoArray,
-    Keep, Months, NumberValues, TruthValues, ValueDecoder, boolean, fixed_size_binary, null, primitive,
+    Keep, Months, NumberValues, TruthValues, ValueDecoder, boolean, fixed_size_binary, null,
+    primitive,
 };
 use parquet_base::Steps;
 use parquet_meta::{
@@ -128,7 +129,11 @@ fn pages_with(
 ) -> Result<PageReader, Error>
     ensures { IfOk result (λ reader. DataPagesAre (λ page. page.type.physical_type ≡ physical) (reader_pages reader)) }
 {
-    PageReader::new(alloc, chunk, &column(alloc, physical, repetition, num_values))
+    PageReader::new(
+        alloc,
+        chunk,
+        &column(alloc, physical, repetition, num_values),
+    )
 }
 
 /// The pages of a chunk of four values.
@@ -327,13 +332,7 @@ fn selected_truth_values(rt: HostRuntime) -> Result<(), Fail> {
 fn eight_truth_values(rt: HostRuntime) -> Result<(), Fail> {
     let alloc = rt.alloc();
     let chunk = page(alloc, 8, 0, &[], &[0x5B])?;
-    let pages = pages_with(
-        alloc,
-        PhysicalType::Boolean,
-        Repetition::Required,
-        8,
-        chunk,
-    )?;
+    let pages = pages_with(alloc, PhysicalType::Boolean, Repetition::Required, 8, chunk)?;
     let (yes, no) = (Some(true), Some(false));
     assert_eq!(rt;
         truths_read(alloc, pages, 8)?.as_slice(),
@@ -521,7 +520,13 @@ fn parts_that_refusals_name(rt: HostRuntime) -> Result<(), Fail> {
         Some(Error::OutOfSpec(Part::Dictionary))
     );
     // A located page that ends a byte early.
-    let chunk = page(alloc, 4, 0, &[], &[1, 0, 0, 0, 2, 0, 0, 0, 3, 0, 0, 0, 4, 0, 0, 0])?;
+    let chunk = page(
+        alloc,
+        4,
+        0,
+        &[],
+        &[1, 0, 0, 0, 2, 0, 0, 0, 3, 0, 0, 0, 4, 0, 0, 0],
+    )?;
     let pages = located_pages(
         alloc,
         PhysicalType::Int32,

@@ -2,8 +2,8 @@
 use columns_core::{DataType, Error, Part, TimeUnit, days_ms};
 use flat_values::{
     Convert, DaysToMillis, FixedSizeBinary, FixedValues, InBulk, Int96Time, IntoArray, Narrow,
-    NumberValues, OneByOne, Scale, TruthValues, ValueDecoder, ValueEncoding, convert_days_ms, convert_i128,
-    convert_year_month, extend_plain, try_extend_plain, unifiy_timestmap_unit,
+    NumberValues, OneByOne, Scale, TruthValues, ValueDecoder, ValueEncoding, convert_days_ms,
+    convert_i128, convert_year_month, extend_plain, try_extend_plain, unifiy_timestmap_unit,
 };
 use parquet_meta::{ParquetTimeUnit, PrimitiveLogicalType};
 use parquet_page::DictPage;
