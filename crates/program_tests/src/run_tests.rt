@@ -371,8 +371,14 @@ fn requests_that_are_refused(rt: HostRuntime) -> Result<(), Fail> {
         ("a:Int32 a:Int32", Status::Argument),
         ("a:Int32 --chunk 0", Status::Argument),
         ("a:Utf8", Status::NotCarried),
-        ("a:Decimal(38,0) a>=-170141183460469231731687303715884105728", Status::NotCarried),
-        ("a:Decimal(38,0) a<=170141183460469231731687303715884105727", Status::NotCarried),
+        (
+            "a:Decimal(38,0) a>=-170141183460469231731687303715884105728",
+            Status::NotCarried,
+        ),
+        (
+            "a:Decimal(38,0) a<=170141183460469231731687303715884105727",
+            Status::NotCarried,
+        ),
     ];
     for (line, status) in lines.iter() {
         let refused = answer_to(rt.alloc(), line)?;
@@ -382,13 +388,20 @@ fn requests_that_are_refused(rt: HostRuntime) -> Result<(), Fail> {
     assert_eq!(rt; empty.as_slice(), [Status::NotCarried.number()].as_slice());
     let short = text_of(rt.alloc(), &["x", "a:Int32"], &F0[..11])?;
     assert_eq!(rt; short.as_slice(), [Status::Damaged.number()].as_slice());
+    let compressed = changed(rt.alloc(), &F1, &[(83, 0x02)])?;
+    let codec = text_of(rt.alloc(), &["x", "a:Int32"], &compressed)?;
+    assert_eq!(rt; codec.as_slice(), [Status::NotCarried.number()].as_slice());
     Ok(())
 }
 
 #[test]
 fn words_in_other_places(rt: HostRuntime) -> Result<(), Fail> {
     let rows = b"\x00group 0 5 0+5\nchunk 5\n10\n12\n15\n18\n20\n".as_slice();
-    for line in ["-- a:Int32", "a>=12 a:Int32 -- a<=18", "a:Int32 a>=-2147483648 a<=2147483647"] {
+    for line in [
+        "-- a:Int32",
+        "a>=12 a:Int32 -- a<=18",
+        "a:Int32 a>=-2147483648 a<=2147483647",
+    ] {
         let found = answer_to(rt.alloc(), line)?;
         assert_eq!(rt; found.as_slice(), rows);
     }
@@ -561,7 +574,10 @@ fn truth_values_and_fixed_bytes(rt: HostRuntime) -> Result<(), Fail> {
             "fixed:FixedSizeBinary(2)",
             "0x0001 null 0xff85 null null 0x8000 0x0102 0x7fff",
         ),
-        ("fixed:Decimal(4,0)", "1 null -123 null null -32768 258 32767"),
+        (
+            "fixed:Decimal(4,0)",
+            "1 null -123 null null -32768 258 32767",
+        ),
         (
             "fixed_coded:FixedSizeBinary(2)",
             "0x0102 0xffff 0x0102 0x0102 0x0102 0x0102 0xffff 0x0102",
@@ -659,7 +675,10 @@ fn times_in_other_units(rt: HostRuntime) -> Result<(), Fail> {
 fn pairs_that_are_not_carried(rt: HostRuntime) -> Result<(), Fail> {
     for item in ["name:Utf8", "delta:Int64", "fixed:FixedSizeBinary(3)"] {
         let refused = text_of(rt.alloc(), &["x", item], &PAIRS)?;
-        assert_eq!(rt; refused.as_slice(), [Status::NotCarried.number()].as_slice());
+        assert_eq!(rt;
+            refused.as_slice(),
+            [Status::NotCarried.number()].as_slice()
+        );
     }
     Ok(())
 }
@@ -694,7 +713,8 @@ fn reads_that_fail_one_after_another(rt: HostRuntime) -> Result<(), Fail> {
         let mut out = MemorySink::new(alloc, 100)?;
         let failing = vec![in alloc; call]?;
         let mut source = FailingSource::new(Vec::from_slice(alloc, &F1)?, failing);
-        let status = run_on(alloc, &["x", "a:Int32"], &mut source, &mut out)?;
+        let words = ["x", "a:Int32", "a>=12", "a<=18"];
+        let status = run_on(alloc, &words, &mut source, &mut out)?;
         done = status == Status::Done;
         if done {
             assert_eq!(rt; out.bytes(), F1_ROWS);
