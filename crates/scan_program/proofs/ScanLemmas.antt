@@ -1,6 +1,6 @@
 -- From what a scan answers to what is reported.
 use Rattle.std.proofs.Common.{◌≡◌, ℕ, List, sym, subst, refl, true≢false}
-use Rattle.std.specs.Prelude.{Option, Some, None, IfNone, IfSome}
+use Rattle.std.specs.Prelude.{Option, Some, None, IfNone, IfOk, IfSome, Result, Ok, Err}
 use Rattle.columns_core.specs.Causes.{IsWantOfMemory}
 use Rattle.columns_core.specs.declared.error.Error.{Error}
 use Rattle.columns_core.specs.declared.error.Error.TheVariants.{Io, OutOfMemory}
@@ -47,3 +47,8 @@ memory_refuses request told before now e is = subst (Refuses request told before
     refused : (told : Option (List ℕ)) → Refuses request told before now OutOfMemory
     refused None = record { argument = λ e. tt; legal_first = tt; cause = tt; io = λ e. absurd (apart e); complete = tt }
     refused (Some bytes) = record { argument = λ e. absurd (true≢false (sym e)); legal_first = tt; cause = tt; io = λ e. absurd (apart e); complete = λ legal valid reads. refl }
+
+-- a fact that does not speak of the result
+pub whatever_ok : {T E P : Type 0} (r : Result T E) → P → IfOk r (λ _. P)
+whatever_ok (Ok x) h = h
+whatever_ok (Err e) h = tt

@@ -18,7 +18,8 @@ pub(crate) fn bounds_of(
     ends: &[End<'_>],
     fields: &[Field],
 ) -> Result<Option<Vec<Bound>>, AllocError>
-    ensures { IfOk result (λ bounds. option_map (λ bounds. bounds.items) bounds ≡ spec.bounds_of (map as_written ends.now) fields.now) }
+    ensures { IfOk result (λ bounds. option_map (λ bounds. bounds.items) bounds
+        ≡ spec.bounds_of (map as_written ends.now) fields.now) }
 {
     if !name_fields(ends, fields) {
         return Ok(None);
@@ -50,7 +51,8 @@ fn push_bound(
 ) -> Result<bool, AllocError>
     ensures { IfOk result (λ good. (fields : List FieldValue) →
         bounds_behind (map as_written ends.now) bounds.old.items before.now (field.now ∷ fields)
-        ≡ (if good then bounds_behind (map as_written ends.now) bounds.new.items (before.now ++ field.now ∷ []) fields else None)) }
+        ≡ (if good then bounds_behind (map as_written ends.now) bounds.new.items (before.now ++ field.now
+        ∷ []) fields else None)) }
 {
     if has_name(before, field.name.as_str()) {
         return Ok(true);
@@ -105,7 +107,8 @@ fn end_of(
     field: &Field,
     is_low: bool,
 ) -> Result<Option<Option<Scalar>>, AllocError>
-    ensures { IfOk result (λ found. found ≡ spec.end_of field.now.data_type (spec.values_for field.now.name is_low (map as_written ends.now))) }
+    ensures { IfOk result (λ found. found ≡ spec.end_of field.now.data_type (spec.values_for
+        field.now.name is_low (map as_written ends.now))) }
 {
     match value_given(ends, field.name.as_str(), is_low) {
         None => Ok(None),
@@ -115,7 +118,8 @@ fn end_of(
 
 /// The text that is given as this end to this name, if there is one; `None` where there are two.
 fn value_given<'a>(ends: &[End<'a>], name: &str, is_low: bool) -> Option<Option<&'a str>>
-    ensures { option_map option_copied result ≡ spec.at_most_one (spec.values_for name.now is_low (map as_written ends.now)) }
+    ensures { option_map option_copied result ≡ spec.at_most_one (spec.values_for name.now is_low (map
+        as_written ends.now)) }
 {
     let mut found = None;
     for end in ends {

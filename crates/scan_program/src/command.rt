@@ -27,7 +27,8 @@ pub(crate) struct Asked {
 
 /// What the words ask for, of which the first names the file; `None` where they spell no command.
 pub(crate) fn read_words(alloc: Global, words: &[String]) -> Result<Option<Asked>, AllocError>
-    ensures { IfOk result (λ asked. option_map command_of asked ≡ spelled_command (map string_bytes words.now)) }
+    ensures { IfOk result (λ asked. option_map command_of asked
+        ≡ spelled_command (map string_bytes words.now)) }
 {
     if words.is_empty() {
         return Ok(None);
@@ -41,7 +42,8 @@ pub(crate) fn read_words(alloc: Global, words: &[String]) -> Result<Option<Asked
 
 /// What is asked for where this was found in the words.
 fn asked_in(alloc: Global, found: &ArgMatches<'_>) -> Result<Option<Asked>, AllocError>
-    ensures { IfOk result (λ asked. (words : List (List ℕ)) → IsSaid words found.now → option_map command_of asked ≡ spelled_command words) }
+    ensures { IfOk result (λ asked. (words : List (List ℕ)) → IsSaid words found.now → option_map
+        command_of asked ≡ spelled_command words) }
 {
     written(
         alloc,
@@ -69,7 +71,8 @@ fn written(
     summary: bool,
 ) -> Result<Option<Asked>, AllocError>
     ensures { IfOk result (λ asked. option_map command_of asked
-        ≡ written_command (map (λ item. item.now) items.now) (option_copied chunk_size.entry) (option_copied limit.entry) summary) }
+        ≡ written_command (map (λ item. item.now) items.now) (option_copied chunk_size.entry)
+        (option_copied limit.entry) summary) }
 {
     let Some(items) = items_of(alloc, items)? else {
         return Ok(None);

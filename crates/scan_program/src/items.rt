@@ -34,7 +34,11 @@ pub(crate) fn items_of<'a>(
     alloc: Global,
     texts: &[&'a str],
 ) -> Result<Option<Items<'a>>, AllocError>
-    ensures { IfOk result (λ items. option_map (λ items. (items.fields.items, map as_written items.ends.items)) items
+    ensures { IfOk result (λ items. option_map (λ items. (
+      items.fields.items,
+      map as_written
+          items.ends.items,
+    )) items
         ≡ split_items (map (λ text. text.now) texts.now)) }
 {
     let mut items = Items {
@@ -53,7 +57,8 @@ pub(crate) fn items_of<'a>(
 fn push_item<'a>(alloc: Global, items: &mut Items<'a>, text: &'a str) -> Result<bool, AllocError>
     ensures { IfOk result (λ good. (texts : List (List ℕ)) →
         items_behind items.old.fields.items (map as_written items.old.ends.items) (text.entry.now ∷ texts)
-        ≡ (if good then items_behind items.new.fields.items (map as_written items.new.ends.items) texts else None)) }
+        ≡ (if good then items_behind items.new.fields.items (map as_written items.new.ends.items) texts
+        else None)) }
 {
     match item_of(alloc, text)? {
         None => return Ok(false),
@@ -110,7 +115,8 @@ fn split_field(text: &str) -> Option<(&str, &str)>
 
 /// The place of the last colon.
 fn last_colon(text: &[u8]) -> Option<usize>
-    ensures parts { option_map (λ at. (take at text.now, drop (at + 1) text.now)) result ≡ spec.split_field text.now }
+    ensures parts { option_map (λ at. (take at text.now, drop (at + 1) text.now)) result
+        ≡ spec.split_field text.now }
     ensures colon { IfSome result (λ at. (at < length text.now) × (slice_index text.now at ≡ 58)) }
 {
     let mut rest = text.len();
@@ -137,8 +143,14 @@ fn split_bound(text: &str) -> Option<End<'_>>
 
 /// The place of the first `>=` or `<=`, and whether it is the former.
 fn first_sign(text: &[u8]) -> Option<(usize, bool)>
-    ensures parts { option_map (λ found. record { name = take found.0 text.now; is_low = found.1; value = drop (found.0 + 2) text.now }) result ≡ spec.split_bound text.now }
-    ensures sign { IfSome result (λ found. (found.0 + 1 < length text.now) × (slice_index text.now found.0 < 128) × (slice_index text.now (found.0 + 1) < 128)) }
+    ensures parts { option_map (λ found. record {
+      name = take found.0 text.now;
+      is_low = found.1;
+      value =
+          drop (found.0 + 2) text.now;
+    }) result ≡ spec.split_bound text.now }
+    ensures sign { IfSome result (λ found. (found.0 + 1 < length text.now)
+        × (slice_index text.now found.0 < 128) × (slice_index text.now (found.0 + 1) < 128)) }
 {
     for at in 0..text.len() {
         if let Some(is_low) = end_sign(&text[at..]) {
@@ -151,7 +163,8 @@ fn first_sign(text: &[u8]) -> Option<(usize, bool)>
 /// Whether a text begins with `>=`, before a low end, or with `<=`, before a high one.
 fn end_sign(text: &[u8]) -> Option<bool>
     ensures sign { result ≡ spec.end_sign text.now }
-    ensures two { IfSome result (λ _. (2 ≤ length text.now) × (slice_index text.now 0 < 128) × (slice_index text.now 1 < 128)) }
+    ensures two { IfSome result (λ _. (2 ≤ length text.now) × (slice_index text.now 0 < 128)
+        × (slice_index text.now 1 < 128)) }
 {
     if text.starts_with(b">=") {
         Some(true)
