@@ -15,7 +15,7 @@ pub trait Sink {
     /// What it was given, where it tells.
     ghost written: { Self → Option (List ℕ) };
 
-    /// How often a call has failed. It never falls.
+    /// How often a call has failed. It never falls, and a call that takes a piece leaves it as it was.
     ghost faults: { Self → ℕ };
 
     /// Takes a front of the piece, and says how long.
@@ -25,7 +25,8 @@ pub trait Sink {
         ensures taken { IfOk result (λ n.
             IsAppended (written self.old) (written self.new) (take n piece.now)) }
         ensures refused { OnErr result (written self.new ≡ written self.old) }
-        ensures counted { CountsFailures (faults self.old) (faults self.new) result };
+        ensures counted { CountsFailures (faults self.old) (faults self.new) result }
+        ensures quiet { OnOk result (faults self.new ≡ faults self.old) };
 }
 
 /// Writes all of a text, in as many pieces as the sink takes it.
@@ -33,6 +34,7 @@ pub fn write_all<K: Sink>(out: &mut K, text: &[u8]) -> Result<(), Failed>
     ensures ok { OnOk result (IsAppended (K.written out.old) (K.written out.new) text.now) }
     ensures err { OnErr result (IsFrontAppended (K.written out.old) (K.written out.new) text.now) }
     ensures counted { CountsFailures (K.faults out.old) (K.faults out.new) result }
+    ensures quiet { OnOk result (K.faults out.new ≡ K.faults out.old) }
 {
     let mut at = 0;
     while at < text.len() {
@@ -109,6 +111,7 @@ impl Sink for MemorySink {
             IsAppended (Some self.old.bytes) (Some self.new.bytes) (take n piece.now)) }
         ensures refused { OnErr result (Some self.new.bytes ≡ Some self.old.bytes) }
         ensures counted { CountsFailures self.old.faults self.new.faults result }
+        ensures quiet { OnOk result (self.new.faults ≡ self.old.faults) }
 
         // It takes as much as there is room for, and fails exactly where there is none.
         ensures exact { MatchResult result
@@ -186,6 +189,7 @@ impl Sink for FailingSink {
             IsAppended (Some self.old.memory.bytes) (Some self.new.memory.bytes) (take n piece.now)) }
         ensures refused { OnErr result (Some self.new.memory.bytes ≡ Some self.old.memory.bytes) }
         ensures counted { CountsFailures self.old.memory.faults self.new.memory.faults result }
+        ensures quiet { OnOk result (self.new.memory.faults ≡ self.old.memory.faults) }
 
         // A call fails exactly where its number is listed or there is no room. Else it takes as much as there is
         // room for.
@@ -229,6 +233,7 @@ impl<R: Print + Drop> Sink for StdSink<R> {
         ensures at_most { IfOk result (λ n. n ≤ length piece.now) }
         ensures some { IfOk result (λ n. 0 < length piece.now → 0 < n) }
         ensures counted { CountsFailures self.old.faults self.new.faults result }
+        ensures quiet { OnOk result (self.new.faults ≡ self.old.faults) }
 
         // A failure is counted once.
         ensures exact { self.new.faults ≡ counted_by self.old.faults result }
