@@ -1,13 +1,7 @@
 -- From what a scan answers to what is reported.
-use Rattle.std.proofs.Common.{◌≡◌, ℕ, List, sym, subst, refl, true≢false}
+use Rattle.std.proofs.Common.{◌≡◌, ℕ, List, sym, subst}
 use Rattle.std.specs.Prelude.{Option, Some, None, IfNone, IfOk, IfSome, Result, Ok, Err}
-use Rattle.columns_core.specs.Causes.{IsWantOfMemory}
-use Rattle.columns_core.specs.declared.error.Error.{Error}
-use Rattle.columns_core.specs.declared.error.Error.TheVariants.{Io, OutOfMemory}
-use Rattle.parquet_scan.specs.Request.{Request}
-use Rattle.parquet_scan.specs.Scan.{Answers, Refuses}
-use Rattle.parquet_scan.specs.declared.scanning.Scan.{Scan}
-use Rattle.scan_program.specs.Program.{OnCommand, Reports, report_of}
+use Rattle.scan_program.specs.Program.{OnCommand, Reports}
 use Rattle.scan_program.specs.Words.{Command}
 
 -- ---- facts about the command and the bytes
@@ -26,27 +20,12 @@ pub no_command : (o : Option Command) (P : Type 0) → IfNone o ⊥ → IfNone o
 no_command None P h = absurd h
 no_command (Some command) P h = tt
 
--- of the command that the words spell
-pub of_command : (o : Option Command) (command : Command) (P : Command → Type 0) → Some command ≡ o → P command → IfSome o P
-of_command o command P same h = subst (λ o. IfSome o P) same h
-
 -- of the text that was made, all that holds of it
 pub of_report : (o : Option Command) (told : Option (List ℕ)) (pages : ℕ) (text : List ℕ) (Q : List ℕ → Type 0) → Q text
     → IfSome o (λ command. Reports command told pages (λ found. found ≡ text)) → IfSome o (λ command. Reports command told pages Q)
 of_report None told pages text Q h reports = tt
 of_report (Some command) told pages text Q h reports =
     record { scan = reports.scan; answers = reports.answers; lent = reports.lent; holds = subst Q (sym reports.holds) h }
-
--- want of memory refuses any request
-pub memory_refuses : (request : Request) (told : Option (List ℕ)) (before now : ℕ) (e : Error) → IsWantOfMemory e → Refuses request told before now e
-memory_refuses request told before now e is = subst (Refuses request told before now) (sym is) (refused told)
-  where
-    apart : OutOfMemory ≡ Io → ⊥
-    apart e = cc
-
-    refused : (told : Option (List ℕ)) → Refuses request told before now OutOfMemory
-    refused None = record { argument = λ e. tt; legal_first = tt; cause = tt; io = λ e. absurd (apart e); complete = tt }
-    refused (Some bytes) = record { argument = λ e. absurd (true≢false (sym e)); legal_first = tt; cause = tt; io = λ e. absurd (apart e); complete = λ legal valid reads. refl }
 
 -- a fact that does not speak of the result
 pub whatever_ok : {T E P : Type 0} (r : Result T E) → P → IfOk r (λ _. P)

@@ -1,5 +1,5 @@
 -- What the words of a command line are read into.
-use Rattle.std.specs.Prelude.{◌≡◌, ℕ, Bool, if◌then◌else◌, codes, List, [], ◌++◌, Option, Some, None, option_map, option_and_then, unwrap_or}
+use Rattle.std.specs.Prelude.{◌≡◌, ◌+◌, ℕ, Bool, take, drop, if◌then◌else◌, codes, List, [], ◌++◌, Option, Some, None, option_map, option_and_then, unwrap_or}
 use Rattle.columns_core.specs.declared.data_type.Field.{Field}
 use Rattle.parquet_scan.specs.declared.bound.Bound.{Bound}
 use Rattle.pq_common.specs.Spelled.{number}
@@ -26,6 +26,10 @@ as_written end = record { name = end.name.now; is_low = end.is_low; value = end.
 abbrev pub as_item : Item → words.Item
 as_item (read.Column field) = words.Column field
 as_item (read.End end) = words.End (as_written end)
+
+-- the end that a sign at a place makes of a text
+abbrev pub split_at : ℕ → Bool → List ℕ → BoundEnd
+split_at place is_low text = record { name = take place text; is_low = is_low; value = drop (place + 2) text }
 
 -- fields and ends in front of those of the texts that are left
 abbrev pub items_behind : List Field → List BoundEnd → List (List ℕ) → Option (List Field × List BoundEnd)

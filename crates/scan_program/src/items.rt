@@ -1,6 +1,6 @@
 //! The items of a command line: fields, and ends of bounds.
 ghost use Rattle.std.specs.Prelude.{◌≡◌, ◌+◌, ◌<◌, ◌≤◌, ◌∷◌, [], ℕ, None, List, length, map, take, drop, option_map, if◌then◌else◌, slice_index, IfOk, IfSome};
-ghost use Rattle.scan_program.specs.Parsed.{as_item, as_written, items_behind, split_items};
+ghost use Rattle.scan_program.specs.Parsed.{as_item, as_written, items_behind, split_at, split_items};
 ghost use Rattle.scan_program.specs.Words as spec;
 
 use columns_core::{Field, Name};
@@ -143,12 +143,7 @@ fn split_bound(text: &str) -> Option<End<'_>>
 
 /// The place of the first `>=` or `<=`, and whether it is the former.
 fn first_sign(text: &[u8]) -> Option<(usize, bool)>
-    ensures parts { option_map (λ found. record {
-      name = take found.0 text.now;
-      is_low = found.1;
-      value =
-          drop (found.0 + 2) text.now;
-    }) result ≡ spec.split_bound text.now }
+    ensures parts { option_map (λ found. split_at found.0 found.1 text.now) result ≡ spec.split_bound text.now }
     ensures sign { IfSome result (λ found. (found.0 + 1 < length text.now)
         × (slice_index text.now found.0 < 128) × (slice_index text.now (found.0 + 1) < 128)) }
 {

@@ -1,6 +1,7 @@
 //! The program's text, written straight into one buffer.
 ghost use Rattle.std.specs.Prelude.{◌≡◌, ◌++◌, map, codes, flat_map, [], ◌∷◌, IfErr, IfOk, OnOk};
 ghost use Rattle.std.specs.List.{enumerate_from, join_by, range_with_len};
+ghost use Rattle.columns_core.specs.Array.{column_of};
 ghost use Rattle.columns_core.specs.Causes.{IsWantOfMemory};
 ghost use Rattle.parquet_scan.specs.Cells.{columns_of};
 ghost use Rattle.parquet_scan.specs.Scan.{kept_of};

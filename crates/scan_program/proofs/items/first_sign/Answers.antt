@@ -1,5 +1,5 @@
-use Rattle.std.proofs.Common.{◌≡◌, ◌-◌, ◌+◌, ◌<◌, ◌≤◌, ℕ, List, subst, sym, ◌∙◌, ap, arith, length, drop, take, length-drop}
-use Rattle.std.specs.Prelude.{Some, slice_index}
+use Rattle.std.proofs.Common.{◌≡◌, ◌-◌, ◌<◌, ◌≤◌, ℕ, List, subst, sym, ◌∙◌, ap, arith, length, drop, take, length-drop}
+use Rattle.std.specs.Prelude.{slice_index}
 use Rattle.std.proofs.lemmas.List.{take_all}
 use Rattle.scan_program.specs.Words.{end_sign}
 use Rattle.scan_program.proofs.SplitLemmas.{sign_at, sign_in, no_sign}
