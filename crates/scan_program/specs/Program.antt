@@ -31,7 +31,14 @@ status_of_error error.OutOfMemory = Memory
 abbrev pub has_scanned : Status → Bool
 has_scanned Done = true
 has_scanned Writing = true
-has_scanned _ = false
+has_scanned Words = false
+has_scanned Argument = false
+has_scanned NotCarried = false
+has_scanned Damaged = false
+has_scanned NotValid = false
+has_scanned Range = false
+has_scanned Reading = false
+has_scanned Memory = false
 
 -- A run that ends so was refused by the scan.
 abbrev pub is_refusal : Status → Bool
@@ -39,7 +46,12 @@ is_refusal Done = false
 is_refusal Words = false
 is_refusal Writing = false
 is_refusal Memory = false
-is_refusal _ = true
+is_refusal Argument = true
+is_refusal NotCarried = true
+is_refusal Damaged = true
+is_refusal NotValid = true
+is_refusal Range = true
+is_refusal Reading = true
 
 -- a fact about the command that the words spell and the bytes that the source tells, where they do
 abbrev pub OnCommand : Option Command → Option (List ℕ) → (Command → List ℕ → Type 0) → Type 0

@@ -102,19 +102,27 @@ read_words (word ∷ next ∷ rest) =
 
 abbrev pub as_item : Word → Option Item
 as_item (Asks item) = Some item
-as_item _ = None
+as_item (ChunkSize n) = None
+as_item (RowLimit n) = None
+as_item Summary = None
 
 abbrev pub as_chunk_size : Word → Option ℕ
 as_chunk_size (ChunkSize n) = Some n
-as_chunk_size _ = None
+as_chunk_size (RowLimit n) = None
+as_chunk_size Summary = None
+as_chunk_size (Asks item) = None
 
 abbrev pub as_row_limit : Word → Option ℕ
 as_row_limit (RowLimit n) = Some n
-as_row_limit _ = None
+as_row_limit (ChunkSize n) = None
+as_row_limit Summary = None
+as_row_limit (Asks item) = None
 
 abbrev pub as_summary : Word → Option Bool
 as_summary Summary = Some true
-as_summary _ = None
+as_summary (ChunkSize n) = None
+as_summary (RowLimit n) = None
+as_summary (Asks item) = None
 
 abbrev pub as_field : Item → Option Field
 as_field (Column field) = Some field

@@ -8,12 +8,12 @@ use clap::error::ErrorKind;
 use clap::{Arg, ArgAction, ArgMatches, Command, Error};
 use std::alloc::Global;
 
-/// What stands in the words behind the first, which names the program.
+/// What stands in the words behind the first, which `clap` takes for the program's name and which names the file.
 pub(crate) fn parse<'a>(alloc: Global, words: &'a [String]) -> Result<ArgMatches<'a>, Error>
     requires { 0 < length words.now }
     ensures said { IfOk result (IsSaid (map string_bytes words.entry.now)) }
-    ensures refused { IfErr result (λ e. kind_of e ≢ ErrorKind.OutOfMemory → spelled_command (map
-        string_bytes words.entry.now) ≡ None) }
+    ensures refused { IfErr result (λ e. kind_of e ≢ ErrorKind.OutOfMemory →
+        spelled_command (map string_bytes words.entry.now) ≡ None) }
 {
     let item = Arg::new(alloc, "ITEM").action(ArgAction::Append);
     let chunk = Arg::new(alloc, "chunk")

@@ -55,13 +55,14 @@ pub fn run<S: Source, K: Sink, L: Ledger>(
         IsRefused command.request (S.told source.old) (S.faults source.old) (S.faults source.new) result) }
     ensures complete { OnCommand (command_in words.now) (S.told source.old) (λ command bytes.
         IsLegal command bytes → IsValid command.request bytes
-        → (MayFail (S.faults source.old) (S.faults source.new) → ⊥) → (MayFail (K.faults out.old)
-        (K.faults out.new) → ⊥)
+        → (MayFail (S.faults source.old) (S.faults source.new) → ⊥)
+        → (MayFail (K.faults out.old) (K.faults out.new) → ⊥)
         → (result ≡ Status.Done) ⊎ (result ≡ Status.Memory)) }
 
     // Nothing is written but where all is read, and writing fails only where the sink may fail.
     ensures nothing { result ≢ Status.Done → result ≢ Status.Writing → K.written out.new ≡ K.written out.old }
     ensures writing { result ≡ Status.Writing → MayFail (K.faults out.old) (K.faults out.new) }
+    ensures quiet { result ≢ Status.Writing → K.faults out.new ≡ K.faults out.old }
 {
     match text_for(alloc, words, source, steps) {
         Err(status) => status,
@@ -86,8 +87,8 @@ fn text_for<S: Source, L: Ledger>(
     ensures no_words { IfNone (command_in words.now)
         (EndsBy result (λ status. (status ≡ Status.Words) ⊎ (status ≡ Status.Memory))) }
     ensures text { IfOk result (λ text. IfSome (command_in words.now) (λ command.
-        Reports command (S.told source.old) (lent_between steps.old steps.new) (λ found. found
-        ≡ text.items))) }
+        Reports command (S.told source.old) (lent_between steps.old steps.new)
+        (λ found. found ≡ text.items))) }
     ensures most_pages { IfOk result (λ _. OnFileOf (command_in words.now) (S.told source.old)
         (λ command file. steps.new ≤ steps.old + most_pages command.request file)) }
     ensures taken { IfOk result (λ _. OnFileOf (command_in words.now) (S.told source.old)
@@ -119,8 +120,8 @@ fn scan_text<S: Source, L: Ledger>(
 ) -> Result<Vec<u8>, Error>
     ensures keeps { Keeps S.Source source.old source.new }
     ensures ticks { steps.old ≤ steps.new }
-    ensures text { IfOk result (λ text. Reports (command_of asked.now) (S.told source.old)
-        (lent_between steps.old steps.new)
+    ensures text { IfOk result (λ text.
+        Reports (command_of asked.now) (S.told source.old) (lent_between steps.old steps.new)
         (λ found. found ≡ text.items)) }
     ensures most_pages { IfOk result (λ _. OnFile (S.told source.old)
         (λ file. steps.new ≤ steps.old + most_pages (command_of asked.now).request file)) }
