@@ -28,8 +28,8 @@ returns-in_err-read_groups-clause-fails g c =
     let none = subst (λ by_pages. IfSome told (λ bytes. index_causes_of_groups by_pages fields bounds bytes groups counts ≡ [])) c.are_pruned-by_pages.ensures c.in_ok-kept.ensures.ok in
     let are = subst (λ by_pages. IfSome told (λ bytes. kept ≡ kept_of_groups by_pages bounds bytes groups counts)) c.are_pruned-by_pages.ensures c.in_ok-kept.ensures.kept in
     let same = IfSome_then told {Q = λ bytes. reads kept bytes ≡ reads (kept_of_groups by_pages bounds bytes groups counts) bytes} are (λ bytes e. ap (λ kept. reads kept bytes) e) in
-    let fails = subst (λ (told : Option (List ℕ)). FailsBy told mid now (reads kept) c.in_err-read_groups.field-0.0) c.in_ok-kept.ensures.same
+    let fails = subst (λ (told : Option (List ℕ)). FailsBy told mid now (reads kept) c.in_err-read_groups.field-0.0) c.in_ok-kept.ensures.keeps.same
     (subst (λ kept. FailsBy (g.S.Source.told c.kept_groups.new.source) mid now (reads kept) c.in_err-read_groups.field-0.0) c.deref.ensures.value
     (subst (λ by_pages. FailsBy (g.S.Source.told c.kept_groups.new.source) mid now (λ bytes. causes_of_groups by_pages fields bytes groups c.deref.result.now) c.in_err-read_groups.field-0.0) c.are_pruned-by_pages.ensures c.in_err-read_groups.ensures.fails)) in
-    rw (p.1, p.2) (fails_more told start mid now (reads kept) whole c.in_err-read_groups.field-0.0 c.in_ok-kept.ensures.later
+    rw (p.1, p.2) (fails_more told start mid now (reads kept) whole c.in_err-read_groups.field-0.0 c.in_ok-kept.ensures.keeps.later
     (in_next told indexes (λ bytes. reads (kept_of_groups by_pages bounds bytes groups counts) bytes) (reads kept) none same) fails)
