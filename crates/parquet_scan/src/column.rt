@@ -58,7 +58,7 @@ pub(crate) fn place_of_chunk<S: Source>(
     let (offset, length) = column.byte_range();
     let size = source.size().map_err(|_| Error::Io)?;
     if size < offset || size - offset < length {
-        return Err(Error::ExternalFormat(Part::Location));
+        return Err(Error::ExternalFormat(Part::Group));
     }
     Ok(Place { offset, length })
 }
