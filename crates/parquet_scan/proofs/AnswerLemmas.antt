@@ -57,17 +57,6 @@ answers request told (Ok scan) legal valid kept chunks rows sound apart even own
 
 -- ---- refusals
 
--- a cause of the file is none of a valid one
-no_cause : (request : Request) (told : Option (List ℕ)) (Legal : List ℕ → Type 0) (Fails : Type 0) (e : Error) (cause : Cause) → IfSome told (λ bytes. Contains (causes request bytes) cause)
-    → IfSome told (λ bytes. Legal bytes → IsValid request bytes → (Fails → ⊥) → e ≡ error.OutOfMemory)
-no_cause request None Legal Fails e cause k = tt
-no_cause request (Some bytes) Legal Fails e cause k = λ legal valid whole.
-    absurd (nothing_wrong (Some cause) (subst (λ (found : List Cause). Contains found cause) valid.none k))
-
-everywhere : {P : List ℕ → Type 0} (told : Option (List ℕ)) → ((bytes : List ℕ) → P bytes) → IfSome told P
-everywhere None all = tt
-everywhere (Some bytes) all = all bytes
-
 abbrev Caused : Request → Option (List ℕ) → Error → Type 0
 Caused request told e = IfSome (cause_of e) (λ cause. IfSome told (λ bytes. Contains (causes request bytes) cause))
 
@@ -75,14 +64,22 @@ abbrev Completes : Request → Option (List ℕ) → ℕ → ℕ → Error → T
 Completes request told before now e =
     IfSome told (λ bytes. IsTrue (is_legal request (footer bytes)) → IsValid request bytes → (MayFail before now → ⊥) → e ≡ error.OutOfMemory)
 
+-- a cause of the file is none of a valid one
+no_cause : (request : Request) (told : Option (List ℕ)) (before now : ℕ) (e : Error) (cause : Cause) → IfSome told (λ bytes. Contains (causes request bytes) cause) → Completes request told before now e
+no_cause request None before now e cause k = tt
+no_cause request (Some bytes) before now e cause k = λ legal valid whole.
+    absurd (nothing_wrong (Some cause) (subst (λ (found : List Cause). Contains found cause) valid.none k))
+
 completes : (request : Request) (told : Option (List ℕ)) (before now : ℕ) (e : Error) → (IsTrue (is_invalid_argument e) → ⊥) → Caused request told e → (e ≡ error.Io → MayFail before now) → Completes request told before now e
 completes request told before now (error.InvalidArgumentError p) argument cause io = absurd (argument refl)
-completes request told before now (error.NotYetImplemented p) argument cause io = no_cause request told _ (MayFail before now) (error.NotYetImplemented p) NotYetImplemented cause
-completes request told before now (error.ExternalFormat p) argument cause io = no_cause request told _ (MayFail before now) (error.ExternalFormat p) ExternalFormat cause
-completes request told before now (error.OutOfSpec p) argument cause io = no_cause request told _ (MayFail before now) (error.OutOfSpec p) OutOfSpec cause
-completes request told before now error.Overflow argument cause io = no_cause request told _ (MayFail before now) error.Overflow Overflow cause
-completes request told before now error.Io argument cause io = everywhere told (λ bytes legal valid whole. absurd (whole (io refl)))
-completes request told before now error.OutOfMemory argument cause io = everywhere told (λ bytes legal valid whole. refl)
+completes request told before now (error.NotYetImplemented p) argument cause io = no_cause request told before now (error.NotYetImplemented p) NotYetImplemented cause
+completes request told before now (error.ExternalFormat p) argument cause io = no_cause request told before now (error.ExternalFormat p) ExternalFormat cause
+completes request told before now (error.OutOfSpec p) argument cause io = no_cause request told before now (error.OutOfSpec p) OutOfSpec cause
+completes request told before now error.Overflow argument cause io = no_cause request told before now error.Overflow Overflow cause
+completes request None before now error.Io argument cause io = tt
+completes request (Some bytes) before now error.Io argument cause io = λ legal valid whole. absurd (whole (io refl))
+completes request None before now error.OutOfMemory argument cause io = tt
+completes request (Some bytes) before now error.OutOfMemory argument cause io = λ legal valid whole. refl
 
 -- an error of a legal request
 pub refused : (request : Request) (told : Option (List ℕ)) (before now : ℕ) (e : Error) → (IsTrue (is_invalid_argument e) → ⊥) → (e ≡ error.Io → MayFail before now)

@@ -98,7 +98,7 @@ same_group : (b : Bool) (size : Option ℕ) (fields : List Field) (bytes : List 
       × AllByRecursion (λ (read : RowGroupMetaData × List ℕ). All (λ (field : Field). (row : ℕ) → given_cell b bytes read.0 field row ≡ cell bytes read.0 field row) fields) others
 same_group b size fields bytes group rows others true e all =
     let same = recursion_from_All (λ (field : Field). (row : ℕ) → given_cell b bytes group field row ≡ cell bytes group field row) fields all.0 in
-    (ap (λ f. map f (cut size rows)) (λ i rows. all_some (same_columns b bytes group rows fields same i)), all.1)
+    (λ i. map (λ some. all_some (same_columns b bytes group some fields same i)) (cut size rows), all.1)
 same_group b None fields bytes group [] others false e all = (refl, all)
 same_group b (Some size) fields bytes group [] others false e all = (refl, all)
 same_group b size fields bytes group (row ∷ rows) others false e all = absurd (false≢true (sym e ∙ lt-ltb 0 (length (row ∷ rows)) (omega arith)))

@@ -58,7 +58,7 @@ pub(crate) fn read_groups<S: Source, L: Ledger>(
     ensures rows { OnOk result (read.new.rows ≡ min (read.old.rows + rows_of_groups by_pages groups.now kept.now) (2 ^ 64 - 1)) }
     ensures own_rows { read.old.rows ≡ rows_in read.old.chunks.items →
         OnOk result (read.new.rows ≡ rows_in read.new.chunks.items) }
-    ensures even { All AreEqualLengths read.old.chunks.items → OnOk result (All AreEqualLengths read.new.chunks.items) }
+    ensures even { OnOk result (All AreEqualLengths read.old.chunks.items → All AreEqualLengths read.new.chunks.items) }
     ensures ticks { steps.old ≤ steps.new }
     ensures pages { OnOk result (read.new.pages ≡ min (read.old.pages + (steps.new - steps.old)) (2 ^ 64 - 1)) }
     ensures lent { OnOk result (RisesBy (S.told source.old) steps.old steps.new (λ bytes. lent_of_groups by_pages fields.now bytes groups.now kept.now)) }
@@ -93,7 +93,7 @@ fn read_if_kept<S: Source, L: Ledger>(
     ensures rows { OnOk result (read.new.rows ≡ min (read.old.rows + rows_if_read by_pages (group.now, kept.now)) (2 ^ 64 - 1)) }
     ensures own_rows { read.old.rows ≡ rows_in read.old.chunks.items →
         OnOk result (read.new.rows ≡ rows_in read.new.chunks.items) }
-    ensures even { All AreEqualLengths read.old.chunks.items → OnOk result (All AreEqualLengths read.new.chunks.items) }
+    ensures even { OnOk result (All AreEqualLengths read.old.chunks.items → All AreEqualLengths read.new.chunks.items) }
     ensures ticks { steps.old ≤ steps.new }
     ensures pages { OnOk result (read.new.pages ≡ min (read.old.pages + (steps.new - steps.old)) (2 ^ 64 - 1)) }
     ensures lent { OnOk result (RisesBy (S.told source.old) steps.old steps.new (λ bytes. lent_if_read by_pages fields.now bytes (group.now, kept.now))) }
@@ -132,7 +132,7 @@ fn read_group<S: Source, L: Ledger>(
     ensures rows { OnOk result (read.new.rows ≡ min (read.old.rows + length (rows_read by_pages group.now kept.now.intervals)) (2 ^ 64 - 1)) }
     ensures own_rows { read.old.rows ≡ rows_in read.old.chunks.items →
         OnOk result (read.new.rows ≡ rows_in read.new.chunks.items) }
-    ensures even { All AreEqualLengths read.old.chunks.items → OnOk result (All AreEqualLengths read.new.chunks.items) }
+    ensures even { OnOk result (All AreEqualLengths read.old.chunks.items → All AreEqualLengths read.new.chunks.items) }
     ensures ticks { steps.old ≤ steps.new }
     ensures pages { OnOk result (read.new.pages ≡ min (read.old.pages + (steps.new - steps.old)) (2 ^ 64 - 1)) }
     ensures lent { OnOk result (RisesBy (S.told source.old) steps.old steps.new (λ bytes. lent_of_group by_pages fields.now bytes (group.now, rows_read by_pages group.now kept.now.intervals))) }
@@ -312,7 +312,7 @@ fn add_chunk(read: &mut RowsRead, arrays: Vec<Array>, pages: usize) -> Result<()
     ensures rows { OnOk result (read.new.rows ≡ min (read.old.rows + chunk_rows arrays.items) (2 ^ 64 - 1)) }
     ensures own_rows { read.old.rows ≡ rows_in read.old.chunks.items →
         OnOk result (read.new.rows ≡ rows_in read.new.chunks.items) }
-    ensures even { All AreEqualLengths read.old.chunks.items → OnOk result (All AreEqualLengths read.new.chunks.items) }
+    ensures even { OnOk result (All AreEqualLengths read.old.chunks.items → All AreEqualLengths read.new.chunks.items) }
     ensures pages { OnOk result (read.new.pages ≡ min (read.old.pages + pages) (2 ^ 64 - 1)) }
     ensures memory { IfErr result IsWantOfMemory }
 {

@@ -85,16 +85,18 @@ returns-clause-answers g c =
     let scan = c.scan_groups.result in
     let pruned : List Field → List RowGroupMetaData → Bool = λ fields groups. are_pruned request.bounds fields groups counts in
     let runs : List Field → List RowGroupMetaData → List ℕ → List GroupKept = λ fields groups bytes. kept_of_groups (pruned fields groups) request.bounds bytes groups counts in
-    let as_told : (R : List Field → List RowGroupMetaData → Option (List ℕ) → Type 0) → R c.as_slice-2.result.now c.as_slice.result.now here → R request.fields metadata.row_groups told
-    = λ R holds. moved R c.as_slice-2.result.now request.fields c.as_slice.result.now metadata.row_groups here told c.as_slice-2.ensures c.as_slice.ensures c.in_ok-metadata.ensures.keeps.same holds in
     let valid = is_valid request metadata counts none counted scan told footed
-    (as_told (λ fields groups told. OnOk scan (IfSome told (λ bytes. scan_causes (pruned fields groups) fields request.bounds bytes groups counts ≡ []))) c.scan_groups.ensures.ok) in
+    (moved (λ fields groups told. OnOk scan (IfSome told (λ bytes. scan_causes (pruned fields groups) fields request.bounds bytes groups counts ≡ []))) c.as_slice-2.result.now request.fields c.as_slice.result.now metadata.row_groups here told
+    c.as_slice-2.ensures c.as_slice.ensures c.in_ok-metadata.ensures.keeps.same c.scan_groups.ensures.ok) in
     let kept = is_kept request metadata counts none counted scan told (λ (scan : Scan). scan.kept) footed
-    (as_told (λ fields groups told. IfOk scan (λ (scan : Scan). IfSome told (λ bytes. scan.kept ≡ runs fields groups bytes))) c.scan_groups.ensures.kept) in
+    (moved (λ fields groups told. IfOk scan (λ (scan : Scan). IfSome told (λ bytes. scan.kept ≡ runs fields groups bytes))) c.as_slice-2.result.now request.fields c.as_slice.result.now metadata.row_groups here told
+    c.as_slice-2.ensures c.as_slice.ensures c.in_ok-metadata.ensures.keeps.same c.scan_groups.ensures.kept) in
     let chunks = are_given request metadata counts none counted scan told (λ (scan : Scan). scan.chunks) footed
-    (as_told (λ fields groups told. IfOk scan (λ (scan : Scan). IfSome told (λ bytes. shown scan.chunks ≡ chunks_of_groups (pruned fields groups) fields bytes groups (runs fields groups bytes)))) c.scan_groups.ensures.chunks) in
+    (moved (λ fields groups told. IfOk scan (λ (scan : Scan). IfSome told (λ bytes. shown scan.chunks ≡ chunks_of_groups (pruned fields groups) fields bytes groups (runs fields groups bytes)))) c.as_slice-2.result.now request.fields c.as_slice.result.now metadata.row_groups here told
+    c.as_slice-2.ensures c.as_slice.ensures c.in_ok-metadata.ensures.keeps.same c.scan_groups.ensures.chunks) in
     let rows = are_counted request metadata counts none counted scan told (λ (scan : Scan). scan.rows) footed
-    (as_told (λ fields groups told. IfOk scan (λ (scan : Scan). IfSome told (λ bytes. scan.rows ≡ min (rows_of_groups (pruned fields groups) groups (runs fields groups bytes)) (2 ^ 64 - 1)))) c.scan_groups.ensures.rows) in
+    (moved (λ fields groups told. IfOk scan (λ (scan : Scan). IfSome told (λ bytes. scan.rows ≡ min (rows_of_groups (pruned fields groups) groups (runs fields groups bytes)) (2 ^ 64 - 1)))) c.as_slice-2.result.now request.fields c.as_slice.result.now metadata.row_groups here told
+    c.as_slice-2.ensures c.as_slice.ensures c.in_ok-metadata.ensures.keeps.same c.scan_groups.ensures.rows) in
     answers request told scan (legal_told request told metadata footed legal) valid kept chunks rows
     (scan_sound request metadata scan told (λ (scan : Scan). map kept_of scan.kept) footed legal valid kept)
     c.scan_groups.ensures.apart c.scan_groups.ensures.even c.scan_groups.ensures.own_rows
