@@ -1,4 +1,4 @@
-use Rattle.std.proofs.Common.{◌≡◌, ◌≤◌, ◌∙◌, Bool, length, drop, arith, subst, List, ℕ, Option, ap, get_or}
+use Rattle.std.proofs.Common.{rules, ◌≡◌, ◌≤◌, ◌∙◌, Bool, length, drop, arith, subst, List, ℕ, Option, ap, get_or}
 use Rattle.parquet_meta.specs.declared.metadata.RowGroupMetaData.{RowGroupMetaData}
 use Rattle.std.proofs.lemmas.List.{drop_all}
 use Rattle.std.proofs.lemmas.Result.{err_from_is_err_and}
@@ -41,3 +41,18 @@ returns-clause-lent g c =
 pub returns-clause-taken : goal.returns-clause-taken
 returns-clause-taken g c =
     rises_pairs (g.S.Source.told c.args.source.now) (taken_if_read c.args.by_pages c.args.fields.now) c.args.groups.now c.args.kept.now c.loop-i.i (g.S.Source.taken c.args.source.now) (g.S.Source.taken c.loop-i.source) (omega arith) c.loop-i.invariant.taken
+
+pub loop-i-preserved : goal.loop-i-preserved
+loop-i-preserved g c = record {
+  keeps = search rules;
+  none = search rules;
+  chunks = search rules;
+  lent = search rules;
+  taken = search rules;
+  rows = search rules;
+  own_rows = search rules;
+  even = λ all. c.in_ok-read_if_kept.ensures.even (c.loop-i.invariant.even all);
+  fits = search rules;
+  ticks = search rules;
+  pages = search rules;
+}

@@ -39,5 +39,5 @@ returns-in_err-read_groups-clause-fails g c =
 
 pub returns-clause-even : goal.returns-clause-even
 returns-clause-even g c =
-    let none = subst (λ (items : List (List Array)). All AreEqualLengths items) (sym c.new-read.ensures.items) (All-nil AreEqualLengths) in
-    subst (λ (items : List (List Array)). All AreEqualLengths items) (sym c.new-2.ensures) (c.in_ok-read_groups.ensures.even none)
+    let none = subst (λ (items : List (List Array)). All AreEqualLengths items) (sym c.new.ensures.items) (All-nil AreEqualLengths) in
+    subst (λ (items : List (List Array)). All AreEqualLengths items) (sym c.new-3.ensures) (c.in_ok-read_groups.ensures.even none)
