@@ -95,7 +95,7 @@ same_group : (b : Bool) (size : Option ℕ) (fields : List Field) (bytes : List 
     → nat_lt 0 (length rows) ≡ gives
     → AllByRecursion (λ (read : RowGroupMetaData × List ℕ). All (λ (field : Field). (row : ℕ) → given_cell b bytes read.0 field row ≡ cell bytes read.0 field row) fields) (cond gives ((group, rows) ∷ others) others)
     → (map (given_chunk b fields bytes group) (cut size rows) ≡ map (given_chunk false fields bytes group) (cut size rows))
-      × AllByRecursion (λ (read : RowGroupMetaData × List ℕ). All (λ (field : Field). (row : ℕ) → given_cell b bytes read.0 field row ≡ cell bytes read.0 field row) fields) others
+    × AllByRecursion (λ (read : RowGroupMetaData × List ℕ). All (λ (field : Field). (row : ℕ) → given_cell b bytes read.0 field row ≡ cell bytes read.0 field row) fields) others
 same_group b size fields bytes group rows others true e all =
     let same = recursion_from_All (λ (field : Field). (row : ℕ) → given_cell b bytes group field row ≡ cell bytes group field row) fields all.0 in
     (λ i. map (λ some. all_some (same_columns b bytes group some fields same i)) (cut size rows), all.1)

@@ -1,5 +1,6 @@
 use Rattle.std.proofs.Common.{rules, ◌≡◌, ◌≤◌, ◌∙◌, Bool, length, drop, arith, subst, List, ℕ, Option, ap, get_or}
 use Rattle.parquet_meta.specs.declared.metadata.RowGroupMetaData.{RowGroupMetaData}
+use Rattle.std.proofs.lemmas.Grind.{common_steps}
 use Rattle.std.proofs.lemmas.List.{drop_all}
 use Rattle.std.proofs.lemmas.Result.{err_from_is_err_and}
 use Rattle.parquet_scan.specs.declared.scanning.GroupKept.{GroupKept}
@@ -45,11 +46,11 @@ returns-clause-taken g c =
 pub loop-i-preserved : goal.loop-i-preserved
 loop-i-preserved g c = record {
   keeps = search rules;
-  none = search rules;
-  chunks = search rules;
-  lent = search rules;
-  taken = search rules;
-  rows = search rules;
+  none = grind (arith, common_steps);
+  chunks = grind (arith, common_steps);
+  lent = grind (arith, common_steps);
+  taken = grind (arith, common_steps);
+  rows = grind (arith, common_steps);
   own_rows = search rules;
   even = λ all. c.in_ok-read_if_kept.ensures.even (c.loop-i.invariant.even all);
   fits = search rules;
