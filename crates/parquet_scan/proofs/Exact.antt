@@ -14,7 +14,7 @@ use Rattle.parquet_scan.specs.declared.bound.Scalar.{Scalar}
 use Rattle.parquet_scan.specs.declared.bound.Scalar.TheVariants as scalar
 use Rattle.parquet_scan.specs.declared.bound.Bound.{Bound}
 use Rattle.parquet_scan.specs.Bound.{value_of, is_past, is_above, is_within, meets, has_value, keeps}
-use Rattle.parquet_scan.specs.Exact.{IsValueOf, IsItemOf, MayBeMet, KeepsExactly, TrueEndsKeep, is_item_of, is_end_of}
+use Rattle.parquet_scan.specs.Exact.{is_byte, IsValueOf, IsItemOf, MayBeMet, KeepsExactly, TrueEndsKeep, is_item_of, is_end_of}
 use Rattle.parquet_scan.specs.Request.{is_value_of}
 use Rattle.columns_core.specs.Types.{Layer, number_range_at, is_text_at, takes_bytes_at, is_ordered_at, is_ordered}
 use Rattle.parquet_scan.specs.Truth.{is_null, is_between, are_true_ends}
@@ -229,7 +229,7 @@ kind-bytes _ n p = absurd (false≢true p)
 kind-value : (data_type : DataType) (v : Scalar) → IsValueOf data_type v → kind v ≡ kind_at (out-DataType data_type)
 kind-value data_type (scalar.Int n) h = kind-int (out-DataType data_type) n h
 kind-value data_type (scalar.Text text) h = sym (cond-true _ _ _ h.0)
-kind-value data_type (scalar.Bytes bytes) h = kind-bytes (out-DataType data_type) (length bytes) h
+kind-value data_type (scalar.Bytes bytes) h = kind-bytes (out-DataType data_type) (length bytes) h.0
 
 same_kind : (data_type : DataType) (a b : Scalar) → IsValueOf data_type a → IsValueOf data_type b → kind a ≡ kind b
 same_kind data_type a b x y = kind-value data_type a x ∙ sym (kind-value data_type b y)
@@ -239,12 +239,16 @@ same_kind data_type a b x y = kind-value data_type a x ∙ sym (kind-value data_
 abbrev IsValueAt : Layer → Scalar → Type 0
 IsValueAt layer (scalar.Int n) = option_map_or (λ range. int_le range.0 n && int_le n range.1) (number_range_at layer) false ≡ true
 IsValueAt layer (scalar.Text text) = (is_text_at layer ≡ true) × IsUtf8 text
-IsValueAt layer (scalar.Bytes bytes) = takes_bytes_at layer (length bytes) ≡ true
+IsValueAt layer (scalar.Bytes bytes) = (takes_bytes_at layer (length bytes) ≡ true) × (list_all is_byte bytes ≡ true)
 
 value_at : (data_type : DataType) (v : Scalar) → IsValueAt (out-DataType data_type) v → IsValueOf data_type v
 value_at data_type (scalar.Int n) h = h
 value_at data_type (scalar.Text text) h = h
 value_at data_type (scalar.Bytes bytes) h = h
+
+zeros : (n : ℕ) → list_all is_byte (replicate n 0) ≡ true
+zeros zero = refl
+zeros (suc n) = zeros n
 
 some_value : (layer : Layer) → is_ordered_at layer (is_some (number_range_at layer)) (is_text_at layer) ≡ true → (v : Scalar) × IsValueAt layer v
 some_value DataType-F.Int8 p = (scalar.Int (pos 0), refl)
@@ -264,9 +268,9 @@ some_value (DataType-F.Timestamp unit time_zone) p = (scalar.Int (pos 0), refl)
 some_value (DataType-F.Decimal precision scale) p = (scalar.Int (pos 0), refl)
 some_value DataType-F.Utf8 p = (scalar.Text [], (refl, IsUtf8-nil))
 some_value DataType-F.LargeUtf8 p = (scalar.Text [], (refl, IsUtf8-nil))
-some_value DataType-F.Binary p = (scalar.Bytes [], refl)
-some_value DataType-F.LargeBinary p = (scalar.Bytes [], refl)
-some_value (DataType-F.FixedSizeBinary size) p = (scalar.Bytes (replicate size 0), eq-eqb _ _ (length-replicate size 0))
+some_value DataType-F.Binary p = (scalar.Bytes [], (refl, refl))
+some_value DataType-F.LargeBinary p = (scalar.Bytes [], (refl, refl))
+some_value (DataType-F.FixedSizeBinary size) p = (scalar.Bytes (replicate size 0), (eq-eqb _ _ (length-replicate size 0), zeros size))
 some_value _ p = absurd (false≢true p)
 
 -- ---- items of which the ends are true

@@ -1,6 +1,6 @@
 -- What a scan costs in all, by the groups of the file.
 use Rattle.std.proofs.Common.{◌≡◌, ℕ, suc, get_or, ◌+◌, ◌<◌, ◌≤◌, Bool, true, false, cond, List, [], ◌∷◌, length, map, refl, sym, subst, ◌∙◌, ap, arith}
-use Rattle.std.specs.Prelude.{Option, Some, None, option_map, sum_by, filter, zip, ◌&&◌, nat_lt, IfSome, IfOk, OnOk, IsTrue, Result, Ok, Err, if◌then◌else◌}
+use Rattle.std.specs.Prelude.{All, Option, Some, None, option_map, sum_by, filter, zip, ◌&&◌, nat_lt, IfSome, IfOk, OnOk, IsTrue, Result, Ok, Err, if◌then◌else◌}
 use Rattle.std.specs.List.{AllZip}
 use Rattle.std.proofs.lemmas.List.Sums.{sum_by-cons}
 use Rattle.columns_core.specs.declared.data_type.Field.{Field}
@@ -16,7 +16,7 @@ use Rattle.parquet_scan.specs.Counting.{are_pruned, column_taken, columns_taken,
 use Rattle.parquet_scan.specs.Request.{Request, is_legal}
 use Rattle.parquet_scan.specs.Rows.{File, file_of, file_with, first_rows, gives_rows, group_counts, groups_read, intervals, kept, kept_rows, prunes_pages}
 use Rattle.parquet_scan.specs.Scan.{HoldsMet, IsSound, OnFile, RisesBy, kept_groups}
-use Rattle.parquet_scan.specs.Truth.{LosesNoRow, MeetsAll}
+use Rattle.parquet_scan.specs.Truth.{KeepsMet, LosesNoRow, MeetsAll}
 use Rattle.parquet_scan.specs.declared.scanning.GroupKept.{GroupKept}
 use Rattle.parquet_scan.proofs.FileLemmas.{built_limit}
 use Rattle.parquet_scan.proofs.KeptLemmas.{one_group}
@@ -120,18 +120,18 @@ indexes_are request false groups = none_in_all groups
 -- ---- rows that meet all bounds
 
 runs_hold : (request : Request) (file : File) (groups : List RowGroupMetaData)
-    → ((k : ℕ) (d : RowGroupMetaData) → k < length groups → (row : ℕ) → row < (get_or groups k d).num_rows → MeetsAll request file.bytes (get_or groups k d) row → kept request file (get_or groups k d) row ≡ true)
+    → All (KeepsMet request file) groups
     → AllZip (HoldsMet request file) groups (map (λ (group : RowGroupMetaData). (group.num_rows, intervals request file group)) groups)
 runs_hold request file [] all = tt
 runs_hold request file (group ∷ groups) all = (
-  λ row below meets. covers-maximal_runs (kept request file group) group.num_rows row below ∙ all 0 group (omega arith) row below meets,
+  λ statistics row below meets. covers-maximal_runs (kept request file group) group.num_rows row below ∙ all 0 group (omega arith) statistics row below meets,
   runs_hold request file groups (λ k d h. all (suc k) d (omega (arith, h))),
 )
 
 sound_at : (request : Request) (bytes : List ℕ) (o : Option FileMetaData) → IfSome (option_map (file_with bytes) o) (LosesNoRow request)
     → IfSome (option_map (file_with bytes) o) (λ file. IsSound request file (kept_groups request file))
 sound_at request bytes None loses = tt
-sound_at request bytes (Some metadata) loses = λ statistics. runs_hold request (file_with bytes metadata) metadata.row_groups (loses statistics)
+sound_at request bytes (Some metadata) loses = runs_hold request (file_with bytes metadata) metadata.row_groups loses
 
 -- the runs that a legal request keeps of a valid file
 pub is_sound : (request : Request) (bytes : List ℕ) → IsTrue (is_legal request (footer bytes)) → IsValid request bytes → IfSome (file_of bytes) (λ file. IsSound request file (kept_groups request file))

@@ -5,7 +5,6 @@ use Rattle.std.specs.List.{flat_map, list_all}
 use Rattle.std.specs.Option.{option_map_or}
 use Rattle.std.specs.Cmp.{first_so, second_so}
 use Rattle.std.proofs.lemmas.Bool.{true≢false}
-use Rattle.parquet_base.specs.Failures.{MayFail}
 use Rattle.columns_core.specs.Causes.{Cause, ExternalFormat, NotYetImplemented, OutOfSpec, Overflow, IsOneOf, and_then, cause_of}
 use Rattle.columns_core.specs.declared.error.Error.{Error}
 use Rattle.columns_core.specs.declared.error.Error.TheVariants as error
@@ -22,7 +21,6 @@ use Rattle.parquet_scan.specs.declared.scanning.GroupKept.{GroupKept}
 use Rattle.parquet_scan.proofs.CauseLemmas.{TellsOf, among_first, then_next}
 use Rattle.parquet_scan.proofs.KeptLemmas.{one_group}
 use Rattle.parquet_scan.proofs.ScanLemmas.{same_pruning}
-use Rattle.page_decoding.proofs.NextLemmas.{nothing_wrong}
 use Rattle.parquet_page.proofs.SpelledLemmas.{none_of}
 
 -- ---- lists of causes
@@ -118,16 +116,6 @@ pub meta_cause : (told : Option (List ℕ)) (request : Request) (metadata : File
 meta_cause told request metadata e at (inl h) = subst (λ x. IfSome (cause_of x) (λ cause. IfSome told (λ bytes. Contains (causes request bytes) cause))) (sym h) tt
 meta_cause told request metadata e at (inr k) = meta_one told request metadata (cause_of e) at k
 
-no_meta : (request : Request) (bytes : List ℕ) (metadata : FileMetaData) → footer bytes ≡ Some metadata → IsValid request bytes → metadata_causes request metadata ≡ []
-no_meta request bytes metadata at valid = nothing_first (metadata_causes request metadata) _ (sym (causes_at request bytes metadata at) ∙ valid.none)
-
-pub meta_complete : (told : Option (List ℕ)) (request : Request) (metadata : FileMetaData) (Legal : List ℕ → Type 0) (Fails : Type 0) (e : Error) → IfSome told (λ bytes. footer bytes ≡ Some metadata)
-    → TellsOf (metadata_causes request metadata) e → IfSome told (λ bytes. Legal bytes → IsValid request bytes → (Fails → ⊥) → e ≡ error.OutOfMemory)
-meta_complete None request metadata Legal Fails e at k = tt
-meta_complete (Some bytes) request metadata Legal Fails e at (inl h) = λ legal valid whole. h
-meta_complete (Some bytes) request metadata Legal Fails e at (inr k) = λ legal valid whole.
-    absurd (nothing_wrong (cause_of e) (subst (λ found. IsOneOf found (cause_of e)) (no_meta request bytes metadata at valid) k))
-
 -- ---- what a scan of the groups tells of the file
 
 module _ (request : Request) (metadata : FileMetaData) (counts : List Bool) (none : metadata_causes request metadata ≡ []) (counted : counts ≡ map (group_counts request) metadata.row_groups) where
@@ -164,26 +152,6 @@ module _ (request : Request) (metadata : FileMetaData) (counts : List Bool) (non
       → IfErr r (FailsBy told before now (λ bytes. found bytes)) → IfErr r (λ e. IfSome (cause_of e) (λ cause. IfSome told (λ bytes. Contains (causes request bytes) cause)))
   has_cause (Ok x) told before now at k = tt
   has_cause (Err e) told before now at k = cause_in e told before now at k
-
-  no_one : (bytes : List ℕ) (o : Option Cause) → footer bytes ≡ Some metadata → IsValid request bytes → IsOneOf (found bytes) o → ⊥
-  no_one bytes o at valid k = nothing_wrong o (subst (λ causes. IsOneOf causes o) (sym (same_causes request bytes metadata counts at none counted) ∙ valid.none) k)
-
-  memory_alone : (e : Error) (bytes : List ℕ) (before mid now : ℕ) → before ≤ mid → footer bytes ≡ Some metadata
-      → FailsBy (Some bytes) mid now (λ bytes. found bytes) e → IsValid request bytes → (MayFail before now → ⊥) → e ≡ error.OutOfMemory
-  memory_alone (error.InvalidArgumentError p) bytes before mid now h at k valid whole = absurd k
-  memory_alone (error.NotYetImplemented p) bytes before mid now h at k valid whole = absurd (no_one bytes (Some NotYetImplemented) at valid k)
-  memory_alone (error.ExternalFormat p) bytes before mid now h at k valid whole = absurd (no_one bytes (Some ExternalFormat) at valid k)
-  memory_alone (error.OutOfSpec p) bytes before mid now h at k valid whole = absurd (no_one bytes (Some OutOfSpec) at valid k)
-  memory_alone error.Overflow bytes before mid now h at k valid whole = absurd (no_one bytes (Some Overflow) at valid k)
-  memory_alone error.Io bytes before mid now h at k valid whole = absurd (whole (omega (arith, h, k)))
-  memory_alone error.OutOfMemory bytes before mid now h at k valid whole = refl
-
-  pub is_complete : {X : Type 0} (r : Result X Error) (told : Option (List ℕ)) (Legal : List ℕ → Type 0) (before mid now : ℕ) → before ≤ mid → IfSome told (λ bytes. footer bytes ≡ Some metadata)
-      → IfErr r (FailsBy told mid now (λ bytes. found bytes))
-      → IfErr r (λ e. IfSome told (λ bytes. Legal bytes → IsValid request bytes → (MayFail before now → ⊥) → e ≡ error.OutOfMemory))
-  is_complete (Ok x) told Legal before mid now h at k = tt
-  is_complete (Err e) None Legal before mid now h at k = tt
-  is_complete (Err e) (Some bytes) Legal before mid now h at k = λ legal valid whole. memory_alone e bytes before mid now h at k valid whole
 
   pub is_kept : {X : Type 0} (r : Result X Error) (told : Option (List ℕ)) (kept : X → List GroupKept) → IfSome told (λ bytes. footer bytes ≡ Some metadata)
       → IfOk r (λ x. IfSome told (λ bytes. kept x ≡ kept_of_groups by_pages request.bounds bytes metadata.row_groups counts)) → IfOk r (λ x. OnFile told (λ file. map kept_of (kept x) ≡ kept_groups request file))

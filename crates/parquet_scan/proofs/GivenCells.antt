@@ -1,18 +1,24 @@
 -- The cells that a scan gives are those of the chunks' own order, where counts and locations are true.
-use Rattle.std.proofs.Common.{◌≡◌, ℕ, ◌-◌, Bool, true, false, cond, ◌&&◌, List, [], ◌∷◌, length, map, take, refl, sym, ◌∙◌, ap, arith, get_or, All}
-use Rattle.std.specs.Prelude.{Option, Some, None, filter, nat_lt, option_and_then, zip}
+use Rattle.std.proofs.Common.{◌≡◌, ℕ, ◌-◌, Bool, true, false, cond, ◌&&◌, List, [], ◌∷◌, ◌++◌, length, map, take, refl, sym, ◌∙◌, ap, arith, get_or, All}
+use Rattle.std.specs.Prelude.{Option, Some, None, IfOk, IfSome, Result, Ok, Err, filter, flat_map, nat_lt, option_and_then, option_map, zip}
 use Rattle.std.specs.List.{AllByRecursion, range_with_len}
 use Rattle.std.proofs.lemmas.Bool.{false≢true, lt-ltb, ltb-true}
 use Rattle.std.proofs.lemmas.List.{length-take}
 use Rattle.std.proofs.lemmas.List.Elements.{All-from_recursion, recursion_from_All}
+use Rattle.columns_core.specs.declared.cell.Cell.{Cell}
+use Rattle.columns_core.specs.declared.data_type.DataType.{DataType}
 use Rattle.columns_core.specs.declared.data_type.Field.{Field}
+use Rattle.columns_core.specs.declared.error.Error.{Error}
+use Rattle.parquet_base.specs.Pieces.{cut}
 use Rattle.parquet_meta.specs.declared.metadata.ColumnChunkMetaData.{ColumnChunkMetaData}
 use Rattle.parquet_meta.specs.declared.metadata.RowGroupMetaData.{RowGroupMetaData}
-use Rattle.parquet_scan.specs.Cells.{cell, column_cell, given_cell, located_cell}
-use Rattle.parquet_scan.specs.Laws.{GivenCellsAreCells}
+use Rattle.parquet_page.specs.Values.{all_some}
+use Rattle.parquet_scan.specs.Cells.{cell, column_cell, file_chunks, given_cell, given_chunk, given_chunks, given_column, located_cell}
+use Rattle.parquet_scan.specs.Laws.{GivenCellsAreCells, GivenChunksAreTheFiles}
 use Rattle.parquet_scan.specs.Request.{Request}
-use Rattle.parquet_scan.specs.Rows.{File, column_named, first_rows, gives_rows, group_counts, groups_of, groups_read, kept_rows, pages_keep, prunes_pages}
-use Rattle.parquet_scan.specs.Truth.{AreTrueCounts, AreTrueLocations, OnField}
+use Rattle.parquet_scan.specs.Rows.{File, column_named, file_of, first_rows, given_groups, gives_rows, group_counts, groups_of, groups_read, kept_rows, pages_keep, prunes_pages}
+use Rattle.parquet_scan.specs.Scan.{OnFile}
+use Rattle.parquet_scan.specs.Truth.{AreTrueCounts, AreTrueLocations, HasTrueCountsAndLocations, OnField}
 use Rattle.parquet_scan.proofs.KeptLemmas.{all_or_none}
 use Rattle.parquet_scan.proofs.LocatedCells.{located_cells_are_cells}
 use Rattle.parquet_scan.proofs.SoundLists.{if_some}
@@ -72,3 +78,55 @@ given_cells_are_cells request file truth k d h i f l row =
     let places = All-from_recursion (λ (r : RowGroupMetaData × List ℕ). Places r.0) (groups_read request file)
     (of_read request file Places request.limit (groups_of file) (recursion_from_All Places _ (truth.located pruned))) in
     same_in file.bytes read.0 field row (truth.counts k d h i f l) (places k d h i f l) (column_named (read.0) field.name) refl)
+
+-- ---- chunks
+
+-- where the cells of each field are the file's, so is a chunk of some rows
+same_columns : (b : Bool) (bytes : List ℕ) (group : RowGroupMetaData) (rows : List ℕ) (fields : List Field)
+    → AllByRecursion (λ (field : Field). (row : ℕ) → given_cell b bytes group field row ≡ cell bytes group field row) fields
+    → map (given_column b bytes group rows) fields ≡ map (given_column false bytes group rows) fields
+same_columns b bytes group rows [] same = refl
+same_columns b bytes group rows (field ∷ fields) same = λ i.
+    option_map (λ (found : List Cell). (field.data_type, found)) (all_some (map (λ row. same.0 row i) rows))
+    ∷ same_columns b bytes group rows fields same.1 i
+
+-- of a group that gives rows all chunks are, and one that gives none has none
+same_group : (b : Bool) (size : Option ℕ) (fields : List Field) (bytes : List ℕ) (group : RowGroupMetaData) (rows : List ℕ) (others : List (RowGroupMetaData × List ℕ)) (gives : Bool)
+    → nat_lt 0 (length rows) ≡ gives
+    → AllByRecursion (λ (read : RowGroupMetaData × List ℕ). All (λ (field : Field). (row : ℕ) → given_cell b bytes read.0 field row ≡ cell bytes read.0 field row) fields) (cond gives ((group, rows) ∷ others) others)
+    → (map (given_chunk b fields bytes group) (cut size rows) ≡ map (given_chunk false fields bytes group) (cut size rows))
+    × AllByRecursion (λ (read : RowGroupMetaData × List ℕ). All (λ (field : Field). (row : ℕ) → given_cell b bytes read.0 field row ≡ cell bytes read.0 field row) fields) others
+same_group b size fields bytes group rows others true e all =
+    let same = recursion_from_All (λ (field : Field). (row : ℕ) → given_cell b bytes group field row ≡ cell bytes group field row) fields all.0 in
+    (λ i. map (λ some. all_some (same_columns b bytes group some fields same i)) (cut size rows), all.1)
+same_group b None fields bytes group [] others false e all = (refl, all)
+same_group b (Some size) fields bytes group [] others false e all = (refl, all)
+same_group b size fields bytes group (row ∷ rows) others false e all = absurd (false≢true (sym e ∙ lt-ltb 0 (length (row ∷ rows)) (omega arith)))
+
+same_chunks : (b : Bool) (size : Option ℕ) (fields : List Field) (bytes : List ℕ) (groups : List (RowGroupMetaData × List ℕ))
+    → AllByRecursion (λ (read : RowGroupMetaData × List ℕ). All (λ (field : Field). (row : ℕ) → given_cell b bytes read.0 field row ≡ cell bytes read.0 field row) fields) (filter gives_rows groups)
+    → flat_map (λ (group : RowGroupMetaData × List ℕ). map (given_chunk b fields bytes group.0) (cut size group.1)) groups
+    ≡ flat_map (λ (group : RowGroupMetaData × List ℕ). map (given_chunk false fields bytes group.0) (cut size group.1)) groups
+same_chunks b size fields bytes [] all = refl
+same_chunks b size fields bytes (group ∷ groups) all =
+    let here = same_group b size fields bytes group.0 group.1 (filter gives_rows groups) (gives_rows group) refl all in
+    λ i. here.0 i ++ same_chunks b size fields bytes groups here.1 i
+
+pub given_chunks_are_the_files : GivenChunksAreTheFiles
+given_chunks_are_the_files request file truth =
+    let by_pages = prunes_pages request (groups_of file) in
+    let Same : RowGroupMetaData × List ℕ → Type 0 = λ read. All (λ (field : Field). (row : ℕ) → given_cell by_pages file.bytes read.0 field row ≡ cell file.bytes read.0 field row) request.fields in
+    ap all_some (same_chunks by_pages request.chunk_size request.fields file.bytes (given_groups request file)
+    (recursion_from_All Same (groups_read request file) (given_cells_are_cells request file truth)))
+
+-- what holds of the chunks of a scan, as the file's own
+pub own_chunks : {X : Type 0} (request : Request) (r : Result X Error) (told : Option (List ℕ)) (chunks : X → List (List (DataType × List Cell)))
+    → IfOk r (λ x. OnFile told (λ file. given_chunks request file ≡ Some (chunks x)))
+    → IfOk r (λ x. OnFile told (λ file. HasTrueCountsAndLocations request file → file_chunks request file ≡ Some (chunks x)))
+own_chunks request (Err e) told chunks given = tt
+own_chunks request (Ok x) None chunks given = tt
+own_chunks request (Ok x) (Some bytes) chunks given = of_file (file_of bytes) given where
+  of_file : (o : Option File) → IfSome o (λ file. given_chunks request file ≡ Some (chunks x))
+      → IfSome o (λ file. HasTrueCountsAndLocations request file → file_chunks request file ≡ Some (chunks x))
+  of_file None given = tt
+  of_file (Some file) given = λ truth. sym (given_chunks_are_the_files request file truth) ∙ given

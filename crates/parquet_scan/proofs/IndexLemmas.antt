@@ -1,10 +1,12 @@
 -- The column index of one column, and the ends that it tells.
-use Rattle.std.proofs.Common.{◌≡◌, ℕ, ◌+◌, ◌<◌, ◌≤◌, Bool, true, false, cond, List, [], ◌∷◌, ◌++◌, length, drop, get_or, Option, Some, None, refl, sym, subst, ◌∙◌, ap}
-use Rattle.std.specs.Prelude.{◌&&◌, ◌||◌, IfSome, Result, Err, nat_eq}
+use Rattle.std.proofs.Common.{◌≡◌, ℕ, ◌+◌, ◌<◌, ◌≤◌, Bool, true, false, cond, List, [], ◌∷◌, ◌++◌, length, drop, get_or, Option, Some, None, refl, sym, subst, ◌∙◌, ap, inl, inr}
+use Rattle.std.specs.Prelude.{◌&&◌, ◌||◌, IfSome, Result, Err, is_some, nat_eq}
 use Rattle.std.specs.Cmp.Lexicographic.{pointwise, same_text}
 use Rattle.std.specs.List.{list_all}
+use Rattle.std.specs.Option.{option_map_or}
 use Rattle.std.proofs.lemmas.Bool.{and_parts, true≢false}
 use Rattle.std.proofs.lemmas.List.{drop_all, drop_more}
+use Rattle.columns_core.specs.Causes.{Cause, ExternalFormat, IsOneOf, NotYetImplemented, OutOfSpec, Overflow, and_then, unless}
 use Rattle.columns_core.specs.declared.error.Error.{Error}
 use Rattle.columns_core.specs.declared.error.Error.TheVariants as error
 use Rattle.parquet_base.specs.Reading.{◌>>=◌}
@@ -13,8 +15,13 @@ use Rattle.parquet_meta.specs.Lists.{all_of}
 use Rattle.parquet_meta.specs.Indexes.{is_first as is_first_of}
 use Rattle.parquet_meta.specs.declared.metadata.ColumnChunkMetaData.{ColumnChunkMetaData}
 use Rattle.parquet_meta.specs.declared.metadata.Index.{Index}
+use Rattle.page_decoding.proofs.NextLemmas.{nothing_wrong}
 use Rattle.parquet_page.proofs.ListLemmas.{one_and}
+use Rattle.parquet_scan.specs.Pages.{column_index_causes, ends_causes, ends_of_pages, has_count, is_read_index}
 use Rattle.parquet_scan.specs.Request.{begins, is_first}
+use Rattle.parquet_scan.specs.Scan.{FailsBy}
+use Rattle.parquet_scan.specs.declared.groups.KnownEnds.{KnownEnds}
+use Rattle.parquet_scan.proofs.CauseLemmas.{TellsOf}
 use Rattle.parquet_scan.proofs.LocationLemmas.{one_of}
 
 -- ---- values of a list in turn
@@ -85,3 +92,30 @@ gives_some column (Some bytes) items none e = absurd (by (raw_index bytes column
   by : (o : Option Index) → (o >>= λ y. Some (y ∷ [])) ≡ Some [] → ⊥
   by None e = cc
   by (Some found) e = cc
+
+-- what is wrong with the ends of an index is wrong with the index
+refuses_at : (column : ColumnChunkMetaData) (index : Index) (told : Option (List ℕ)) (count : ℕ) (cause : Cause) → IsOneOf (ends_causes index) (Some cause) → is_read column ≡ true
+    → IfSome told (λ bytes. raw_index bytes column ≡ Some index) → IfSome told (λ bytes. IsOneOf (column_index_causes count bytes column) (Some cause))
+refuses_at column index None count cause k carried is = tt
+refuses_at column index (Some bytes) count cause k carried is =
+    subst (λ (found : List Cause). IsOneOf found (Some cause))
+    (λ i. and_then (unless (sym carried i) NotYetImplemented)
+    (and_then (unless (option_map_or is_read_index (sym is i) true) NotYetImplemented) (unless (option_map_or (has_count count) (sym is i >>= ends_of_pages) false) ExternalFormat)))
+    (by (is_read_index index) (ends_of_pages index) k)
+  where
+    by : (b : Bool) (o : Option (List KnownEnds)) → IsOneOf (and_then (unless b NotYetImplemented) (unless (is_some o) ExternalFormat)) (Some cause)
+        → IsOneOf (and_then (unless b NotYetImplemented) (unless (option_map_or (has_count count) o false) ExternalFormat)) (Some cause)
+    by false o k = k
+    by true None k = k
+    by true (Some ends) k = absurd (nothing_wrong (Some cause) k)
+
+pub refuses_ends : (column : ColumnChunkMetaData) (index : Index) (told : Option (List ℕ)) (before now count : ℕ) (e : Error) → TellsOf (ends_causes index) e → is_read column ≡ true
+    → IfSome told (λ bytes. raw_index bytes column ≡ Some index) → FailsBy told before now (λ bytes. column_index_causes count bytes column) e
+refuses_ends column index told before now count e (inl h) carried is = subst (λ e. FailsBy told before now (λ bytes. column_index_causes count bytes column) e) (sym h) tt
+refuses_ends column index told before now count (error.InvalidArgumentError p) (inr k) carried is = k
+refuses_ends column index told before now count (error.NotYetImplemented p) (inr k) carried is = refuses_at column index told count NotYetImplemented k carried is
+refuses_ends column index told before now count (error.ExternalFormat p) (inr k) carried is = refuses_at column index told count ExternalFormat k carried is
+refuses_ends column index told before now count (error.OutOfSpec p) (inr k) carried is = refuses_at column index told count OutOfSpec k carried is
+refuses_ends column index told before now count error.Overflow (inr k) carried is = refuses_at column index told count Overflow k carried is
+refuses_ends column index told before now count error.Io (inr k) carried is = absurd k
+refuses_ends column index told before now count error.OutOfMemory (inr k) carried is = tt

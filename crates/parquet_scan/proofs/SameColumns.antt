@@ -14,7 +14,7 @@ use Rattle.parquet_base.specs.Intervals.{holds}
 use Rattle.parquet_base.specs.Reading.{◌>>=◌, given}
 use Rattle.parquet_base.specs.declared.interval.Interval.{Interval}
 use Rattle.parquet_meta.specs.Chunks.{chunk_causes, chunk_place}
-use Rattle.parquet_meta.specs.Indexes.{index_at, index_in, locations_at, type_of}
+use Rattle.parquet_meta.specs.Indexes.{index_at, index_in, locations_at, raw_index, type_of}
 use Rattle.parquet_meta.specs.OffsetIndex.{locations_in}
 use Rattle.parquet_meta.specs.Places.{after, bytes_at, lies_in, part_at, within}
 use Rattle.parquet_meta.specs.TypedStatistics.{is_carried}
@@ -35,7 +35,7 @@ use Rattle.parquet_scan.specs.Causes.{causes_of_chunk, causes_of_column, causes_
 use Rattle.parquet_scan.specs.Cells.{Reading, as_cell, dictionary_by_locations, chunk_of, dictionary_before, first_location, given_cell, is_null_type, item_among, item_at, item_located, located_item, located_pages, located_reading, named_page, walked_item, walked_reading}
 use Rattle.parquet_scan.specs.Costs.{holds_any, names_some, opened_locations}
 use Rattle.parquet_scan.specs.LookedAt.{AgreeAt, AgreeOn, bound_parts, chunk_parts, column_parts, dictionary_length, dictionary_part, front_of, index_parts_of_group, located_parts, offset_parts, part_in_chunk, parts_if, walked_length, walked_parts, with_dictionary}
-use Rattle.parquet_scan.specs.Pages.{column_ends, ends_of_pages, has_count, keeps_row, location_rows, locations, locations_causes, rows_at}
+use Rattle.parquet_scan.specs.Pages.{column_ends, ends_of_pages, has_count, is_read_index, keeps_row, location_rows, locations, locations_causes, rows_at}
 use Rattle.parquet_scan.specs.Request.{Request}
 use Rattle.parquet_scan.specs.Rows.{bound_keeps, column_named}
 use Rattle.parquet_scan.specs.Statistics.{physical_type}
@@ -187,7 +187,9 @@ module _ (first second : List ℕ) (long : length second ≡ length first) where
 
   abbrev index_causes_by : List ℕ → ColumnChunkMetaData → List Cause
   index_causes_by bytes column =
-      and_then (unless (is_carried (physical_type column)) NotYetImplemented) (unless (option_map_or (has_count (length (locations bytes column))) (column_ends bytes column) false) ExternalFormat)
+      and_then (unless (is_carried (physical_type column)) NotYetImplemented)
+      (and_then (unless (option_map_or is_read_index (raw_index bytes column) true) NotYetImplemented)
+      (unless (option_map_or (has_count (length (locations bytes column))) (column_ends bytes column) false) ExternalFormat))
 
   bound_causes_same : (group : RowGroupMetaData) (bound : Bound) → AgreeOn first second (bound_parts group bound) → index_causes_of_bound second group bound ≡ index_causes_of_bound first group bound
   bound_causes_same group bound h = by (column_named group bound.field) h where
@@ -196,7 +198,9 @@ module _ (first second : List ℕ) (long : length second ≡ length first) where
     by None h = refl
     by (Some column) h =
         let both = agree_split first second (parts_if column.column_index) (parts_if column.offset_index) h in
-        λ i. and_then (unless (is_carried (physical_type column)) NotYetImplemented) (unless (option_map_or (has_count (length (locations_same column both.1 i))) (ends_same column both.0 i) false) ExternalFormat)
+        λ i. and_then (unless (is_carried (physical_type column)) NotYetImplemented)
+        (and_then (unless (option_map_or is_read_index (index_same (type_of column) column.column_index both.0 i) true) NotYetImplemented)
+        (unless (option_map_or (has_count (length (locations_same column both.1 i))) (ends_same column both.0 i) false) ExternalFormat))
 
   bound_keeps_same : (group : RowGroupMetaData) (row : ℕ) (bound : Bound) → AgreeOn first second (bound_parts group bound) → bound_keeps second group row bound ≡ bound_keeps first group row bound
   bound_keeps_same group row bound h = by (column_named group bound.field) h where

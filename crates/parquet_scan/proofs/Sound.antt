@@ -187,7 +187,7 @@ module _ (request : Request) (file : File) (built : list_all (is_built_bound req
 -- ---- a valid file
 
 module _ (request : Request) (file : File) (built : list_all (is_built_bound request.fields) request.bounds ≡ true) (legal : list_all (is_legal_bound_of request.fields) request.bounds ≡ true)
-    (none : index_causes request file ≡ []) (statistics : HasTrueStatistics request file) where
+    (none : index_causes request file ≡ []) where
   -- the indexes of a group that counts have no cause
   index_at : (k : ℕ) (d : RowGroupMetaData) → k < length (groups_of file) → prunes_pages request (groups_of file) ≡ true → group_counts request (get_or (groups_of file) k d) ≡ true
       → index_causes_of_group request.fields request.bounds file.bytes (get_or (groups_of file) k d) ≡ []
@@ -196,18 +196,17 @@ module _ (request : Request) (file : File) (built : list_all (is_built_bound req
       (nothing_of_each (index_causes_of_group request.fields request.bounds file.bytes) (filter (group_counts request) (groups_of file)) (sym (cond-true (prunes_pages request (groups_of file)) _ [] pruned) ∙ none)) h counted
 
   kept_if : (k : ℕ) (d : RowGroupMetaData) (h : k < length (groups_of file)) (row : ℕ) → row < (get_or (groups_of file) k d).num_rows → MeetsAll request file.bytes (get_or (groups_of file) k d) row
-      → group_counts request (get_or (groups_of file) k d) ≡ true → (b : Bool) → prunes_pages request (groups_of file) ≡ b
+      → HasTrueStatistics request file (get_or (groups_of file) k d) → group_counts request (get_or (groups_of file) k d) ≡ true → (b : Bool) → prunes_pages request (groups_of file) ≡ b
       → (not b || list_all (bound_keeps file.bytes (get_or (groups_of file) k d) row) request.bounds) ≡ true
-  kept_if k d h row below meets_all counted false e = refl
-  kept_if k d h row below meets_all counted true e =
-      pages_kept request file built legal (get_or (groups_of file) k d) row below meets_all (index_at k d h e counted)
-      (filter_at (λ group. All (OnBound (has_true_index file.bytes) request.fields group) request.bounds) (group_counts request) (groups_of file) k d (statistics.pages e) h counted)
+  kept_if k d h row below meets_all statistics counted false e = refl
+  kept_if k d h row below meets_all statistics counted true e =
+      pages_kept request file built legal (get_or (groups_of file) k d) row below meets_all (index_at k d h e counted) (statistics.pages e counted)
 
-  loses_no_row : (k : ℕ) (d : RowGroupMetaData) → k < length (groups_of file) → (row : ℕ) → row < (get_or (groups_of file) k d).num_rows → MeetsAll request file.bytes (get_or (groups_of file) k d) row
+  loses_no_row : (k : ℕ) (d : RowGroupMetaData) → k < length (groups_of file) → HasTrueStatistics request file (get_or (groups_of file) k d) → (row : ℕ) → row < (get_or (groups_of file) k d).num_rows → MeetsAll request file.bytes (get_or (groups_of file) k d) row
       → kept request file (get_or (groups_of file) k d) row ≡ true
-  loses_no_row k d h row below meets_all =
-      let counted = counts request file built legal (get_or (groups_of file) k d) row below meets_all (statistics.groups k d h) in
-      and_from _ _ counted (kept_if k d h row below meets_all counted (prunes_pages request (groups_of file)) refl)
+  loses_no_row k d h statistics row below meets_all =
+      let counted = counts request file built legal (get_or (groups_of file) k d) row below meets_all statistics.whole in
+      and_from _ _ counted (kept_if k d h row below meets_all statistics counted (prunes_pages request (groups_of file)) refl)
 
 legal_bounds : (request : Request) (metadata : Option FileMetaData) → is_legal request metadata ≡ true → list_all (is_legal_bound_of request.fields) request.bounds ≡ true
 legal_bounds request metadata h = (and_parts _ (list_all (is_legal_bound_of request.fields) request.bounds) (and_parts _ _ h).0).1
@@ -215,11 +214,11 @@ legal_bounds request metadata h = (and_parts _ (list_all (is_legal_bound_of requ
 of_metadata : (request : Request) (bytes : List ℕ) (damaged : List Cause) (o : Option FileMetaData) → list_all (is_legal_bound_of request.fields) request.bounds ≡ true
     → option_map_or (file_causes request) (option_map (file_with bytes) o) damaged ≡ [] → IfSome (option_map (file_with bytes) o) (LosesNoRow request)
 of_metadata request bytes damaged None legal none = tt
-of_metadata request bytes damaged (Some metadata) legal none = λ statistics.
+of_metadata request bytes damaged (Some metadata) legal none =
     let file = file_with bytes metadata in
     let built = second_so (is_built_request request) (list_all (is_built_bound request.fields) request.bounds) (built_request request metadata (nothing_first (metadata_causes request metadata) _ none)) in
     let indexes = nothing_first (index_causes request file) (read_causes request file) (nothing_next (metadata_causes request metadata) _ none) in
-    loses_no_row request file built legal indexes statistics
+    loses_no_row request file built legal indexes
 
 pub loses_no_row_of_valid_files : LosesNoRowOfValidFiles
 loses_no_row_of_valid_files request bytes legal valid = of_metadata request bytes (ExternalFormat ∷ []) (footer bytes) (legal_bounds request (footer bytes) legal) valid.none

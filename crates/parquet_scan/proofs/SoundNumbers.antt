@@ -32,10 +32,10 @@ use Rattle.parquet_scan.specs.declared.bound.Scalar.{Scalar}
 use Rattle.parquet_scan.specs.declared.groups.KnownEnds.{KnownEnds}
 use Rattle.parquet_scan.specs.Cells.{Reading, as_cell, cell, column_cell, column_item, content_of, dictionary_content, is_null_type, item_at, item_in, items_in, rows_of, walked_item, walked_pages, walked_reading}
 use Rattle.parquet_scan.specs.NotBuilt.{is_int32_at, is_int32_field}
-use Rattle.parquet_scan.specs.Pages.{column_ends, column_index_causes, ends_of_page, ends_of_pages, ends_with, has_count, locations, page_ends}
+use Rattle.parquet_scan.specs.Pages.{column_ends, column_index_causes, ends_of_page, ends_of_pages, ends_with, has_count, is_read_index, locations, page_ends}
 use Rattle.parquet_scan.specs.Request.{are_values_of, bound_type, is_value_of}
 use Rattle.parquet_scan.specs.Rows.{column_named}
-use Rattle.parquet_scan.specs.Statistics.{group_ends, known, physical_type, scalar_of, typed}
+use Rattle.parquet_scan.specs.Statistics.{group_ends, known, physical_type, scalar_of, typed, unknown}
 use Rattle.parquet_scan.specs.Truth.{items_of}
 use Rattle.parquet_scan.proofs.Exact.{IsItemIn, kind-of_value, kind_at}
 use Rattle.parquet_scan.proofs.Order.{kind}
@@ -116,9 +116,15 @@ end_number : (end : Option ℤ) → IfSome (scalar_of end) IsNumber
 end_number None = tt
 end_number (Some n) = refl
 
-known_numbers : (statistics : Option (Option RawStatistics)) → AreNumbers (known statistics)
+known_numbers : (statistics : Option (Option RawStatistics)) → AreNumbers (unwrap_or (option_and_then known statistics) unknown)
+known_numbers None = (tt, tt)
+known_numbers (Some None) = (tt, tt)
+known_numbers (Some (Some (raw.Boolean ends))) = (tt, tt)
 known_numbers (Some (Some (raw.Int32 ends))) = (end_number ends.min_value, end_number ends.max_value)
-known_numbers _ = (tt, tt)
+known_numbers (Some (Some (raw.Int64 ends))) = (tt, tt)
+known_numbers (Some (Some (raw.Int96 ends))) = (tt, tt)
+known_numbers (Some (Some (raw.ByteArray ends))) = (tt, tt)
+known_numbers (Some (Some (raw.FixedLenByteArray width ends))) = (tt, tt)
 
 pub group_ends_are_numbers : (column : ColumnChunkMetaData) → AreNumbers (group_ends column)
 group_ends_are_numbers column = known_numbers (typed column)
@@ -155,7 +161,8 @@ counted count (Some ends) fits = eqb-true (length ends) count fits
 pub tells_of_locations : (bytes : List ℕ) (column : ColumnChunkMetaData) → column_index_causes (length (locations bytes column)) bytes column ≡ [] → length (page_ends bytes column) ≡ length (locations bytes column)
 tells_of_locations bytes column none =
     counted (length (locations bytes column)) (column_ends bytes column)
-    (none_of _ ExternalFormat (nothing_next (unless (is_carried (physical_type column)) NotYetImplemented) _ none))
+    (none_of _ ExternalFormat (nothing_next (unless (option_map_or is_read_index (raw_index bytes column) true) NotYetImplemented) _
+    (nothing_next (unless (is_carried (physical_type column)) NotYetImplemented) _ none)))
 
 -- ---- bounds
 

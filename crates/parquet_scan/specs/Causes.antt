@@ -188,10 +188,11 @@ read_causes request file = flat_map (causes_of_group (prunes_pages request (grou
 
 -- ---- all of it
 
--- what is wrong with the metadata
+-- What is wrong with the metadata. Statistics are asked only where the fields have no cause.
 abbrev pub metadata_causes : Request → FileMetaData → List Cause
 metadata_causes request metadata =
-    and_then (not_built request) (flat_map (field_causes metadata.columns) request.fields ++ bounded_causes request.bounds metadata.row_groups)
+    and_then (not_built request)
+    (and_then (flat_map (field_causes metadata.columns) request.fields) (bounded_causes request.bounds metadata.row_groups))
 
 -- Which groups count is known only where the fields and the statistics have no cause, and which are read only where the indexes have none.
 abbrev pub file_causes : Request → File → List Cause

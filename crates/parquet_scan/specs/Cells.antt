@@ -178,6 +178,13 @@ group_chunks request file group = map (given_chunk (prunes_pages request (groups
 abbrev pub given_chunks : Request → File → Option (List (List (DataType × List Cell)))
 given_chunks request file = all_some (flat_map (group_chunks request file) (given_groups request file))
 
+-- the given rows in chunks as they stand in the chunks' own order, whatever locations say
+abbrev pub file_chunks_of_group : Request → File → RowGroupMetaData × List ℕ → List (Option (List (DataType × List Cell)))
+file_chunks_of_group request file group = map (given_chunk false request.fields file.bytes group.0) (cut request.chunk_size group.1)
+
+abbrev pub file_chunks : Request → File → Option (List (List (DataType × List Cell)))
+file_chunks request file = all_some (flat_map (file_chunks_of_group request file) (given_groups request file))
+
 -- a chunk by its types and cells
 abbrev pub columns_of : List Array → List (DataType × List Cell)
 columns_of arrays = map column_of arrays

@@ -1,5 +1,5 @@
 -- The pages of a column as its indexes tell of them.
-use Rattle.std.specs.Prelude.{ℕ, ℤ, Bool, false, ◌==◌, List, [], length, map, zip, unwrap_or, Option, Some, option_map}
+use Rattle.std.specs.Prelude.{ℕ, ℤ, Bool, true, false, ◌==◌, List, [], length, map, zip, unwrap_or, Option, Some, None, is_some, option_map}
 use Rattle.std.specs.Option.{option_map_or}
 use Rattle.columns_core.specs.Causes.{Cause, ExternalFormat, NotYetImplemented, and_then, unless}
 use Rattle.parquet_base.specs.Intervals.{is_kept_page}
@@ -47,10 +47,26 @@ ends_with page nulls = record { low = scalar_of page.min; high = scalar_of page.
 abbrev pub ends_of_page : PageIndex ℤ → Option KnownEnds
 ends_of_page page = option_map (ends_with page) (known_count page.null_count)
 
--- Numbers of 32 bits are read as they are. (Not yet: other types.)
+-- Numbers of 32 bits are read as they are. (Not yet: the ends of other types, which are refused.)
+abbrev pub is_read_index : Index → Bool
+is_read_index (indexes.Boolean pages) = false
+is_read_index (indexes.Int32 pages) = true
+is_read_index (indexes.Int64 pages) = false
+is_read_index (indexes.Int96 pages) = false
+is_read_index (indexes.ByteArray pages) = false
+is_read_index (indexes.FixedLenByteArray width pages) = false
+
 abbrev pub ends_of_pages : Index → Option (List KnownEnds)
+ends_of_pages (indexes.Boolean pages) = None
 ends_of_pages (indexes.Int32 pages) = all_of ends_of_page pages
-ends_of_pages _ = Some []
+ends_of_pages (indexes.Int64 pages) = None
+ends_of_pages (indexes.Int96 pages) = None
+ends_of_pages (indexes.ByteArray pages) = None
+ends_of_pages (indexes.FixedLenByteArray width pages) = None
+
+-- what is wrong with an index: its type is not read, or a count is negative
+abbrev pub ends_causes : Index → List Cause
+ends_causes index = and_then (unless (is_read_index index) NotYetImplemented) (unless (is_some (ends_of_pages index)) ExternalFormat)
 
 -- what the column index tells of each page, where it is defined
 abbrev pub column_ends : List ℕ → ColumnChunkMetaData → Option (List KnownEnds)
@@ -65,7 +81,9 @@ has_count count ends = length ends == count
 -- what is wrong with it: it has to be there, and to tell of as many pages as there are locations
 abbrev pub column_index_causes : ℕ → List ℕ → ColumnChunkMetaData → List Cause
 column_index_causes count bytes column =
-    and_then (unless (is_carried (physical_type column)) NotYetImplemented) (unless (option_map_or (has_count count) (column_ends bytes column) false) ExternalFormat)
+    and_then (unless (is_carried (physical_type column)) NotYetImplemented)
+    (and_then (unless (option_map_or is_read_index (raw_index bytes column) true) NotYetImplemented)
+    (unless (option_map_or (has_count count) (column_ends bytes column) false) ExternalFormat))
 
 -- ---- pages that may hold a row which meets a bound
 

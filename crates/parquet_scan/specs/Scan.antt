@@ -1,21 +1,25 @@
 -- What a scan answers.
-use Rattle.std.specs.Prelude.{ℕ, ◌+◌, ◌-◌, ◌^◌, ◌<◌, ◌≤◌, List, map, min, sum_by, Option, IfSome, IsTrue}
+use Rattle.std.specs.Prelude.{◌≡◌, ℕ, ◌+◌, ◌-◌, ◌^◌, ◌<◌, ◌≤◌, List, All, Contains, map, min, sum_by, Option, Some, IfSome, IsTrue, IsFalse}
 use Rattle.std.specs.List.{AllZip}
 use Rattle.parquet_base.specs.declared.interval.Interval.{Interval}
 use Rattle.parquet_base.specs.Failures.{MayFail}
 use Rattle.parquet_base.specs.Intervals.{AreApart, covers}
-use Rattle.columns_core.specs.Chunk.{rows_of}
+use Rattle.columns_core.specs.Chunk.{AreEqualLengths, rows_of}
 use Rattle.columns_core.specs.declared.array.Array.{Array}
-use Rattle.columns_core.specs.Causes.{Cause, IsOneOf, cause_of}
+use Rattle.columns_core.specs.Causes.{Cause, IsOneOf, cause_of, is_invalid_argument}
 use Rattle.columns_core.specs.declared.data_type.Schema.{Schema}
 use Rattle.columns_core.specs.declared.error.Error.{Error}
 use Rattle.columns_core.specs.declared.error.Error.TheVariants as error
+use Rattle.parquet_meta.specs.File.{footer}
 use Rattle.parquet_meta.specs.declared.metadata.RowGroupMetaData.{RowGroupMetaData}
 use Rattle.parquet_scan.specs.declared.bound.Bound.{Bound}
 use Rattle.parquet_scan.specs.declared.scanning.GroupKept.{GroupKept}
-use Rattle.parquet_scan.specs.Request.{Request}
-use Rattle.parquet_scan.specs.Rows.{File, file_of, groups_of, intervals}
-use Rattle.parquet_scan.specs.Truth.{HasTrueStatistics, MeetsAll}
+use Rattle.parquet_scan.specs.declared.scanning.Scan.{Scan}
+use Rattle.parquet_scan.specs.Causes.{IsValid, causes}
+use Rattle.parquet_scan.specs.Cells.{columns_of, file_chunks, given_chunks}
+use Rattle.parquet_scan.specs.Request.{Request, is_legal}
+use Rattle.parquet_scan.specs.Rows.{File, file_of, given_count, groups_of, intervals}
+use Rattle.parquet_scan.specs.Truth.{HasTrueCountsAndLocations, HasTrueStatistics, MeetsAll}
 
 abbrev pub request_of : Schema → List Bound → Option ℕ → Option ℕ → Request
 request_of schema bounds chunk_size limit = record { fields = schema.fields; bounds = bounds; chunk_size = chunk_size; limit = limit }
@@ -39,13 +43,15 @@ kept_of group = (group.rows, group.intervals)
 abbrev pub kept_groups : Request → File → List (ℕ × List Interval)
 kept_groups request file = map (λ (group : RowGroupMetaData). (group.num_rows, intervals request file group)) (groups_of file)
 
--- Each row of a group that meets all bounds lies in the runs that are kept.
+-- Where the statistics of a group are true, each of its rows that meets all bounds lies in the runs that are kept.
 abbrev pub HoldsMet : Request → File → RowGroupMetaData → ℕ × List Interval → Type 0
-HoldsMet request file group kept = (row : ℕ) → row < group.num_rows → MeetsAll request file.bytes group row → IsTrue (covers kept.1 row)
+HoldsMet request file group kept =
+    HasTrueStatistics request file group → (row : ℕ) → row < group.num_rows
+    → MeetsAll request file.bytes group row → IsTrue (covers kept.1 row)
 
--- Where statistics are true, no row that meets all bounds lies outside the runs of its group.
+-- No such row lies outside the runs of its group, whatever is true of the other groups.
 abbrev pub IsSound : Request → File → List (ℕ × List Interval) → Type 0
-IsSound request file kept = HasTrueStatistics request file → AllZip (HoldsMet request file) (groups_of file) kept
+IsSound request file kept = AllZip (HoldsMet request file) (groups_of file) kept
 
 -- An error of a call that reads a part of the file comes of a read that may fail or, where the source tells its bytes, of one
 -- of these causes. Want of memory may come at any time.
@@ -58,3 +64,37 @@ FailsBy told before now causes e = IfSome told (λ bytes. IsOneOf (causes bytes)
 -- A count rises by at most a number that the bytes give, where the source tells them.
 abbrev pub RisesBy : Option (List ℕ) → ℕ → ℕ → (List ℕ → ℕ) → Type 0
 RisesBy told before now most = IfSome told (λ bytes. now ≤ before + most bytes)
+
+-- ---- what a scan promises
+
+-- What a scan gives over a source that tells these bytes, if it tells any.
+pub record Answers (request : Request) (told : Option (List ℕ)) (scan : Scan) : Type 0 where
+  -- It comes of a legal request on a valid file alone.
+  pub legal : IfSome told (λ bytes. IsTrue (is_legal request (footer bytes)))
+  pub valid : IfSome told (IsValid request)
+  -- For each group it has the runs of the rows that are kept, whatever the limit,
+  pub kept : OnFile told (λ file. map kept_of scan.kept ≡ kept_groups request file)
+  -- and in its chunks the given rows: where counts and locations are true, each cell as it stands in the chunk's own order.
+  pub chunks : OnFile told (λ file. given_chunks request file ≡ Some (map columns_of scan.chunks))
+  pub as_cells : OnFile told (λ file.
+      HasTrueCountsAndLocations request file → file_chunks request file ≡ Some (map columns_of scan.chunks))
+  pub rows : OnFile told (λ file. scan.rows ≡ given_count request file)
+  -- Where the statistics of a group are true, none of its rows that meets all bounds lies outside its runs.
+  pub sound : OnFile told (λ file. IsSound request file (map kept_of scan.kept))
+  -- So it is with a source that does not tell its bytes.
+  pub apart : All IsApart scan.kept
+  pub even : All AreEqualLengths scan.chunks
+  pub own_rows : scan.rows ≡ rows_in scan.chunks
+
+-- When a scan answers an error, with the count of the source's faults before and behind the call. Want of memory may come at any time.
+pub record Refuses (request : Request) (told : Option (List ℕ)) (before now : ℕ) (e : Error) : Type 0 where
+  -- The arguments are refused only where the request is not legal,
+  pub argument : IsTrue (is_invalid_argument e) → IfSome told (λ bytes. IsFalse (is_legal request (footer bytes)))
+  -- what is wrong behind the footer is told of a legal request alone,
+  pub legal_first : IfSome (cause_of e) (λ _. OnFile told (λ file. IsTrue (is_legal request (Some file.metadata))))
+  -- and an error that tells of the file tells of one of its causes.
+  pub cause : IfSome (cause_of e) (λ cause. IfSome told (λ bytes. Contains (causes request bytes) cause))
+  pub io : e ≡ error.Io → MayFail before now
+  -- So a legal request on a valid file is refused only where the source may have failed, or memory was wanted.
+  pub complete : IfSome told (λ bytes.
+      IsTrue (is_legal request (footer bytes)) → IsValid request bytes → (MayFail before now → ⊥) → e ≡ error.OutOfMemory)

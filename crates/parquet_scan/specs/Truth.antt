@@ -87,11 +87,12 @@ pub record HasTrueCountsAndLocations (request : Request) (file : File) : Type 0 
 abbrev pub OnBound : (RowGroupMetaData → Field → ColumnChunkMetaData → Bool) → List Field → RowGroupMetaData → Bound → Type 0
 OnBound fact fields group bound = IfSome (field_of fields bound) (λ field. IfSome (column_named group field.name) (λ column. IsTrue (fact group field column)))
 
--- The statistics of bounded columns are true of each group and, where rows are pruned by pages, their column indexes of the pages of
--- each group that counts.
-pub record HasTrueStatistics (request : Request) (file : File) : Type 0 where
-  pub groups : All (λ (group : RowGroupMetaData). All (OnBound (has_true_statistics file.bytes) request.fields group) request.bounds) (groups_of file)
-  pub pages : IsTrue (prunes_pages request (groups_of file)) → All (λ (group : RowGroupMetaData). All (OnBound (has_true_index file.bytes) request.fields group) request.bounds) (filter (group_counts request) (groups_of file))
+-- The statistics of bounded columns are true of a group and, where rows are pruned by pages and it counts, their column indexes are
+-- true of its pages.
+pub record HasTrueStatistics (request : Request) (file : File) (group : RowGroupMetaData) : Type 0 where
+  pub whole : All (OnBound (has_true_statistics file.bytes) request.fields group) request.bounds
+  pub pages : IsTrue (prunes_pages request (groups_of file)) → IsTrue (group_counts request group)
+      → All (OnBound (has_true_index file.bytes) request.fields group) request.bounds
 
 -- ---- rows that meet the bounds
 
@@ -103,8 +104,12 @@ MeetsBound fields bytes group row bound = IsSomeAnd (option_and_then (λ field. 
 abbrev pub MeetsAll : Request → List ℕ → RowGroupMetaData → ℕ → Type 0
 MeetsAll request bytes group row = All (MeetsBound request.fields bytes group row) request.bounds
 
--- Where statistics are true, a row that meets all bounds is kept.
+-- Where the statistics of a group are true, each of its rows that meets all bounds is kept.
+abbrev pub KeepsMet : Request → File → RowGroupMetaData → Type 0
+KeepsMet request file group =
+    HasTrueStatistics request file group → (row : ℕ) → row < group.num_rows
+    → MeetsAll request file.bytes group row → IsTrue (kept request file group row)
+
+-- So it is of each group, whatever the others are.
 abbrev pub LosesNoRow : Request → File → Type 0
-LosesNoRow request file =
-    HasTrueStatistics request file →
-    All (λ (group : RowGroupMetaData). (row : ℕ) → row < group.num_rows → MeetsAll request file.bytes group row → IsTrue (kept request file group row)) (groups_of file)
+LosesNoRow request file = All (KeepsMet request file) (groups_of file)

@@ -3,6 +3,7 @@ ghost use Rattle.std.specs.Prelude.{◌≡◌, ◌+◌, ◌≤◌, [], Some, IfO
 ghost use Rattle.columns_core.specs.Causes.{ComesOf};
 ghost use Rattle.parquet_meta.specs.Chunks.{chunk_causes, chunk_range};
 ghost use Rattle.parquet_meta.specs.Places.{bytes_at};
+ghost use Rattle.parquet_meta.specs.Keeps.{Keeps};
 ghost use Rattle.parquet_scan.specs.Causes.{chunk_read_causes};
 ghost use Rattle.parquet_scan.specs.Cells.{chunk_of};
 ghost use Rattle.parquet_scan.specs.Column.{has_values};
@@ -22,9 +23,7 @@ pub(crate) fn read_chunk<S: Source>(
     group: &RowGroupMetaData,
     column: &ColumnChunkMetaData,
 ) -> Result<Vec<u8>, Error>
-    ensures same { S.told source.new ≡ S.told source.old }
-    ensures same_source { S.kept source.new ≡ S.kept source.old }
-    ensures later { S.faults source.old ≤ S.faults source.new }
+    ensures keeps { Keeps S.Source source.old source.new }
     ensures readable { OnOk result (chunk_causes column.now ≡ []) }
     ensures counted { OnOk result (column.now.num_values ≡ group.now.num_rows) }
     ensures chunk { IfOk result (λ found. IfSome (S.told source.old) (λ bytes.
@@ -46,9 +45,7 @@ pub(crate) fn place_of_chunk<S: Source>(
     group: &RowGroupMetaData,
     column: &ColumnChunkMetaData,
 ) -> Result<Place, Error>
-    ensures same { S.told source.new ≡ S.told source.old }
-    ensures same_source { S.kept source.new ≡ S.kept source.old }
-    ensures later { S.faults source.old ≤ S.faults source.new }
+    ensures keeps { Keeps S.Source source.old source.new }
     ensures readable { OnOk result (chunk_causes column.now ≡ []) }
     ensures place { IfOk result (λ place. IfSome (S.told source.old) (λ bytes. chunk_of bytes group.now column.now ≡ Some place)) }
     ensures fails { IfErr result (FailsBy (S.told source.old) (S.faults source.old) (S.faults source.new) (λ bytes. chunk_read_causes bytes group.now column.now)) }
@@ -61,7 +58,7 @@ pub(crate) fn place_of_chunk<S: Source>(
     let (offset, length) = column.byte_range();
     let size = source.size().map_err(|_| Error::Io)?;
     if size < offset || size - offset < length {
-        return Err(Error::ExternalFormat(Part::Location));
+        return Err(Error::ExternalFormat(Part::Group));
     }
     Ok(Place { offset, length })
 }

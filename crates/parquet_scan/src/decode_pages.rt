@@ -34,9 +34,9 @@ pub(crate) fn decode_values<I: Pages, V: IntoColumn + Drop, L: Ledger>(
     ensures count { IfOk result (λ found. found.1 ≡ min (steps.new - steps.old) (2 ^ 64 - 1)) }
     ensures lent { OnOk result (steps.new ≡ steps.old + length (I.to_come pages.old)) }
 {
-    let own_type = data_type.try_clone(alloc)?;
     let decoder = FlatDecoder { values };
     let (decoded, count) = decode_pages(alloc, pages, &decoder, steps)?;
+    let own_type = data_type.try_clone(alloc)?;
     let array = decoder.values.into_array(decoded, own_type)?;
     Ok((V::into_column(array), count))
 }

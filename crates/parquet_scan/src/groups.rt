@@ -140,17 +140,34 @@ fn group_ends(alloc: Global, column: &ColumnChunkMetaData) -> Result<KnownEnds, 
     ensures ok { OnOk result (statistics.statistics_causes column.now ≡ []) }
     ensures cause { ComesOf result (statistics.statistics_causes column.now) }
 {
-    match column.statistics(alloc)? {
-        Some(RawStatistics::Int32(ends)) => Ok(KnownEnds {
+    let Some(stored) = column.statistics(alloc)? else {
+        return Ok(KnownEnds {
+            low: None,
+            high: None,
+            nulls: None,
+        });
+    };
+    match converted(stored) {
+        Some(ends) => Ok(ends),
+        None => Err(Error::NotYetImplemented(Part::Statistics)),
+    }
+}
+
+/// The ends of statistics of a type that is read.
+fn converted(stored: RawStatistics) -> Option<KnownEnds>
+    ensures { result ≡ statistics.converted stored }
+{
+    match stored {
+        RawStatistics::Int32(ends) => Some(KnownEnds {
             low: scalar_of(ends.min_value),
             high: scalar_of(ends.max_value),
             nulls: ends.null_count,
         }),
-        _ => Ok(KnownEnds {
-            low: None,
-            high: None,
-            nulls: None,
-        }),
+        RawStatistics::Boolean(_)
+        | RawStatistics::Int64(_)
+        | RawStatistics::Int96(_)
+        | RawStatistics::ByteArray(_)
+        | RawStatistics::FixedLenByteArray(_, _) => None,
     }
 }
 

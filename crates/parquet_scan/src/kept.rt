@@ -2,6 +2,7 @@
 ghost use Rattle.std.specs.Prelude.{◌≡◌, ◌≤◌, ◌+◌, ◌&&◌, [], length, true, All, IfOk, IfErr, IfSome, OnOk};
 ghost use Rattle.std.specs.List.{list_all};
 ghost use Rattle.parquet_base.specs.Intervals.{AreApart, is_well_shaped, maximal_runs};
+ghost use Rattle.parquet_meta.specs.Keeps.{Keeps};
 ghost use Rattle.parquet_scan.specs.Counting.{are_shaped, index_causes_if, index_causes_of_groups, indexes_taken, indexes_taken_of_groups, is_shaped, kept_if, kept_of_groups};
 ghost use Rattle.parquet_scan.specs.Request.{is_legal_bound_of};
 ghost use Rattle.parquet_scan.specs.Rows.{pages_keep};
@@ -26,9 +27,7 @@ pub(crate) fn kept_groups<S: Source>(
 ) -> Result<Vec<GroupKept>, Error>
     requires lengths { length counts.now ≡ length groups.now }
     requires legal { list_all (is_legal_bound_of fields.now) bounds.now ≡ true }
-    ensures same { S.told source.new ≡ S.told source.old }
-    ensures same_source { S.kept source.new ≡ S.kept source.old }
-    ensures later { S.faults source.old ≤ S.faults source.new }
+    ensures keeps { Keeps S.Source source.old source.new }
     ensures ok { OnOk result (IfSome (S.told source.old) (λ bytes. index_causes_of_groups by_pages fields.now bounds.now bytes groups.now counts.now ≡ [])) }
     ensures fails { IfErr result (FailsBy (S.told source.old) (S.faults source.old) (S.faults source.new) (λ bytes. index_causes_of_groups by_pages fields.now bounds.now bytes groups.now counts.now)) }
     ensures kept { IfOk result (λ kept. IfSome (S.told source.old) (λ bytes. kept.items ≡ kept_of_groups by_pages bounds.now bytes groups.now counts.now)) }
@@ -56,9 +55,7 @@ fn kept_group<S: Source>(
     bounds: &[Bound],
 ) -> Result<GroupKept, Error>
     requires legal { list_all (is_legal_bound_of fields.now) bounds.now ≡ true }
-    ensures same { S.told source.new ≡ S.told source.old }
-    ensures same_source { S.kept source.new ≡ S.kept source.old }
-    ensures later { S.faults source.old ≤ S.faults source.new }
+    ensures keeps { Keeps S.Source source.old source.new }
     ensures ok { OnOk result (IfSome (S.told source.old) (λ bytes. index_causes_if by_pages fields.now bounds.now bytes (group.now, counts) ≡ [])) }
     ensures fails { IfErr result (FailsBy (S.told source.old) (S.faults source.old) (S.faults source.new) (λ bytes. index_causes_if by_pages fields.now bounds.now bytes (group.now, counts))) }
     ensures kept { IfOk result (λ kept. IfSome (S.told source.old) (λ bytes. kept ≡ kept_if by_pages bounds.now bytes (group.now, counts))) }
@@ -84,9 +81,7 @@ fn kept_runs<S: Source>(
     bounds: &[Bound],
 ) -> Result<Vec<Interval>, Error>
     requires legal { list_all (is_legal_bound_of fields.now) bounds.now ≡ true }
-    ensures same { S.told source.new ≡ S.told source.old }
-    ensures same_source { S.kept source.new ≡ S.kept source.old }
-    ensures later { S.faults source.old ≤ S.faults source.new }
+    ensures keeps { Keeps S.Source source.old source.new }
     ensures ok { OnOk result (IfSome (S.told source.old) (λ bytes. index_causes_if by_pages fields.now bounds.now bytes (group.now, counts) ≡ [])) }
     ensures fails { IfErr result (FailsBy (S.told source.old) (S.faults source.old) (S.faults source.new) (λ bytes. index_causes_if by_pages fields.now bounds.now bytes (group.now, counts))) }
     ensures kept { IfOk result (λ runs. IfSome (S.told source.old) (λ bytes. runs.items ≡ maximal_runs (λ row. counts && pages_keep by_pages bounds.now bytes group.now row) group.now.num_rows)) }

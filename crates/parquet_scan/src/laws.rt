@@ -1,6 +1,6 @@
 //! Facts about the definitions that the contracts cite.
 ghost use Rattle.parquet_scan.specs.Exact.{KeepsExactly, TrueEndsKeep};
-ghost use Rattle.parquet_scan.specs.Laws.{GivenCellsAreCells, LocatedCellsAreCells, LosesNoRowOfValidFiles};
+ghost use Rattle.parquet_scan.specs.Laws.{GivenCellsAreCells, GivenChunksAreTheFiles, LocatedCellsAreCells, LosesNoRowOfValidFiles, RunsAreTheSame};
 ghost use Rattle.parquet_scan.specs.LookedAt.{HaveSameScan};
 ghost use Rattle.parquet_scan.specs.Scan.{request_of};
 
@@ -27,7 +27,18 @@ pub fn given_cells_are_cells()
     ensures { GivenCellsAreCells }
 {}
 
-/// Where the statistics of a valid file are true, a legal request rules out no row that meets all its bounds.
+/// So the chunks that a scan gives are those of the file, whatever locations it was read by.
+pub fn given_chunks_are_the_files()
+    ensures { GivenChunksAreTheFiles }
+{}
+
+/// Which rows are kept is the same for every chunk size and every limit.
+pub fn runs_are_the_same()
+    ensures { RunsAreTheSame }
+{}
+
+/// Where the statistics of a group of a valid file are true, a legal request rules out none of its rows that meets all
+/// its bounds.
 pub fn no_row_is_lost()
     ensures { LosesNoRowOfValidFiles }
 {}

@@ -19,4 +19,5 @@ mod request;
 mod scanning;
 
 pub use bound::{Bound, Scalar, keeps, meets};
+pub use parquet_base::Interval;
 pub use scanning::{GroupKept, Scan, scan_where};

@@ -8,6 +8,7 @@ ghost use Rattle.parquet_meta.specs.Places.{lies_in as lies_in_by};
 ghost use Rattle.parquet_page.specs.Lent.{are_well_shaped, first_start as first_start_by, has_parts, is_wanted as is_wanted_by, located_parts};
 ghost use Rattle.page_decoding.specs.Outcome.{Given, causes_in};
 ghost use Rattle.flat_values.specs.Conversion.{Value};
+ghost use Rattle.parquet_meta.specs.Keeps.{Keeps};
 ghost use Rattle.parquet_scan.specs.Causes.{causes_of_chunk, pair_causes};
 ghost use Rattle.parquet_scan.specs.Cells.{is_null_type, located_item};
 ghost use Rattle.parquet_scan.specs.Costs.{lent_of_chunk, taken_of_chunk};
@@ -38,9 +39,7 @@ pub(crate) fn read_located<S: Source, L: Ledger>(
     requires shaped { is_well_shaped intervals.now group.now.num_rows ≡ true }
     requires pair { pair_causes column.now.descriptor.primitive_type data_type.now ≡ [] }
     requires not_null { is_null_type data_type.now ≡ false }
-    ensures same { S.told source.new ≡ S.told source.old }
-    ensures same_source { S.kept source.new ≡ S.kept source.old }
-    ensures later { S.faults source.old ≤ S.faults source.new }
+    ensures keeps { Keeps S.Source source.old source.new }
     ensures ok { OnOk result (IfSome (S.told source.old) (λ bytes. causes_of_chunk true bytes group.now (rows_of intervals.now) data_type.now column.now ≡ [])) }
     ensures fails { IfErr result (FailsBy (S.told source.old) (S.faults source.old) (S.faults source.new) (λ bytes. causes_of_chunk true bytes group.now (rows_of intervals.now) data_type.now column.now)) }
     ensures typed { IfOk result (λ found. data_type_of found.0 ≡ data_type.now) }
@@ -66,9 +65,7 @@ fn read_bodies<S: Source>(
     chunk: Place,
     pages: &[FilteredPage],
 ) -> Result<Vec<Vec<u8>>, Error>
-    ensures same { S.told source.new ≡ S.told source.old }
-    ensures same_source { S.kept source.new ≡ S.kept source.old }
-    ensures later { S.faults source.old ≤ S.faults source.new }
+    ensures keeps { Keeps S.Source source.old source.new }
     ensures ok { OnOk result (IfSome (S.told source.old) (λ bytes. flat_map (entry_causes bytes chunk) (filter is_wanted_by pages.now) ≡ [])) }
     ensures fails { IfErr result (FailsBy (S.told source.old) (S.faults source.old) (S.faults source.new) (λ bytes. flat_map (entry_causes bytes chunk) (filter is_wanted_by pages.now))) }
     ensures bodies { IfOk result (λ bodies. IfSome (S.told source.old) (λ bytes. map (entry_part bytes chunk) (filter is_wanted_by pages.now) ≡ map (λ body. Some body.items) bodies.items)) }
@@ -107,9 +104,7 @@ fn read_before<S: Source>(
     pages: &[FilteredPage],
     wanted: bool,
 ) -> Result<Vec<u8>, Error>
-    ensures same { S.told source.new ≡ S.told source.old }
-    ensures same_source { S.kept source.new ≡ S.kept source.old }
-    ensures later { S.faults source.old ≤ S.faults source.new }
+    ensures keeps { Keeps S.Source source.old source.new }
     ensures ok { OnOk result (IfSome (S.told source.old) (λ bytes. (if wanted then part_causes bytes chunk (place_before_by chunk pages.now) else []) ≡ [])) }
     ensures fails { IfErr result (FailsBy (S.told source.old) (S.faults source.old) (S.faults source.new) (λ bytes. (if wanted then part_causes bytes chunk (place_before_by chunk pages.now) else []))) }
     ensures part { IfOk result (λ part. IsTrue wanted → IfSome (S.told source.old) (λ bytes. part_in bytes chunk (place_before_by chunk pages.now) ≡ Some part.items)) }
@@ -146,9 +141,7 @@ fn read_part<S: Source>(
     chunk: Place,
     part: Place,
 ) -> Result<Vec<u8>, Error>
-    ensures same { S.told source.new ≡ S.told source.old }
-    ensures same_source { S.kept source.new ≡ S.kept source.old }
-    ensures later { S.faults source.old ≤ S.faults source.new }
+    ensures keeps { Keeps S.Source source.old source.new }
     ensures ok { OnOk result (IfSome (S.told source.old) (λ bytes. part_causes bytes chunk part ≡ [])) }
     ensures fails { IfErr result (FailsBy (S.told source.old) (S.faults source.old) (S.faults source.new) (λ bytes. part_causes bytes chunk part)) }
     ensures part { IfOk result (λ found. IfSome (S.told source.old) (λ bytes. part_in bytes chunk part ≡ Some found.items)) }

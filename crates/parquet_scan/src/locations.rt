@@ -4,6 +4,7 @@ ghost use Rattle.std.specs.List.{list_all};
 ghost use Rattle.columns_core.specs.Causes.{ComesOf, ExternalFormat, unless};
 ghost use Rattle.parquet_meta.specs.Indexes.{offset_index_length};
 ghost use Rattle.parquet_page.specs.Locations.{begin_with_row_0, has_shape, part_of};
+ghost use Rattle.parquet_meta.specs.Keeps.{Keeps};
 ghost use Rattle.parquet_scan.specs.Causes.{offset_causes_of_field};
 ghost use Rattle.parquet_scan.specs.Costs.{offset_index_of};
 ghost use Rattle.parquet_scan.specs.Pages.{locations as locations_by, locations_causes};
@@ -27,9 +28,7 @@ pub(crate) fn read_all_locations<S: Source>(
     group: &RowGroupMetaData,
     fields: &[Field],
 ) -> Result<Vec<Vec<PageLocation>>, Error>
-    ensures same { S.told source.new ≡ S.told source.old }
-    ensures same_source { S.kept source.new ≡ S.kept source.old }
-    ensures later { S.faults source.old ≤ S.faults source.new }
+    ensures keeps { Keeps S.Source source.old source.new }
     ensures ok { OnOk result (IfSome (S.told source.old) (λ bytes. flat_map (offset_causes_of_field bytes group.now) fields.now ≡ [])) }
     ensures fails { IfErr result (FailsBy (S.told source.old) (S.faults source.old) (S.faults source.new) (λ bytes. flat_map (offset_causes_of_field bytes group.now) fields.now)) }
     ensures locations { IfOk result (λ lists. IfSome (S.told source.old) (λ bytes. map (λ field. field_locations bytes group.now field.name) fields.now ≡ map (λ list. list.items) lists.items)) }
@@ -50,9 +49,7 @@ fn read_field_locations<S: Source>(
     group: &RowGroupMetaData,
     field: &Field,
 ) -> Result<Vec<PageLocation>, Error>
-    ensures same { S.told source.new ≡ S.told source.old }
-    ensures same_source { S.kept source.new ≡ S.kept source.old }
-    ensures later { S.faults source.old ≤ S.faults source.new }
+    ensures keeps { Keeps S.Source source.old source.new }
     ensures ok { OnOk result (IfSome (S.told source.old) (λ bytes. offset_causes_of_field bytes group.now field.now ≡ [])) }
     ensures fails { IfErr result (FailsBy (S.told source.old) (S.faults source.old) (S.faults source.new) (λ bytes. offset_causes_of_field bytes group.now field.now)) }
     ensures locations { IfOk result (λ list. IfSome (S.told source.old) (λ bytes. field_locations bytes group.now field.now.name ≡ list.items)) }
@@ -72,9 +69,7 @@ pub(crate) fn read_locations<S: Source>(
     group: &RowGroupMetaData,
     column: &ColumnChunkMetaData,
 ) -> Result<Vec<PageLocation>, Error>
-    ensures same { S.told source.new ≡ S.told source.old }
-    ensures same_source { S.kept source.new ≡ S.kept source.old }
-    ensures later { S.faults source.old ≤ S.faults source.new }
+    ensures keeps { Keeps S.Source source.old source.new }
     ensures ok { OnOk result (IfSome (S.told source.old) (λ bytes. locations_causes bytes group.now column.now ≡ [])) }
     ensures fails { IfErr result (FailsBy (S.told source.old) (S.faults source.old) (S.faults source.new) (λ bytes. locations_causes bytes group.now column.now)) }
     ensures locations { IfOk result (λ list. IfSome (S.told source.old) (λ bytes. locations_by bytes column.now ≡ list.items)) }

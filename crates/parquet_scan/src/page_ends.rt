@@ -3,7 +3,9 @@ ghost use Rattle.std.specs.Prelude.{◌≡◌, ◌≤◌, ◌+◌, [], Some, tru
 ghost use Rattle.parquet_meta.specs.Indexes.{FindsIndex, column_index_length};
 ghost use Rattle.parquet_meta.specs.Lists.{all_of};
 ghost use Rattle.parquet_meta.specs.TypedStatistics.{known_count as known_count_by};
+ghost use Rattle.columns_core.specs.Causes.{ComesOf};
 ghost use Rattle.columns_core.specs.Refusals.{IsDamaged};
+ghost use Rattle.parquet_meta.specs.Keeps.{Keeps};
 ghost use Rattle.parquet_scan.specs.Pages as spec;
 ghost use Rattle.parquet_scan.specs.Request.{begins};
 ghost use Rattle.parquet_scan.specs.Scan.{FailsBy};
@@ -23,9 +25,7 @@ pub(crate) fn read_page_ends<S: Source>(
     count: usize,
 ) -> Result<Vec<KnownEnds>, Error>
     requires named { begins name.now column.now.descriptor ≡ true }
-    ensures same { S.told source.new ≡ S.told source.old }
-    ensures same_source { S.kept source.new ≡ S.kept source.old }
-    ensures later { S.faults source.old ≤ S.faults source.new }
+    ensures keeps { Keeps S.Source source.old source.new }
     ensures ok { OnOk result (IfSome (S.told source.old) (λ bytes. spec.column_index_causes count bytes column.now ≡ [])) }
     ensures fails { IfErr result (FailsBy (S.told source.old) (S.faults source.old) (S.faults source.new) (λ bytes. spec.column_index_causes count bytes column.now)) }
     ensures ends { IfOk result (λ ends. IfSome (S.told source.old) (λ bytes. spec.page_ends bytes column.now ≡ ends.items)) }
@@ -48,9 +48,7 @@ fn read_index<S: Source>(
     name: &Name,
 ) -> Result<Index, Error>
     requires named { begins name.now column.now.descriptor ≡ true }
-    ensures same { S.told source.new ≡ S.told source.old }
-    ensures same_source { S.kept source.new ≡ S.kept source.old }
-    ensures later { S.faults source.old ≤ S.faults source.new }
+    ensures keeps { Keeps S.Source source.old source.new }
     ensures found { FindsIndex column.now (S.told source.old) (S.faults source.old) (S.faults source.new) result }
     ensures taken { S.taken source.new ≤ S.taken source.old + column_index_length column.now }
 {
@@ -61,14 +59,19 @@ fn read_index<S: Source>(
     Ok(index)
 }
 
-/// The ends of each page. No count of nulls is negative.
+/// The ends of each page of a type that is read. No count of nulls is negative.
 fn ends_of_pages(alloc: Global, index: &Index) -> Result<Vec<KnownEnds>, Error>
     ensures ends { IfOk result (λ ends. spec.ends_of_pages index.now ≡ Some ends.items) }
-    ensures refusal { IfErr result (IsDamaged (spec.ends_of_pages index.now)) }
+    ensures read { OnOk result (spec.is_read_index index.now ≡ true) }
+    ensures cause { ComesOf result (spec.ends_causes index.now) }
 {
     match index {
         Index::Int32(pages) => ends_of_numbers(alloc, pages.as_slice()),
-        _ => Ok(Vec::new(alloc)),
+        Index::Boolean(_)
+        | Index::Int64(_)
+        | Index::Int96(_)
+        | Index::ByteArray(_)
+        | Index::FixedLenByteArray(_, _) => Err(Error::NotYetImplemented(Part::Index)),
     }
 }
 

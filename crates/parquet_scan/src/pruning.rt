@@ -4,6 +4,7 @@ ghost use Rattle.std.specs.List.{list_all};
 ghost use Rattle.columns_core.specs.Causes.{IsWantOfMemory};
 ghost use Rattle.parquet_base.specs.Intervals.{is_well_shaped, maximal_runs, AreApart};
 ghost use Rattle.parquet_page.specs.Locations.{has_shape};
+ghost use Rattle.parquet_meta.specs.Keeps.{Keeps};
 ghost use Rattle.parquet_scan.specs.Causes.{index_causes_of_bound, index_causes_of_group};
 ghost use Rattle.parquet_scan.specs.Costs.{column_index_of, offset_index_of};
 ghost use Rattle.parquet_scan.specs.Pages.{keeps_row, page_keeps as page_keeps_by, rows_at};
@@ -31,9 +32,7 @@ pub(crate) fn kept_by_pages<S: Source>(
     bounds: &[Bound],
 ) -> Result<Vec<Interval>, Error>
     requires legal { list_all (is_legal_bound_of fields.now) bounds.now ≡ true }
-    ensures same { S.told source.new ≡ S.told source.old }
-    ensures same_source { S.kept source.new ≡ S.kept source.old }
-    ensures later { S.faults source.old ≤ S.faults source.new }
+    ensures keeps { Keeps S.Source source.old source.new }
     ensures ok { OnOk result (IfSome (S.told source.old) (λ bytes. index_causes_of_group fields.now bounds.now bytes group.now ≡ [])) }
     ensures fails { IfErr result (FailsBy (S.told source.old) (S.faults source.old) (S.faults source.new) (λ bytes. index_causes_of_group fields.now bounds.now bytes group.now)) }
     ensures kept { IfOk result (λ runs. IfSome (S.told source.old) (λ bytes. runs.items ≡ maximal_runs (pages_keep true bounds.now bytes group.now) group.now.num_rows)) }
@@ -59,9 +58,7 @@ fn read_all_runs<S: Source>(
     requires length { length locations.now ≡ length fields.now }
     requires shaped { list_all (λ list. has_shape list.items group.now.num_rows) locations.now ≡ true }
     requires told { IfSome (S.told source.old) (λ bytes. map (λ field. field_locations bytes group.now field.name) fields.now ≡ map (λ list. list.items) locations.now) }
-    ensures same { S.told source.new ≡ S.told source.old }
-    ensures same_source { S.kept source.new ≡ S.kept source.old }
-    ensures later { S.faults source.old ≤ S.faults source.new }
+    ensures keeps { Keeps S.Source source.old source.new }
     ensures ok { OnOk result (IfSome (S.told source.old) (λ bytes. flat_map (index_causes_of_bound bytes group.now) bounds.now ≡ [])) }
     ensures fails { IfErr result (FailsBy (S.told source.old) (S.faults source.old) (S.faults source.new) (λ bytes. flat_map (index_causes_of_bound bytes group.now) bounds.now)) }
     ensures runs { IfOk result (λ lists. IfSome (S.told source.old) (λ bytes. map (λ bound. maximal_runs (λ row. bound_keeps bytes group.now row bound) group.now.num_rows) bounds.now ≡ map (λ list. list.items) lists.items)) }
@@ -86,9 +83,7 @@ fn read_runs<S: Source>(
 ) -> Result<Vec<Interval>, Error>
     requires shaped { has_shape locations.now group.now.num_rows ≡ true }
     requires told { IfSome (S.told source.old) (λ bytes. field_locations bytes group.now bound.now.field ≡ locations.now) }
-    ensures same { S.told source.new ≡ S.told source.old }
-    ensures same_source { S.kept source.new ≡ S.kept source.old }
-    ensures later { S.faults source.old ≤ S.faults source.new }
+    ensures keeps { Keeps S.Source source.old source.new }
     ensures ok { OnOk result (IfSome (S.told source.old) (λ bytes. index_causes_of_bound bytes group.now bound.now ≡ [])) }
     ensures fails { IfErr result (FailsBy (S.told source.old) (S.faults source.old) (S.faults source.new) (λ bytes. index_causes_of_bound bytes group.now bound.now)) }
     ensures runs { IfOk result (λ runs. IfSome (S.told source.old) (λ bytes. maximal_runs (λ row. bound_keeps bytes group.now row bound.now) group.now.num_rows ≡ runs.items)) }

@@ -1,5 +1,5 @@
 //! The chunks of groups.
-ghost use Rattle.std.specs.Prelude.{◌≡◌, ◌+◌, ◌-◌, ◌<◌, ◌^◌, ◌≤◌, ◌++◌, [], ◌∷◌, Some, min, map, length, replicate, true, false, nat_lt, if◌then◌else◌, IfOk, IfErr, IfSome, OnOk};
+ghost use Rattle.std.specs.Prelude.{◌≡◌, ◌+◌, ◌-◌, ◌<◌, ◌^◌, ◌≤◌, ◌++◌, [], ◌∷◌, Some, min, map, length, replicate, true, false, nat_lt, if◌then◌else◌, IfOk, IfErr, IfSome, OnOk, All};
 ghost use Rattle.columns_core.specs.Array.{cells, column_of, data_type_of};
 ghost use Rattle.columns_core.specs.Causes.{IsWantOfMemory};
 ghost use Rattle.columns_core.specs.Chunk.{AreEqualLengths, rows_of as chunk_rows};
@@ -9,6 +9,7 @@ ghost use Rattle.flat_values.specs.Conversion.{Value};
 ghost use Rattle.parquet_base.specs.Intervals.{is_well_shaped};
 ghost use Rattle.parquet_meta.specs.Chunks.{chunk_range};
 ghost use Rattle.parquet_meta.specs.Indexes.{offset_index_length};
+ghost use Rattle.parquet_meta.specs.Keeps.{Keeps};
 ghost use Rattle.parquet_scan.specs.Causes.{causes_of_chunk, causes_of_column, causes_of_group, causes_of_read, chunk_read_causes, pair_causes};
 ghost use Rattle.parquet_scan.specs.Cells.{column_cell, given_chunk, given_column, is_null_type as is_null_type_by, walked_item};
 ghost use Rattle.parquet_scan.specs.Costs.{lent_of_chunk, lent_of_column, lent_of_group, lent_of_read, taken_of_read};
@@ -50,14 +51,14 @@ pub(crate) fn read_groups<S: Source, L: Ledger>(
     requires lengths { length kept.now ≡ length groups.now }
     requires shaped { are_shaped groups.now kept.now ≡ true }
     requires some { 0 < length fields.now }
-    ensures same { S.told source.new ≡ S.told source.old }
-    ensures same_source { S.kept source.new ≡ S.kept source.old }
-    ensures later { S.faults source.old ≤ S.faults source.new }
+    ensures keeps { Keeps S.Source source.old source.new }
     ensures ok { OnOk result (IfSome (S.told source.old) (λ bytes. causes_of_groups by_pages fields.now bytes groups.now kept.now ≡ [])) }
     ensures fails { IfErr result (FailsBy (S.told source.old) (S.faults source.old) (S.faults source.new) (λ bytes. causes_of_groups by_pages fields.now bytes groups.now kept.now)) }
     ensures chunks { OnOk result (IfSome (S.told source.old) (λ bytes. shown read.new.chunks.items ≡ shown read.old.chunks.items ++ chunks_of_groups by_pages fields.now bytes groups.now kept.now)) }
     ensures rows { OnOk result (read.new.rows ≡ min (read.old.rows + rows_of_groups by_pages groups.now kept.now) (2 ^ 64 - 1)) }
-    ensures own_rows { read.old.rows ≡ rows_in read.old.chunks.items → OnOk result (read.new.rows ≡ rows_in read.new.chunks.items) }
+    ensures own_rows { read.old.rows ≡ rows_in read.old.chunks.items →
+        OnOk result (read.new.rows ≡ rows_in read.new.chunks.items) }
+    ensures even { OnOk result (All AreEqualLengths read.old.chunks.items → All AreEqualLengths read.new.chunks.items) }
     ensures ticks { steps.old ≤ steps.new }
     ensures pages { OnOk result (read.new.pages ≡ min (read.old.pages + (steps.new - steps.old)) (2 ^ 64 - 1)) }
     ensures lent { OnOk result (RisesBy (S.told source.old) steps.old steps.new (λ bytes. lent_of_groups by_pages fields.now bytes groups.now kept.now)) }
@@ -85,14 +86,14 @@ fn read_if_kept<S: Source, L: Ledger>(
 ) -> Result<(), Error>
     requires shaped { is_shaped (group.now, kept.now) ≡ true }
     requires some { 0 < length fields.now }
-    ensures same { S.told source.new ≡ S.told source.old }
-    ensures same_source { S.kept source.new ≡ S.kept source.old }
-    ensures later { S.faults source.old ≤ S.faults source.new }
+    ensures keeps { Keeps S.Source source.old source.new }
     ensures ok { OnOk result (IfSome (S.told source.old) (λ bytes. causes_if_read by_pages fields.now bytes (group.now, kept.now) ≡ [])) }
     ensures fails { IfErr result (FailsBy (S.told source.old) (S.faults source.old) (S.faults source.new) (λ bytes. causes_if_read by_pages fields.now bytes (group.now, kept.now))) }
     ensures chunks { OnOk result (IfSome (S.told source.old) (λ bytes. shown read.new.chunks.items ≡ shown read.old.chunks.items ++ chunks_if_read by_pages fields.now bytes (group.now, kept.now))) }
     ensures rows { OnOk result (read.new.rows ≡ min (read.old.rows + rows_if_read by_pages (group.now, kept.now)) (2 ^ 64 - 1)) }
-    ensures own_rows { read.old.rows ≡ rows_in read.old.chunks.items → OnOk result (read.new.rows ≡ rows_in read.new.chunks.items) }
+    ensures own_rows { read.old.rows ≡ rows_in read.old.chunks.items →
+        OnOk result (read.new.rows ≡ rows_in read.new.chunks.items) }
+    ensures even { OnOk result (All AreEqualLengths read.old.chunks.items → All AreEqualLengths read.new.chunks.items) }
     ensures ticks { steps.old ≤ steps.new }
     ensures pages { OnOk result (read.new.pages ≡ min (read.old.pages + (steps.new - steps.old)) (2 ^ 64 - 1)) }
     ensures lent { OnOk result (RisesBy (S.told source.old) steps.old steps.new (λ bytes. lent_if_read by_pages fields.now bytes (group.now, kept.now))) }
@@ -124,14 +125,14 @@ fn read_group<S: Source, L: Ledger>(
 ) -> Result<(), Error>
     requires shaped { is_well_shaped kept.now.intervals group.now.num_rows ≡ true }
     requires some { 0 < length fields.now }
-    ensures same { S.told source.new ≡ S.told source.old }
-    ensures same_source { S.kept source.new ≡ S.kept source.old }
-    ensures later { S.faults source.old ≤ S.faults source.new }
+    ensures keeps { Keeps S.Source source.old source.new }
     ensures ok { OnOk result (IfSome (S.told source.old) (λ bytes. causes_of_group by_pages fields.now bytes (group.now, rows_read by_pages group.now kept.now.intervals) ≡ [])) }
     ensures fails { IfErr result (FailsBy (S.told source.old) (S.faults source.old) (S.faults source.new) (λ bytes. causes_of_group by_pages fields.now bytes (group.now, rows_read by_pages group.now kept.now.intervals))) }
     ensures chunk { OnOk result (IfSome (S.told source.old) (λ bytes. shown read.new.chunks.items ≡ shown read.old.chunks.items ++ given_chunk by_pages fields.now bytes group.now (rows_read by_pages group.now kept.now.intervals) ∷ [])) }
     ensures rows { OnOk result (read.new.rows ≡ min (read.old.rows + length (rows_read by_pages group.now kept.now.intervals)) (2 ^ 64 - 1)) }
-    ensures own_rows { read.old.rows ≡ rows_in read.old.chunks.items → OnOk result (read.new.rows ≡ rows_in read.new.chunks.items) }
+    ensures own_rows { read.old.rows ≡ rows_in read.old.chunks.items →
+        OnOk result (read.new.rows ≡ rows_in read.new.chunks.items) }
+    ensures even { OnOk result (All AreEqualLengths read.old.chunks.items → All AreEqualLengths read.new.chunks.items) }
     ensures ticks { steps.old ≤ steps.new }
     ensures pages { OnOk result (read.new.pages ≡ min (read.old.pages + (steps.new - steps.old)) (2 ^ 64 - 1)) }
     ensures lent { OnOk result (RisesBy (S.told source.old) steps.old steps.new (λ bytes. lent_of_group by_pages fields.now bytes (group.now, rows_read by_pages group.now kept.now.intervals))) }
@@ -153,9 +154,7 @@ fn read_arrays<S: Source, L: Ledger>(
 ) -> Result<(Vec<Array>, usize), Error>
     requires shaped { is_well_shaped kept.now.intervals group.now.num_rows ≡ true }
     requires some { 0 < length fields.now }
-    ensures same { S.told source.new ≡ S.told source.old }
-    ensures same_source { S.kept source.new ≡ S.kept source.old }
-    ensures later { S.faults source.old ≤ S.faults source.new }
+    ensures keeps { Keeps S.Source source.old source.new }
     ensures ok { OnOk result (IfSome (S.told source.old) (λ bytes. causes_of_group by_pages fields.now bytes (group.now, rows_read by_pages group.now kept.now.intervals) ≡ [])) }
     ensures fails { IfErr result (FailsBy (S.told source.old) (S.faults source.old) (S.faults source.new) (λ bytes. causes_of_group by_pages fields.now bytes (group.now, rows_read by_pages group.now kept.now.intervals))) }
     ensures lengths { IfOk result (λ found. AreEqualLengths found.0.items) }
@@ -187,9 +186,7 @@ fn read_array<S: Source, L: Ledger>(
     steps: &mut Steps<L>,
 ) -> Result<(Array, usize), Error>
     requires shaped { is_well_shaped kept.now.intervals group.now.num_rows ≡ true }
-    ensures same { S.told source.new ≡ S.told source.old }
-    ensures same_source { S.kept source.new ≡ S.kept source.old }
-    ensures later { S.faults source.old ≤ S.faults source.new }
+    ensures keeps { Keeps S.Source source.old source.new }
     ensures ok { OnOk result (IfSome (S.told source.old) (λ bytes. causes_of_column by_pages bytes group.now (rows_read by_pages group.now kept.now.intervals) field.now ≡ [])) }
     ensures fails { IfErr result (FailsBy (S.told source.old) (S.faults source.old) (S.faults source.new) (λ bytes. causes_of_column by_pages bytes group.now (rows_read by_pages group.now kept.now.intervals) field.now)) }
     ensures length { IfOk result (λ found. length (cells found.0) ≡ length (rows_read by_pages group.now kept.now.intervals)) }
@@ -226,9 +223,7 @@ fn read_column<S: Source, L: Ledger>(
     steps: &mut Steps<L>,
 ) -> Result<(Array, usize), Error>
     requires shaped { is_well_shaped kept.now.intervals group.now.num_rows ≡ true }
-    ensures same { S.told source.new ≡ S.told source.old }
-    ensures same_source { S.kept source.new ≡ S.kept source.old }
-    ensures later { S.faults source.old ≤ S.faults source.new }
+    ensures keeps { Keeps S.Source source.old source.new }
     ensures ok { OnOk result (IfSome (S.told source.old) (λ bytes. causes_of_read by_pages bytes group.now (rows_read by_pages group.now kept.now.intervals) data_type.now column.now ≡ [])) }
     ensures fails { IfErr result (FailsBy (S.told source.old) (S.faults source.old) (S.faults source.new) (λ bytes. causes_of_read by_pages bytes group.now (rows_read by_pages group.now kept.now.intervals) data_type.now column.now)) }
     ensures typed { IfOk result (λ found. data_type_of found.0 ≡ data_type.now) }
@@ -262,9 +257,7 @@ fn read_whole<S: Source, L: Ledger>(
 ) -> Result<(Array, usize), Error>
     requires pair { pair_causes column.now.descriptor.primitive_type data_type.now ≡ [] }
     requires not_null { is_null_type_by data_type.now ≡ false }
-    ensures same { S.told source.new ≡ S.told source.old }
-    ensures same_source { S.kept source.new ≡ S.kept source.old }
-    ensures later { S.faults source.old ≤ S.faults source.new }
+    ensures keeps { Keeps S.Source source.old source.new }
     ensures ok { OnOk result (IfSome (S.told source.old) (λ bytes. causes_of_chunk false bytes group.now (every_row group.now) data_type.now column.now ≡ [])) }
     ensures fails { IfErr result (FailsBy (S.told source.old) (S.faults source.old) (S.faults source.new) (λ bytes. causes_of_chunk false bytes group.now (every_row group.now) data_type.now column.now)) }
     ensures typed { IfOk result (λ found. data_type_of found.0 ≡ data_type.now) }
@@ -301,9 +294,7 @@ fn read_nulls<S: Source>(
     column: &ColumnChunkMetaData,
     rows: usize,
 ) -> Result<(Array, usize), Error>
-    ensures same { S.told source.new ≡ S.told source.old }
-    ensures same_source { S.kept source.new ≡ S.kept source.old }
-    ensures later { S.faults source.old ≤ S.faults source.new }
+    ensures keeps { Keeps S.Source source.old source.new }
     ensures ok { OnOk result (IfSome (S.told source.old) (λ bytes. chunk_read_causes bytes group.now column.now ≡ [])) }
     ensures fails { IfErr result (FailsBy (S.told source.old) (S.faults source.old) (S.faults source.new) (λ bytes. chunk_read_causes bytes group.now column.now)) }
     ensures nulls { IfOk result (λ found. column_of found.0 ≡ (type.Null, replicate rows Null)) }
@@ -319,7 +310,9 @@ fn add_chunk(read: &mut RowsRead, arrays: Vec<Array>, pages: usize) -> Result<()
     requires { AreEqualLengths arrays.items }
     ensures chunks { OnOk result (read.new.chunks.items ≡ read.old.chunks.items ++ arrays.items ∷ []) }
     ensures rows { OnOk result (read.new.rows ≡ min (read.old.rows + chunk_rows arrays.items) (2 ^ 64 - 1)) }
-    ensures own_rows { read.old.rows ≡ rows_in read.old.chunks.items → OnOk result (read.new.rows ≡ rows_in read.new.chunks.items) }
+    ensures own_rows { read.old.rows ≡ rows_in read.old.chunks.items →
+        OnOk result (read.new.rows ≡ rows_in read.new.chunks.items) }
+    ensures even { OnOk result (All AreEqualLengths read.old.chunks.items → All AreEqualLengths read.new.chunks.items) }
     ensures pages { OnOk result (read.new.pages ≡ min (read.old.pages + pages) (2 ^ 64 - 1)) }
     ensures memory { IfErr result IsWantOfMemory }
 {

@@ -1,16 +1,15 @@
 //! Scans.
-ghost use Rattle.std.specs.Prelude.{◌≡◌, ◌+◌, ◌-◌, ◌<◌, ◌^◌, ◌≤◌, [], Some, min, map, length, Contains, IfOk, IfErr, IfSome, IsTrue, IsFalse, OnOk, All, true};
+ghost use Rattle.std.specs.Prelude.{◌≡◌, ◌+◌, ◌-◌, ◌<◌, ◌^◌, ◌≤◌, [], min, map, length, IfOk, IfErr, IfSome, OnOk, All, true};
 ghost use Rattle.std.specs.List.{list_all};
-ghost use Rattle.columns_core.specs.Causes.{ComesOf, cause_of, is_invalid_argument};
-ghost use Rattle.parquet_base.specs.Failures.{MayFail};
-ghost use Rattle.parquet_meta.specs.File.{footer};
-ghost use Rattle.parquet_scan.specs.Causes.{causes, metadata_causes, IsValid};
-ghost use Rattle.parquet_scan.specs.Cells.{columns_of, given_chunks};
+ghost use Rattle.columns_core.specs.Causes.{ComesOf};
+ghost use Rattle.columns_core.specs.Chunk.{AreEqualLengths};
+ghost use Rattle.parquet_meta.specs.Keeps.{Keeps};
+ghost use Rattle.parquet_scan.specs.Causes.{metadata_causes};
 ghost use Rattle.parquet_scan.specs.Costs.{most_bytes, most_pages};
 ghost use Rattle.parquet_scan.specs.Counting.{are_pruned as are_pruned_by, chunks_of_groups, kept_of_groups, lent_of_groups, rows_of_groups, scan_causes, scan_taken, shown};
-ghost use Rattle.parquet_scan.specs.Request.{is_legal as is_legal_by, is_legal_bound_of};
-ghost use Rattle.parquet_scan.specs.Rows.{given_count, group_counts};
-ghost use Rattle.parquet_scan.specs.Scan.{request_of, rows_in, FailsBy, IsApart, IsSound, OnFile, RisesBy, kept_of, kept_groups as kept_by};
+ghost use Rattle.parquet_scan.specs.Request.{is_legal_bound_of};
+ghost use Rattle.parquet_scan.specs.Rows.{group_counts};
+ghost use Rattle.parquet_scan.specs.Scan.{Answers, FailsBy, IsApart, OnFile, Refuses, RisesBy, request_of, rows_in};
 
 use crate::Bound;
 use crate::built::check_built;
@@ -54,46 +53,19 @@ pub fn scan_where<S: Source, L: Ledger>(
     limit: Option<usize>,
     steps: &mut Steps<L>,
 ) -> Result<Scan, Error>
-    ensures source { S.told source.new ≡ S.told source.old }
-    ensures same_source { S.kept source.new ≡ S.kept source.old }
-    ensures failures { S.faults source.old ≤ S.faults source.new }
-
-    // A scan comes of a legal request on a valid file alone.
-    ensures legal { IfOk result (λ _. IfSome (S.told source.old) (λ bytes. IsTrue (is_legal_by (request_of schema.now bounds.now chunk_size limit) (footer bytes)))) }
-    ensures valid { IfOk result (λ _. IfSome (S.told source.old) (IsValid (request_of schema.now bounds.now chunk_size limit))) }
-
-    // What it has: for each group the runs of the rows that are kept, whatever the limit.
-    ensures kept { IfOk result (λ scan. OnFile (S.told source.old) (λ file.
-        map kept_of scan.kept ≡ kept_by (request_of schema.now bounds.now chunk_size limit) file)) }
-    ensures chunks { IfOk result (λ scan. OnFile (S.told source.old) (λ file.
-        given_chunks (request_of schema.now bounds.now chunk_size limit) file ≡ Some (map columns_of scan.chunks))) }
-    ensures rows { IfOk result (λ scan. OnFile (S.told source.old) (λ file.
-        scan.rows ≡ given_count (request_of schema.now bounds.now chunk_size limit) file)) }
-    // Where statistics are true, no row that meets all bounds lies outside these runs.
-    ensures sound { IfOk result (λ scan. OnFile (S.told source.old) (λ file. IsSound (request_of schema.now bounds.now chunk_size limit) file (map kept_of scan.kept))) }
-    // So it is with a source that does not tell its bytes.
-    ensures apart { IfOk result (λ scan. All IsApart scan.kept) }
-    ensures own_rows { IfOk result (λ scan. scan.rows ≡ rows_in scan.chunks) }
-
-    // What it costs.
+    ensures keeps { Keeps S.Source source.old source.new }
+    ensures answers { let request = request_of schema.now bounds.now chunk_size limit in
+        IfOk result (Answers request (S.told source.old)) }
+    ensures refuses { let request = request_of schema.now bounds.now chunk_size limit in
+        IfErr result (Refuses request (S.told source.old) (S.faults source.old) (S.faults source.new)) }
+    // What it costs: a step for each page that is lent, and bytes.
     ensures ticks { steps.old ≤ steps.new }
     ensures pages { IfOk result (λ scan. scan.pages ≡ min (steps.new - steps.old) (2 ^ 64 - 1)) }
-    ensures most_pages { IfOk result (λ _. OnFile (S.told source.old) (λ file. steps.new ≤ steps.old + most_pages (request_of schema.now bounds.now chunk_size limit) file)) }
-    ensures taken { IfOk result (λ _. OnFile (S.told source.old) (λ file. S.taken source.new ≤ S.taken source.old + most_bytes (request_of schema.now bounds.now chunk_size limit) file)) }
-
-    // An error comes only where its cause is among those of the file. Want of memory may come at any time.
-    ensures argument { IfErr result (λ e. IsTrue (is_invalid_argument e) → IfSome (S.told source.old) (λ bytes.
-        IsFalse (is_legal_by (request_of schema.now bounds.now chunk_size limit) (footer bytes)))) }
-    // What is wrong behind the footer is told of a legal request alone.
-    ensures legal_first { IfErr result (λ e. IfSome (cause_of e) (λ _. OnFile (S.told source.old) (λ file.
-        IsTrue (is_legal_by (request_of schema.now bounds.now chunk_size limit) (Some file.metadata))))) }
-    ensures cause { IfErr result (λ e. IfSome (cause_of e) (λ cause. IfSome (S.told source.old) (λ bytes.
-        Contains (causes (request_of schema.now bounds.now chunk_size limit) bytes) cause))) }
-    ensures io { IfErr result (λ e. e ≡ Error.Io → MayFail (S.faults source.old) (S.faults source.new)) }
-    ensures complete { IfErr result (λ e. IfSome (S.told source.old) (λ bytes.
-        let request = request_of schema.now bounds.now chunk_size limit in
-        IsTrue (is_legal_by request (footer bytes)) → IsValid request bytes →
-        (MayFail (S.faults source.old) (S.faults source.new) → ⊥) → e ≡ Error.OutOfMemory)) }
+    ensures most_pages { let request = request_of schema.now bounds.now chunk_size limit in
+        IfOk result (λ _. OnFile (S.told source.old) (λ file. steps.new ≤ steps.old + most_pages request file)) }
+    ensures taken { let request = request_of schema.now bounds.now chunk_size limit in
+        IfOk result (λ _. OnFile (S.told source.old) (λ file.
+        S.taken source.new ≤ S.taken source.old + most_bytes request file)) }
 {
     let metadata = read_metadata(alloc, source)?;
     if !is_legal(&metadata, schema, bounds, chunk_size, limit) {
@@ -120,9 +92,12 @@ fn check_metadata(
     chunk_size: Option<usize>,
     limit: Option<usize>,
 ) -> Result<Vec<bool>, Error>
-    ensures counts { IfOk result (λ counts. counts.items ≡ map (group_counts (request_of schema.now bounds.now chunk_size limit)) metadata.now.row_groups) }
-    ensures ok { OnOk result (metadata_causes (request_of schema.now bounds.now chunk_size limit) metadata.now ≡ []) }
-    ensures cause { ComesOf result (metadata_causes (request_of schema.now bounds.now chunk_size limit) metadata.now) }
+    ensures counts { let request = request_of schema.now bounds.now chunk_size limit in
+        IfOk result (λ counts. counts.items ≡ map (group_counts request) metadata.now.row_groups) }
+    ensures ok { let request = request_of schema.now bounds.now chunk_size limit in
+        OnOk result (metadata_causes request metadata.now ≡ []) }
+    ensures cause { let request = request_of schema.now bounds.now chunk_size limit in
+        ComesOf result (metadata_causes request metadata.now) }
 {
     let (columns, groups) = (metadata.columns.as_slice(), metadata.row_groups.as_slice());
     let fields = schema.fields.as_slice();
@@ -144,15 +119,14 @@ fn scan_groups<S: Source, L: Ledger>(
     requires lengths { length counts.now ≡ length groups.now }
     requires legal { list_all (is_legal_bound_of fields.now) bounds.now ≡ true }
     requires some { 0 < length fields.now }
-    ensures same { S.told source.new ≡ S.told source.old }
-    ensures same_source { S.kept source.new ≡ S.kept source.old }
-    ensures later { S.faults source.old ≤ S.faults source.new }
+    ensures keeps { Keeps S.Source source.old source.new }
     ensures ok { OnOk result (IfSome (S.told source.old) (λ bytes. scan_causes (are_pruned_by bounds.now fields.now groups.now counts.now) fields.now bounds.now bytes groups.now counts.now ≡ [])) }
     ensures fails { IfErr result (FailsBy (S.told source.old) (S.faults source.old) (S.faults source.new) (λ bytes. scan_causes (are_pruned_by bounds.now fields.now groups.now counts.now) fields.now bounds.now bytes groups.now counts.now)) }
     ensures kept { IfOk result (λ scan. IfSome (S.told source.old) (λ bytes. scan.kept ≡ kept_of_groups (are_pruned_by bounds.now fields.now groups.now counts.now) bounds.now bytes groups.now counts.now)) }
     ensures chunks { IfOk result (λ scan. IfSome (S.told source.old) (λ bytes. shown scan.chunks ≡ chunks_of_groups (are_pruned_by bounds.now fields.now groups.now counts.now) fields.now bytes groups.now (kept_of_groups (are_pruned_by bounds.now fields.now groups.now counts.now) bounds.now bytes groups.now counts.now))) }
     ensures rows { IfOk result (λ scan. IfSome (S.told source.old) (λ bytes. scan.rows ≡ min (rows_of_groups (are_pruned_by bounds.now fields.now groups.now counts.now) groups.now (kept_of_groups (are_pruned_by bounds.now fields.now groups.now counts.now) bounds.now bytes groups.now counts.now)) (2 ^ 64 - 1))) }
     ensures apart { IfOk result (λ scan. All IsApart scan.kept) }
+    ensures even { IfOk result (λ scan. All AreEqualLengths scan.chunks) }
     ensures own_rows { IfOk result (λ scan. scan.rows ≡ rows_in scan.chunks) }
     ensures ticks { steps.old ≤ steps.new }
     ensures pages { IfOk result (λ scan. scan.pages ≡ min (steps.new - steps.old) (2 ^ 64 - 1)) }

@@ -21,15 +21,13 @@ returns-in_err-kept_group-clause-fails g c =
     let group : RowGroupMetaData × Bool = (c.index-groups-i.result, counts) in
     rw (p.1, p.2) (fails_more (g.S.Source.told c.args.source.now) before mid now
     (λ bytes. index_causes_if c.args.by_pages c.args.fields.now c.args.bounds.now bytes group) (λ bytes. index_causes_of_groups c.args.by_pages c.args.fields.now c.args.bounds.now bytes c.args.groups.now c.args.counts.now)
-    c.in_err-kept_group.field-0.0 c.loop-i.invariant.later
+    c.in_err-kept_group.field-0.0 c.loop-i.invariant.keeps.later
     (in_pair (g.S.Source.told c.args.source.now) (index_causes_if c.args.by_pages c.args.fields.now c.args.bounds.now) c.args.groups.now c.args.counts.now c.loop-i.i c.index-groups-i.result counts false (omega arith) (omega arith) c.index-groups-i.is refl)
-    (subst (λ (told : Option (List ℕ)). FailsBy told mid now (λ bytes. index_causes_if c.args.by_pages c.args.fields.now c.args.bounds.now bytes group) c.in_err-kept_group.field-0.0) c.loop-i.invariant.same c.in_err-kept_group.ensures.fails))
+    (subst (λ (told : Option (List ℕ)). FailsBy told mid now (λ bytes. index_causes_if c.args.by_pages c.args.fields.now c.args.bounds.now bytes group) c.in_err-kept_group.field-0.0) c.loop-i.invariant.keeps.same c.in_err-kept_group.ensures.fails))
 
 pub loop-i-init : goal.loop-i-init
 loop-i-init g c = record {
-  same = search rules;
-  same_source = search rules;
-  later = search rules;
+  keeps = search rules;
   none = search rules;
   kept = search rules;
   taken = search rules;
@@ -49,12 +47,10 @@ loop-i-preserved g c =
     let group = c.index-groups-i.result in
     let count = get_or counts i false in
     let kept = c.in_ok-kept_group.field-0 in
-    let own = subst (λ (told : Option (List ℕ)). IfSome told (λ bytes. index_causes_if by_pages c.args.fields.now bounds bytes (group, count) ≡ [])) c.loop-i.invariant.same c.in_ok-kept_group.ensures.ok in
-    let is = subst (λ (told : Option (List ℕ)). IfSome told (λ bytes. kept ≡ kept_if by_pages bounds bytes (group, count))) c.loop-i.invariant.same c.in_ok-kept_group.ensures.kept in
+    let own = subst (λ (told : Option (List ℕ)). IfSome told (λ bytes. index_causes_if by_pages c.args.fields.now bounds bytes (group, count) ≡ [])) c.loop-i.invariant.keeps.same c.in_ok-kept_group.ensures.ok in
+    let is = subst (λ (told : Option (List ℕ)). IfSome told (λ bytes. kept ≡ kept_if by_pages bounds bytes (group, count))) c.loop-i.invariant.keeps.same c.in_ok-kept_group.ensures.kept in
     record {
-      same = search rules;
-      same_source = search rules;
-      later = search rules;
+      keeps = search rules;
       none = none_pair told (index_causes_if by_pages c.args.fields.now bounds) groups counts i group count false c.loop-i-test.true (omega arith) c.index-groups-i.is refl c.loop-i.invariant.none own;
       kept = subst (λ (items : List GroupKept). IfSome told (λ bytes. kept_of_groups by_pages bounds bytes groups counts ≡ items ++ kept_of_groups by_pages bounds bytes (drop (i + 1) groups) (drop (i + 1) counts)))
           (sym c.in_ok-push.ensures.items)

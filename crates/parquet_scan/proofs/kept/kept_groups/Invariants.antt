@@ -1,5 +1,6 @@
 use Rattle.std.proofs.Common.{◌≡◌, ◌≤◌, ◌+◌, ◌++◌, All, drop, length, true}
 use Rattle.std.specs.Prelude.{IfSome}
+use Rattle.parquet_meta.specs.Keeps.{Keeps}
 use Rattle.parquet_scan.specs.Counting.{are_shaped, index_causes_of_groups, indexes_taken_of_groups, kept_of_groups}
 use Rattle.parquet_scan.specs.Scan.{IsApart}
 use Rattle.parquet_scan.proofs.kept.kept_groups.Given as goal
@@ -9,9 +10,7 @@ abbrev pub invariant-loop-i : goal.invariant-loop-i
 invariant-loop-i g l =
     let source = g.S.Source in
     record {
-      same : source.told l.source ≡ source.told l.fn.source;
-      same_source : source.kept l.source ≡ source.kept l.fn.source;
-      later : source.faults l.fn.source ≤ source.faults l.source;
+      keeps : Keeps source l.fn.source l.source;
       none : IfSome (source.told l.fn.source) (λ bytes.
           index_causes_of_groups l.by_pages l.fields l.bounds bytes l.groups l.counts ≡ index_causes_of_groups l.by_pages l.fields l.bounds bytes (drop l.i l.groups) (drop l.i l.counts));
       kept : IfSome (source.told l.fn.source) (λ bytes.

@@ -18,6 +18,6 @@ returns-in_err-read_part-clause-fails g c =
     let chunk = c.args.chunk in
     let part = c.part_of_page.result in
     rw (p.1, p.2) (fails_more told before mid now (λ bytes. part_causes bytes chunk part) (λ bytes. flat_map (entry_causes bytes chunk) (filter is_wanted c.args.pages.now))
-    c.in_err-read_part.field-0.0 c.loop-page.invariant.later
+    c.in_err-read_part.field-0.0 c.loop-page.invariant.keeps.later
     (entry_within told chunk c.args.pages.now c.loop-page.page-index c.page-item.result part c.loop-page-test.true c.page-item.is (sym c.is_wanted.ensures ∙ c.if-is_wanted.true) c.part_of_page.ensures)
-    (subst (λ (told : Option (List ℕ)). FailsBy told mid now (λ bytes. part_causes bytes chunk part) c.in_err-read_part.field-0.0) c.loop-page.invariant.same c.in_err-read_part.ensures.fails))
+    (subst (λ (told : Option (List ℕ)). FailsBy told mid now (λ bytes. part_causes bytes chunk part) c.in_err-read_part.field-0.0) c.loop-page.invariant.keeps.same c.in_err-read_part.ensures.fails))

@@ -2,6 +2,7 @@ use Rattle.std.proofs.Common.{◌≡◌, ◌≤◌, ◌+◌, ◌++◌, Some, dro
 use Rattle.std.specs.Prelude.{IfSome, filter, flat_map, sum_by}
 use Rattle.parquet_page.specs.Lent.{is_wanted}
 use Rattle.parquet_page.specs.declared.page.FilteredPage.{FilteredPage}
+use Rattle.parquet_meta.specs.Keeps.{Keeps}
 use Rattle.parquet_scan.specs.Located.{entry_causes, entry_part}
 use Rattle.parquet_scan.proofs.located.read_bodies.Given as goal
 
@@ -10,9 +11,7 @@ abbrev pub invariant-loop-page : goal.invariant-loop-page
 invariant-loop-page g l =
     let source = g.S.Source in
     record {
-      same : source.told l.source ≡ source.told l.fn.source;
-      same_source : source.kept l.source ≡ source.kept l.fn.source;
-      later : source.faults l.fn.source ≤ source.faults l.source;
+      keeps : Keeps source l.fn.source l.source;
       none : IfSome (source.told l.fn.source) (λ bytes.
           flat_map (entry_causes bytes l.chunk) (filter is_wanted l.pages) ≡ flat_map (entry_causes bytes l.chunk) (filter is_wanted (drop l.page-index l.pages)));
       bodies : IfSome (source.told l.fn.source) (λ bytes.

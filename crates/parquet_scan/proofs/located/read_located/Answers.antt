@@ -103,8 +103,8 @@ returns-in_err-locations-clause-fails g c =
     let whole : List ℕ → List Cause = λ bytes. causes_of_chunk true bytes group (rows_of intervals) data_type column in
     let mid = g.S.Source.faults c.place_of_chunk.new.source in
     let now = g.S.Source.faults c.read_locations.new.source in
-    let fails = subst (λ (told : Option (List ℕ)). FailsBy told mid now (λ bytes. locations_causes bytes group column) c.in_err-locations.field-0.0) c.in_ok-chunk.ensures.same c.in_err-locations.ensures.fails in
-    rw (p.1, p.2) (fails_more told start mid now (λ bytes. locations_causes bytes group column) whole c.in_err-locations.field-0.0 c.in_ok-chunk.ensures.later
+    let fails = subst (λ (told : Option (List ℕ)). FailsBy told mid now (λ bytes. locations_causes bytes group column) c.in_err-locations.field-0.0) c.in_ok-chunk.ensures.keeps.same c.in_err-locations.ensures.fails in
+    rw (p.1, p.2) (fails_more told start mid now (λ bytes. locations_causes bytes group column) whole c.in_err-locations.field-0.0 c.in_ok-chunk.ensures.keeps.later
     (locations_in told group column data_type (rows_of intervals) c.in_ok-chunk.chunk c.in_ok-chunk.ensures.readable c.in_ok-chunk.ensures.place) fails)
 
 pub returns-in_err-pages-clause-fails : goal.returns-in_err-pages-clause-fails
@@ -132,7 +132,7 @@ returns-in_err-bodies-clause-fails g c =
     let intervals = c.args.intervals.now in
     let whole : List ℕ → List Cause = λ bytes. causes_of_chunk true bytes group (rows_of intervals) data_type column in
     let chunk = c.in_ok-chunk.chunk in
-    let at = subst (λ (told : Option (List ℕ)). IfSome told (λ bytes. locations bytes column ≡ c.in_ok-locations.locations.items)) c.in_ok-chunk.ensures.same c.in_ok-locations.ensures.locations in
+    let at = subst (λ (told : Option (List ℕ)). IfSome told (λ bytes. locations bytes column ≡ c.in_ok-locations.locations.items)) c.in_ok-chunk.ensures.keeps.same c.in_ok-locations.ensures.locations in
     let list = c.in_ok-locations.locations.items in
     let entries = c.in_ok-pages.pages.items in
     let selected : IsSelected group intervals list entries = record { shape = c.in_ok-locations.ensures.shaped; are = ap (λ found. selected_pages intervals found group.num_rows) (sym c.deref.ensures.value) ∙ c.in_ok-pages.ensures.pages } in
@@ -142,9 +142,9 @@ returns-in_err-bodies-clause-fails g c =
     let mid = g.S.Source.faults c.read_locations.new.source in
     let now = g.S.Source.faults c.read_bodies.new.source in
     let part : List FilteredPage → List ℕ → List Cause = λ entries bytes. flat_map (entry_causes bytes chunk) (filter is_wanted entries) in
-    let fails = subst (λ (told : Option (List ℕ)). FailsBy told mid now (part entries) c.in_err-bodies.field-0.0) (c.in_ok-locations.ensures.same ∙ c.in_ok-chunk.ensures.same)
+    let fails = subst (λ (told : Option (List ℕ)). FailsBy told mid now (part entries) c.in_err-bodies.field-0.0) (c.in_ok-locations.ensures.keeps.same ∙ c.in_ok-chunk.ensures.keeps.same)
     (subst (λ entries. FailsBy (g.S.Source.told c.read_locations.new.source) mid now (part entries) c.in_err-bodies.field-0.0) c.deref-2.ensures.value c.in_err-bodies.ensures.fails) in
-    rw (p.1, p.2) (fails_more told start mid now (part entries) whole c.in_err-bodies.field-0.0 (omega (arith, c.in_ok-chunk.ensures.later, c.in_ok-locations.ensures.later))
+    rw (p.1, p.2) (fails_more told start mid now (part entries) whole c.in_err-bodies.field-0.0 (omega (arith, c.in_ok-chunk.ensures.keeps.later, c.in_ok-locations.ensures.keeps.later))
     (within_opened told whole (λ bytes. opened_by bytes (reading bytes) chunk entries) items (part entries) opened (λ bytes. bodies_in bytes (reading bytes) chunk entries)) fails)
 
 pub returns-in_err-before-clause-fails : goal.returns-in_err-before-clause-fails
@@ -158,7 +158,7 @@ returns-in_err-before-clause-fails g c =
     let intervals = c.args.intervals.now in
     let whole : List ℕ → List Cause = λ bytes. causes_of_chunk true bytes group (rows_of intervals) data_type column in
     let chunk = c.in_ok-chunk.chunk in
-    let at = subst (λ (told : Option (List ℕ)). IfSome told (λ bytes. locations bytes column ≡ c.in_ok-locations.locations.items)) c.in_ok-chunk.ensures.same c.in_ok-locations.ensures.locations in
+    let at = subst (λ (told : Option (List ℕ)). IfSome told (λ bytes. locations bytes column ≡ c.in_ok-locations.locations.items)) c.in_ok-chunk.ensures.keeps.same c.in_ok-locations.ensures.locations in
     let list = c.in_ok-locations.locations.items in
     let entries = c.in_ok-pages.pages.items in
     let selected : IsSelected group intervals list entries = record { shape = c.in_ok-locations.ensures.shaped; are = ap (λ found. selected_pages intervals found group.num_rows) (sym c.deref.ensures.value) ∙ c.in_ok-pages.ensures.pages } in
@@ -172,9 +172,9 @@ returns-in_err-before-clause-fails g c =
     let mid = g.S.Source.faults c.read_bodies.new.source in
     let now = g.S.Source.faults c.read_before.new.source in
     let part : List FilteredPage → List ℕ → List Cause = λ entries bytes. before_causes bytes chunk entries wanted in
-    let fails = subst (λ (told : Option (List ℕ)). FailsBy told mid now (part entries) c.in_err-before.field-0.0) (c.in_ok-bodies.ensures.same ∙ c.in_ok-locations.ensures.same ∙ c.in_ok-chunk.ensures.same)
+    let fails = subst (λ (told : Option (List ℕ)). FailsBy told mid now (part entries) c.in_err-before.field-0.0) (c.in_ok-bodies.ensures.keeps.same ∙ c.in_ok-locations.ensures.keeps.same ∙ c.in_ok-chunk.ensures.keeps.same)
     (subst (λ entries. FailsBy (g.S.Source.told c.read_bodies.new.source) mid now (part entries) c.in_err-before.field-0.0) c.deref-3.ensures.value c.in_err-before.ensures.fails) in
-    rw (p.1, p.2) (fails_more told start mid now (part entries) whole c.in_err-before.field-0.0 (omega (arith, c.in_ok-chunk.ensures.later, c.in_ok-locations.ensures.later, c.in_ok-bodies.ensures.later))
+    rw (p.1, p.2) (fails_more told start mid now (part entries) whole c.in_err-before.field-0.0 (omega (arith, c.in_ok-chunk.ensures.keeps.later, c.in_ok-locations.ensures.keeps.later, c.in_ok-bodies.ensures.keeps.later))
     (within_opened told whole (λ bytes. opened_by bytes (reading bytes) chunk entries) items (part entries) opened
     (λ bytes o. before_in bytes column.descriptor.primitive_type data_type chunk entries wanted o (wanted_some wanted c.in_ok-bodies.bodies.items entries wanted_is count))) fails)
 
@@ -210,7 +210,7 @@ returns-clause-ok g c =
     let first : not c.is_empty.result ≡ true → IfSome (g.S.Source.told c.read_bodies.new.source) (λ bytes. part_in bytes c.in_ok-chunk.chunk (place_before c.in_ok-chunk.chunk entries) ≡ Some c.in_ok-before.before.items) = λ some.
     subst (λ pages. IfSome (g.S.Source.told c.read_bodies.new.source) (λ bytes. part_in bytes c.in_ok-chunk.chunk (place_before c.in_ok-chunk.chunk pages) ≡ Some c.in_ok-before.before.items)) c.deref-3.ensures.value (c.in_ok-before.ensures.part some) in
     let read = was_read told (g.S.Source.told c.place_of_chunk.new.source) (g.S.Source.told c.read_locations.new.source) (g.S.Source.told c.read_bodies.new.source) group column data_type intervals c.in_ok-chunk.chunk
-    c.in_ok-locations.locations.items entries c.in_ok-before.before.items bodies (not c.is_empty.result) c.in_ok-chunk.ensures.same c.in_ok-locations.ensures.same c.in_ok-bodies.ensures.same c.requires.pair c.requires.shaped
+    c.in_ok-locations.locations.items entries c.in_ok-before.before.items bodies (not c.is_empty.result) c.in_ok-chunk.ensures.keeps.same c.in_ok-locations.ensures.keeps.same c.in_ok-bodies.ensures.keeps.same c.requires.pair c.requires.shaped
     c.in_ok-chunk.ensures.readable selected (ap not (c.is_empty.ensures ∙ ap (λ n. n == 0) long)) (c.in_ok-bodies.ensures.length ∙ ap (λ pages. length (filter is_wanted pages)) c.deref-2.ensures.value)
     c.in_ok-chunk.ensures.place c.in_ok-locations.ensures.locations each first in
     ok_if c.decode_located.result (λ found rows. read_fine group column data_type intervals c.in_ok-chunk.chunk c.in_ok-locations.locations.items entries c.in_ok-before.before.items (map body_items bodies) told read (cells found.0) rows) c.decode_located.ensures.rows
@@ -231,7 +231,7 @@ returns-clause-fails g c =
     let first : not c.is_empty.result ≡ true → IfSome (g.S.Source.told c.read_bodies.new.source) (λ bytes. part_in bytes c.in_ok-chunk.chunk (place_before c.in_ok-chunk.chunk entries) ≡ Some c.in_ok-before.before.items) = λ some.
     subst (λ pages. IfSome (g.S.Source.told c.read_bodies.new.source) (λ bytes. part_in bytes c.in_ok-chunk.chunk (place_before c.in_ok-chunk.chunk pages) ≡ Some c.in_ok-before.before.items)) c.deref-3.ensures.value (c.in_ok-before.ensures.part some) in
     let read = was_read told (g.S.Source.told c.place_of_chunk.new.source) (g.S.Source.told c.read_locations.new.source) (g.S.Source.told c.read_bodies.new.source) group column data_type intervals c.in_ok-chunk.chunk
-    c.in_ok-locations.locations.items entries c.in_ok-before.before.items bodies (not c.is_empty.result) c.in_ok-chunk.ensures.same c.in_ok-locations.ensures.same c.in_ok-bodies.ensures.same c.requires.pair c.requires.shaped
+    c.in_ok-locations.locations.items entries c.in_ok-before.before.items bodies (not c.is_empty.result) c.in_ok-chunk.ensures.keeps.same c.in_ok-locations.ensures.keeps.same c.in_ok-bodies.ensures.keeps.same c.requires.pair c.requires.shaped
     c.in_ok-chunk.ensures.readable selected (ap not (c.is_empty.ensures ∙ ap (λ n. n == 0) long)) (c.in_ok-bodies.ensures.length ∙ ap (λ pages. length (filter is_wanted pages)) c.deref-2.ensures.value)
     c.in_ok-chunk.ensures.place c.in_ok-locations.ensures.locations each first in
     let start = g.S.Source.faults c.args.source.now in
@@ -258,7 +258,7 @@ returns-clause-count g c =
     let first : not c.is_empty.result ≡ true → IfSome (g.S.Source.told c.read_bodies.new.source) (λ bytes. part_in bytes c.in_ok-chunk.chunk (place_before c.in_ok-chunk.chunk entries) ≡ Some c.in_ok-before.before.items) = λ some.
     subst (λ pages. IfSome (g.S.Source.told c.read_bodies.new.source) (λ bytes. part_in bytes c.in_ok-chunk.chunk (place_before c.in_ok-chunk.chunk pages) ≡ Some c.in_ok-before.before.items)) c.deref-3.ensures.value (c.in_ok-before.ensures.part some) in
     let read = was_read told (g.S.Source.told c.place_of_chunk.new.source) (g.S.Source.told c.read_locations.new.source) (g.S.Source.told c.read_bodies.new.source) group column data_type intervals c.in_ok-chunk.chunk
-    c.in_ok-locations.locations.items entries c.in_ok-before.before.items bodies (not c.is_empty.result) c.in_ok-chunk.ensures.same c.in_ok-locations.ensures.same c.in_ok-bodies.ensures.same c.requires.pair c.requires.shaped
+    c.in_ok-locations.locations.items entries c.in_ok-before.before.items bodies (not c.is_empty.result) c.in_ok-chunk.ensures.keeps.same c.in_ok-locations.ensures.keeps.same c.in_ok-bodies.ensures.keeps.same c.requires.pair c.requires.shaped
     c.in_ok-chunk.ensures.readable selected (ap not (c.is_empty.ensures ∙ ap (λ n. n == 0) long)) (c.in_ok-bodies.ensures.length ∙ ap (λ pages. length (filter is_wanted pages)) c.deref-2.ensures.value)
     c.in_ok-chunk.ensures.place c.in_ok-locations.ensures.locations each first in
     if_ok c.decode_located.result (λ found rows. read_count group column data_type intervals c.in_ok-chunk.chunk c.in_ok-locations.locations.items entries c.in_ok-before.before.items (map body_items bodies) told read (cells found.0) rows) c.decode_located.ensures.rows
@@ -279,7 +279,7 @@ returns-clause-cells g c =
     let first : not c.is_empty.result ≡ true → IfSome (g.S.Source.told c.read_bodies.new.source) (λ bytes. part_in bytes c.in_ok-chunk.chunk (place_before c.in_ok-chunk.chunk entries) ≡ Some c.in_ok-before.before.items) = λ some.
     subst (λ pages. IfSome (g.S.Source.told c.read_bodies.new.source) (λ bytes. part_in bytes c.in_ok-chunk.chunk (place_before c.in_ok-chunk.chunk pages) ≡ Some c.in_ok-before.before.items)) c.deref-3.ensures.value (c.in_ok-before.ensures.part some) in
     let read = was_read told (g.S.Source.told c.place_of_chunk.new.source) (g.S.Source.told c.read_locations.new.source) (g.S.Source.told c.read_bodies.new.source) group column data_type intervals c.in_ok-chunk.chunk
-    c.in_ok-locations.locations.items entries c.in_ok-before.before.items bodies (not c.is_empty.result) c.in_ok-chunk.ensures.same c.in_ok-locations.ensures.same c.in_ok-bodies.ensures.same c.requires.pair c.requires.shaped
+    c.in_ok-locations.locations.items entries c.in_ok-before.before.items bodies (not c.is_empty.result) c.in_ok-chunk.ensures.keeps.same c.in_ok-locations.ensures.keeps.same c.in_ok-bodies.ensures.keeps.same c.requires.pair c.requires.shaped
     c.in_ok-chunk.ensures.readable selected (ap not (c.is_empty.ensures ∙ ap (λ n. n == 0) long)) (c.in_ok-bodies.ensures.length ∙ ap (λ pages. length (filter is_wanted pages)) c.deref-2.ensures.value)
     c.in_ok-chunk.ensures.place c.in_ok-locations.ensures.locations each first in
     if_ok c.decode_located.result (λ found rows. read_items group column data_type intervals c.in_ok-chunk.chunk c.in_ok-locations.locations.items entries c.in_ok-before.before.items (map body_items bodies) told read (cells found.0) rows) c.decode_located.ensures.rows
@@ -290,7 +290,7 @@ returns-clause-lent g c =
     let group = c.args.group.now in
     let column = c.args.column.now in
     let intervals = c.args.intervals.now in
-    let at = subst (λ (told : Option (List ℕ)). IfSome told (λ bytes. locations bytes column ≡ c.in_ok-locations.locations.items)) c.in_ok-chunk.ensures.same c.in_ok-locations.ensures.locations in
+    let at = subst (λ (told : Option (List ℕ)). IfSome told (λ bytes. locations bytes column ≡ c.in_ok-locations.locations.items)) c.in_ok-chunk.ensures.keeps.same c.in_ok-locations.ensures.locations in
     let list = c.in_ok-locations.locations.items in
     let entries = c.in_ok-pages.pages.items in
     let selected : IsSelected group intervals list entries = record { shape = c.in_ok-locations.ensures.shaped; are = ap (λ found. selected_pages intervals found group.num_rows) (sym c.deref.ensures.value) ∙ c.in_ok-pages.ensures.pages } in
@@ -303,7 +303,7 @@ returns-clause-taken g c =
     let column = c.args.column.now in
     let intervals = c.args.intervals.now in
     let chunk = c.in_ok-chunk.chunk in
-    let at = subst (λ (told : Option (List ℕ)). IfSome told (λ bytes. locations bytes column ≡ c.in_ok-locations.locations.items)) c.in_ok-chunk.ensures.same c.in_ok-locations.ensures.locations in
+    let at = subst (λ (told : Option (List ℕ)). IfSome told (λ bytes. locations bytes column ≡ c.in_ok-locations.locations.items)) c.in_ok-chunk.ensures.keeps.same c.in_ok-locations.ensures.locations in
     let list = c.in_ok-locations.locations.items in
     let entries = c.in_ok-pages.pages.items in
     let selected : IsSelected group intervals list entries = record { shape = c.in_ok-locations.ensures.shaped; are = ap (λ found. selected_pages intervals found group.num_rows) (sym c.deref.ensures.value) ∙ c.in_ok-pages.ensures.pages } in

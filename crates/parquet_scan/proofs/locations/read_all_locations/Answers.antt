@@ -24,9 +24,9 @@ returns-in_err-read_field_locations-clause-fails g c =
     let now = g.S.Source.faults c.read_field_locations.new.source in
     let group = c.args.group.now in
     rw (p.1, p.2) (fails_more told before mid now (λ bytes. offset_causes_of_field bytes group c.field-item.result) (λ bytes. flat_map (offset_causes_of_field bytes group) c.args.fields.now)
-    c.in_err-read_field_locations.field-0.0 c.loop-field.invariant.later
+    c.in_err-read_field_locations.field-0.0 c.loop-field.invariant.keeps.later
     (in_item told (λ bytes. offset_causes_of_field bytes group) c.args.fields.now c.loop-field.field-index c.field-item.result c.loop-field-test.true c.field-item.is)
-    (subst (λ (told : Option (List ℕ)). FailsBy told mid now (λ bytes. offset_causes_of_field bytes group c.field-item.result) c.in_err-read_field_locations.field-0.0) c.loop-field.invariant.same c.in_err-read_field_locations.ensures.fails))
+    (subst (λ (told : Option (List ℕ)). FailsBy told mid now (λ bytes. offset_causes_of_field bytes group c.field-item.result) c.in_err-read_field_locations.field-0.0) c.loop-field.invariant.keeps.same c.in_err-read_field_locations.ensures.fails))
 
 pub loop-field-preserved : goal.loop-field-preserved
 loop-field-preserved g c =
@@ -37,12 +37,10 @@ loop-field-preserved g c =
     let field = c.field-item.result in
     let list = c.in_ok-read_field_locations.field-0 in
     let items : Vec PageLocation Global → List PageLocation = λ list. list.items in
-    let own = subst (λ (told : Option (List ℕ)). IfSome told (λ bytes. offset_causes_of_field bytes group field ≡ [])) c.loop-field.invariant.same c.in_ok-read_field_locations.ensures.ok in
-    let are = subst (λ (told : Option (List ℕ)). IfSome told (λ bytes. field_locations bytes group field.name ≡ list.items)) c.loop-field.invariant.same c.in_ok-read_field_locations.ensures.locations in
+    let own = subst (λ (told : Option (List ℕ)). IfSome told (λ bytes. offset_causes_of_field bytes group field ≡ [])) c.loop-field.invariant.keeps.same c.in_ok-read_field_locations.ensures.ok in
+    let are = subst (λ (told : Option (List ℕ)). IfSome told (λ bytes. field_locations bytes group field.name ≡ list.items)) c.loop-field.invariant.keeps.same c.in_ok-read_field_locations.ensures.locations in
     record {
-      same = search rules;
-      same_source = search rules;
-      later = search rules;
+      keeps = search rules;
       none = none_more told (λ bytes. offset_causes_of_field bytes group) fields i field c.loop-field-test.true c.field-item.is c.loop-field.invariant.none own;
       locations = subst (λ (lists : List (List PageLocation)). IfSome told (λ bytes. map (λ field. field_locations bytes group field.name) fields ≡ lists ++ map (λ field. field_locations bytes group field.name) (drop (i + 1) fields)))
           (sym (ap (map items) c.in_ok-push.ensures.items ∙ map-append items c.loop-field.lists.items (list ∷ [])))

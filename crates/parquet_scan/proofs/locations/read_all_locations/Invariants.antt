@@ -2,6 +2,7 @@ use Rattle.std.proofs.Common.{◌≡◌, ◌≤◌, ◌+◌, ◌++◌, true, dro
 use Rattle.std.specs.Prelude.{IfSome, flat_map, sum_by}
 use Rattle.std.specs.List.{list_all}
 use Rattle.parquet_page.specs.Locations.{has_shape}
+use Rattle.parquet_meta.specs.Keeps.{Keeps}
 use Rattle.parquet_scan.specs.Causes.{offset_causes_of_field}
 use Rattle.parquet_scan.specs.Costs.{offset_index_of}
 use Rattle.parquet_scan.specs.Rows.{field_locations}
@@ -12,9 +13,7 @@ abbrev pub invariant-loop-field : goal.invariant-loop-field
 invariant-loop-field g l =
     let source = g.S.Source in
     record {
-      same : source.told l.source ≡ source.told l.fn.source;
-      same_source : source.kept l.source ≡ source.kept l.fn.source;
-      later : source.faults l.fn.source ≤ source.faults l.source;
+      keeps : Keeps source l.fn.source l.source;
       none : IfSome (source.told l.fn.source) (λ bytes. flat_map (offset_causes_of_field bytes l.group) l.fields ≡ flat_map (offset_causes_of_field bytes l.group) (drop l.field-index l.fields));
       locations : IfSome (source.told l.fn.source) (λ bytes.
           map (λ field. field_locations bytes l.group field.name) l.fields ≡ map (λ list. list.items) l.lists.items ++ map (λ field. field_locations bytes l.group field.name) (drop l.field-index l.fields));

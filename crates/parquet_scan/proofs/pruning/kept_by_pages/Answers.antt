@@ -26,7 +26,7 @@ read_all_runs-requires-clause-told g c =
     let group = c.args.group.now in
     let fields = c.args.fields.now in
     let items : Vec PageLocation Global → List PageLocation = λ list. list.items in
-    subst (λ (told : Option (List ℕ)). IfSome told (λ bytes. map (λ field. field_locations bytes group field.name) fields ≡ map items c.deref.result.now)) (sym c.in_ok-locations.ensures.same)
+    subst (λ (told : Option (List ℕ)). IfSome told (λ bytes. map (λ field. field_locations bytes group field.name) fields ≡ map items c.deref.result.now)) (sym c.in_ok-locations.ensures.keeps.same)
     (subst (λ lists. IfSome (g.S.Source.told c.args.source.now) (λ bytes. map (λ field. field_locations bytes group field.name) fields ≡ map items lists)) (sym c.deref.ensures.value) c.in_ok-locations.ensures.locations)
 
 pub returns-in_err-locations-clause-fails : goal.returns-in_err-locations-clause-fails
@@ -53,8 +53,8 @@ returns-in_err-runs-clause-fails g c =
     let bounds = c.args.bounds.now in
     let first : List ℕ → List Cause = λ bytes. flat_map (offset_causes_of_field bytes group) fields in
     let second : List ℕ → List Cause = λ bytes. flat_map (index_causes_of_bound bytes group) bounds in
-    rw (p.1, p.2) (fails_more told start mid now second (λ bytes. first bytes ++ second bytes) c.in_err-runs.field-0.0 c.in_ok-locations.ensures.later (in_second told first second)
-    (subst (λ (told : Option (List ℕ)). FailsBy told mid now second c.in_err-runs.field-0.0) c.in_ok-locations.ensures.same c.in_err-runs.ensures.fails))
+    rw (p.1, p.2) (fails_more told start mid now second (λ bytes. first bytes ++ second bytes) c.in_err-runs.field-0.0 c.in_ok-locations.ensures.keeps.later (in_second told first second)
+    (subst (λ (told : Option (List ℕ)). FailsBy told mid now second c.in_err-runs.field-0.0) c.in_ok-locations.ensures.keeps.same c.in_err-runs.ensures.fails))
 
 pub runs_of_all-requires : goal.runs_of_all-requires
 runs_of_all-requires g c = subst (λ (lists : List (Vec Interval Global)). All (λ list. AreApart 0 list.items c.args.group.now.num_rows) lists) (sym c.deref-2.ensures.value) c.in_ok-runs.ensures.apart
@@ -67,7 +67,7 @@ returns-clause-ok g c =
     let bounds = c.args.bounds.now in
     let first : List ℕ → List Cause = λ bytes. flat_map (offset_causes_of_field bytes group) fields in
     let second : List ℕ → List Cause = λ bytes. flat_map (index_causes_of_bound bytes group) bounds in
-    none_of_both told first second c.in_ok-locations.ensures.ok (subst (λ (told : Option (List ℕ)). IfSome told (λ bytes. second bytes ≡ [])) c.in_ok-locations.ensures.same c.in_ok-runs.ensures.ok)
+    none_of_both told first second c.in_ok-locations.ensures.ok (subst (λ (told : Option (List ℕ)). IfSome told (λ bytes. second bytes ≡ [])) c.in_ok-locations.ensures.keeps.same c.in_ok-runs.ensures.ok)
 
 pub returns-clause-kept : goal.returns-clause-kept
 returns-clause-kept g c =
@@ -75,7 +75,7 @@ returns-clause-kept g c =
     let group = c.args.group.now in
     let bounds = c.args.bounds.now in
     let items : Vec Interval Global → List Interval = λ list. list.items in
-    let are = subst (λ (told : Option (List ℕ)). IfSome told (λ bytes. map (λ bound. maximal_runs (λ row. bound_keeps bytes group row bound) group.num_rows) bounds ≡ map items c.in_ok-runs.runs.items)) c.in_ok-locations.ensures.same c.in_ok-runs.ensures.runs in
+    let are = subst (λ (told : Option (List ℕ)). IfSome told (λ bytes. map (λ bound. maximal_runs (λ row. bound_keeps bytes group row bound) group.num_rows) bounds ≡ map items c.in_ok-runs.runs.items)) c.in_ok-locations.ensures.keeps.same c.in_ok-runs.ensures.runs in
     all_runs told group bounds items c.in_ok-runs.runs.items c.in_ok-runs_of_all.field-0.items are
     (c.in_ok-runs_of_all.ensures ∙ ap (λ (lists : List (Vec Interval Global)). maximal_runs (λ row. list_all (λ list. covers list.items row) lists) group.num_rows) c.deref-2.ensures.value)
 

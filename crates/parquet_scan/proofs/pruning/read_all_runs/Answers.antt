@@ -25,9 +25,9 @@ returns-in_err-read_runs-clause-fails g c =
     let now = g.S.Source.faults c.read_runs.new.source in
     let group = c.args.group.now in
     rw (p.1, p.2) (fails_more told before mid now (λ bytes. index_causes_of_bound bytes group c.bound-item.result) (λ bytes. flat_map (index_causes_of_bound bytes group) c.args.bounds.now)
-    c.in_err-read_runs.field-0.0 c.loop-bound.invariant.later
+    c.in_err-read_runs.field-0.0 c.loop-bound.invariant.keeps.later
     (in_item told (λ bytes. index_causes_of_bound bytes group) c.args.bounds.now c.loop-bound.bound-index c.bound-item.result c.loop-bound-test.true c.bound-item.is)
-    (subst (λ (told : Option (List ℕ)). FailsBy told mid now (λ bytes. index_causes_of_bound bytes group c.bound-item.result) c.in_err-read_runs.field-0.0) c.loop-bound.invariant.same c.in_err-read_runs.ensures.fails))
+    (subst (λ (told : Option (List ℕ)). FailsBy told mid now (λ bytes. index_causes_of_bound bytes group c.bound-item.result) c.in_err-read_runs.field-0.0) c.loop-bound.invariant.keeps.same c.in_err-read_runs.ensures.fails))
 
 pub loop-bound-preserved : goal.loop-bound-preserved
 loop-bound-preserved g c =
@@ -38,12 +38,10 @@ loop-bound-preserved g c =
     let bound = c.bound-item.result in
     let list = c.in_ok-read_runs.field-0 in
     let items : Vec Interval Global → List Interval = λ list. list.items in
-    let own = subst (λ (told : Option (List ℕ)). IfSome told (λ bytes. index_causes_of_bound bytes group bound ≡ [])) c.loop-bound.invariant.same c.in_ok-read_runs.ensures.ok in
-    let are = subst (λ (told : Option (List ℕ)). IfSome told (λ bytes. maximal_runs (λ row. bound_keeps bytes group row bound) group.num_rows ≡ list.items)) c.loop-bound.invariant.same c.in_ok-read_runs.ensures.runs in
+    let own = subst (λ (told : Option (List ℕ)). IfSome told (λ bytes. index_causes_of_bound bytes group bound ≡ [])) c.loop-bound.invariant.keeps.same c.in_ok-read_runs.ensures.ok in
+    let are = subst (λ (told : Option (List ℕ)). IfSome told (λ bytes. maximal_runs (λ row. bound_keeps bytes group row bound) group.num_rows ≡ list.items)) c.loop-bound.invariant.keeps.same c.in_ok-read_runs.ensures.runs in
     record {
-      same = search rules;
-      same_source = search rules;
-      later = search rules;
+      keeps = search rules;
       none = none_more told (λ bytes. index_causes_of_bound bytes group) bounds i bound c.loop-bound-test.true c.bound-item.is c.loop-bound.invariant.none own;
       runs = subst (λ (lists : List (List Interval)). IfSome told (λ bytes. map (λ bound. maximal_runs (λ row. bound_keeps bytes group row bound) group.num_rows) bounds
           ≡ lists ++ map (λ bound. maximal_runs (λ row. bound_keeps bytes group row bound) group.num_rows) (drop (i + 1) bounds)))
@@ -65,7 +63,7 @@ read_runs-requires-clause-told g c =
     let bound = c.bound-item.result in
     let items : Vec PageLocation Global → List PageLocation = λ list. list.items in
     let list = c.index-locations-place_of.result in
-    subst (λ (told : Option (List ℕ)). IfSome told (λ bytes. field_locations bytes group bound.field ≡ c.deref.result.now)) (sym c.loop-bound.invariant.same)
+    subst (λ (told : Option (List ℕ)). IfSome told (λ bytes. field_locations bytes group bound.field ≡ c.deref.result.now)) (sym c.loop-bound.invariant.keeps.same)
     (subst (λ (list : List PageLocation). IfSome told (λ bytes. field_locations bytes group bound.field ≡ list)) (sym (c.deref.ensures.value ∙ ap items c.index-locations-place_of.is))
     (locations_at told group c.args.fields.now items c.args.locations.now bound c.place_of.result list c.requires.told c.place_of.ensures.within (omega (arith, c.place_of.ensures.within, c.requires.length)) c.place_of.ensures.named))
 

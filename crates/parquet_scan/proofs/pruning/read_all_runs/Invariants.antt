@@ -1,6 +1,7 @@
 use Rattle.std.proofs.Common.{◌≡◌, ◌≤◌, ◌+◌, ◌++◌, All, drop, map}
 use Rattle.std.specs.Prelude.{IfSome, flat_map, sum_by}
 use Rattle.parquet_base.specs.Intervals.{AreApart, maximal_runs}
+use Rattle.parquet_meta.specs.Keeps.{Keeps}
 use Rattle.parquet_scan.specs.Causes.{index_causes_of_bound}
 use Rattle.parquet_scan.specs.Costs.{column_index_of}
 use Rattle.parquet_scan.specs.Rows.{bound_keeps}
@@ -11,9 +12,7 @@ abbrev pub invariant-loop-bound : goal.invariant-loop-bound
 invariant-loop-bound g l =
     let source = g.S.Source in
     record {
-      same : source.told l.source ≡ source.told l.fn.source;
-      same_source : source.kept l.source ≡ source.kept l.fn.source;
-      later : source.faults l.fn.source ≤ source.faults l.source;
+      keeps : Keeps source l.fn.source l.source;
       none : IfSome (source.told l.fn.source) (λ bytes. flat_map (index_causes_of_bound bytes l.group) l.bounds ≡ flat_map (index_causes_of_bound bytes l.group) (drop l.bound-index l.bounds));
       runs : IfSome (source.told l.fn.source) (λ bytes.
           map (λ bound. maximal_runs (λ row. bound_keeps bytes l.group row bound) l.group.num_rows) l.bounds

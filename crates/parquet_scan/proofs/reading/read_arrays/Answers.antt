@@ -24,9 +24,9 @@ returns-in_err-array-clause-fails g c =
     let rows = rows_read c.args.by_pages group c.args.kept.now.intervals in
     rw (p.1, p.2) (fails_more (g.S.Source.told c.args.source.now) before mid now
     (λ bytes. causes_of_column c.args.by_pages bytes group rows c.field-item.result) (λ bytes. causes_of_group c.args.by_pages c.args.fields.now bytes (group, rows))
-    c.in_err-array.field-0.0 c.loop-field.invariant.later
+    c.in_err-array.field-0.0 c.loop-field.invariant.keeps.later
     (in_item (g.S.Source.told c.args.source.now) (λ bytes. causes_of_column c.args.by_pages bytes group rows) c.args.fields.now c.loop-field.field-index c.field-item.result c.loop-field-test.true c.field-item.is)
-    (subst (λ (told : Option (List ℕ)). FailsBy told mid now (λ bytes. causes_of_column c.args.by_pages bytes group rows c.field-item.result) c.in_err-array.field-0.0) c.loop-field.invariant.same c.in_err-array.ensures.fails))
+    (subst (λ (told : Option (List ℕ)). FailsBy told mid now (λ bytes. causes_of_column c.args.by_pages bytes group rows c.field-item.result) c.in_err-array.field-0.0) c.loop-field.invariant.keeps.same c.in_err-array.ensures.fails))
 
 pub loop-field-preserved : goal.loop-field-preserved
 loop-field-preserved g c =
@@ -38,14 +38,12 @@ loop-field-preserved g c =
     let i = c.loop-field.field-index in
     let field = c.field-item.result in
     let array = c.in_ok-array.array in
-    let own = subst (λ (told : Option (List ℕ)). IfSome told (λ bytes. causes_of_column by_pages bytes group rows field ≡ [])) c.loop-field.invariant.same c.in_ok-array.ensures.ok in
-    let column = subst (λ (told : Option (List ℕ)). IfSome told (λ bytes. given_column by_pages bytes group rows field ≡ Some (column_of array))) c.loop-field.invariant.same c.in_ok-array.ensures.column in
-    let lent = subst (λ (told : Option (List ℕ)). RisesBy told c.loop-field.steps c.read_array.new.steps (λ bytes. lent_of_column by_pages bytes group rows field)) c.loop-field.invariant.same c.in_ok-array.ensures.lent in
-    let taken = subst (λ (told : Option (List ℕ)). RisesBy told (g.S.Source.taken c.loop-field.source) (g.S.Source.taken c.read_array.new.source) (λ bytes. column_taken by_pages bytes group rows field)) c.loop-field.invariant.same c.in_ok-array.ensures.taken in
+    let own = subst (λ (told : Option (List ℕ)). IfSome told (λ bytes. causes_of_column by_pages bytes group rows field ≡ [])) c.loop-field.invariant.keeps.same c.in_ok-array.ensures.ok in
+    let column = subst (λ (told : Option (List ℕ)). IfSome told (λ bytes. given_column by_pages bytes group rows field ≡ Some (column_of array))) c.loop-field.invariant.keeps.same c.in_ok-array.ensures.column in
+    let lent = subst (λ (told : Option (List ℕ)). RisesBy told c.loop-field.steps c.read_array.new.steps (λ bytes. lent_of_column by_pages bytes group rows field)) c.loop-field.invariant.keeps.same c.in_ok-array.ensures.lent in
+    let taken = subst (λ (told : Option (List ℕ)). RisesBy told (g.S.Source.taken c.loop-field.source) (g.S.Source.taken c.read_array.new.source) (λ bytes. column_taken by_pages bytes group rows field)) c.loop-field.invariant.keeps.same c.in_ok-array.ensures.taken in
     record {
-      same = search rules;
-      same_source = search rules;
-      later = search rules;
+      keeps = search rules;
       none = none_more told (λ bytes. causes_of_column by_pages bytes group rows) fields i field c.loop-field-test.true c.field-item.is c.loop-field.invariant.none own;
       columns = subst (λ (arrays : List Array). IfSome told (λ bytes.
           map (given_column by_pages bytes group rows) fields ≡ map (λ array. Some (column_of array)) arrays ++ map (given_column by_pages bytes group rows) (drop (i + 1) fields)))

@@ -1,6 +1,7 @@
 use Rattle.std.proofs.Common.{◌≡◌, ◌≤◌, ◌+◌, ◌-◌, ◌^◌, ◌++◌, Some, drop, length, map, All}
 use Rattle.std.specs.Prelude.{IfSome, min}
 use Rattle.columns_core.specs.Array.{cells, column_of}
+use Rattle.parquet_meta.specs.Keeps.{Keeps}
 use Rattle.parquet_scan.specs.Cells.{given_column}
 use Rattle.parquet_scan.specs.Causes.{causes_of_group}
 use Rattle.parquet_scan.specs.Costs.{lent_of_group}
@@ -13,9 +14,7 @@ invariant-loop-field g l =
     let source = g.S.Source in
     let rows = rows_read l.by_pages l.group l.kept.intervals in
     record {
-      same : source.told l.source ≡ source.told l.fn.source;
-      same_source : source.kept l.source ≡ source.kept l.fn.source;
-      later : source.faults l.fn.source ≤ source.faults l.source;
+      keeps : Keeps source l.fn.source l.source;
       none : IfSome (source.told l.fn.source) (λ bytes. causes_of_group l.by_pages l.fields bytes (l.group, rows) ≡ causes_of_group l.by_pages (drop l.field-index l.fields) bytes (l.group, rows));
       columns : IfSome (source.told l.fn.source) (λ bytes.
           map (given_column l.by_pages bytes l.group rows) l.fields ≡ map (λ array. Some (column_of array)) l.arrays.items ++ map (given_column l.by_pages bytes l.group rows) (drop l.field-index l.fields));

@@ -1,5 +1,7 @@
 use Rattle.std.proofs.Common.{◌≡◌, ◌≤◌, ◌<◌, ◌-◌, ◌+◌, ◌^◌, ◌++◌, drop}
-use Rattle.std.specs.Prelude.{IfSome, min}
+use Rattle.std.specs.Prelude.{All, IfSome, min}
+use Rattle.columns_core.specs.Chunk.{AreEqualLengths}
+use Rattle.parquet_meta.specs.Keeps.{Keeps}
 use Rattle.parquet_scan.specs.Counting.{causes_of_groups, chunks_of_groups, lent_of_groups, rows_of_groups, shown, taken_of_groups}
 use Rattle.parquet_scan.specs.Scan.{rows_in}
 use Rattle.parquet_scan.proofs.reading.read_groups.Given as goal
@@ -9,9 +11,7 @@ abbrev pub invariant-loop-i : goal.invariant-loop-i
 invariant-loop-i g l =
     let source = g.S.Source in
     record {
-      same : source.told l.source ≡ source.told l.fn.source;
-      same_source : source.kept l.source ≡ source.kept l.fn.source;
-      later : source.faults l.fn.source ≤ source.faults l.source;
+      keeps : Keeps source l.fn.source l.source;
       none : IfSome (source.told l.fn.source) (λ bytes.
           causes_of_groups l.by_pages l.fields bytes l.groups l.kept ≡ causes_of_groups l.by_pages l.fields bytes (drop l.i l.groups) (drop l.i l.kept));
       chunks : IfSome (source.told l.fn.source) (λ bytes.
@@ -22,6 +22,7 @@ invariant-loop-i g l =
           source.taken l.source + taken_of_groups l.by_pages l.fields bytes (drop l.i l.groups) (drop l.i l.kept) ≤ source.taken l.fn.source + taken_of_groups l.by_pages l.fields bytes l.groups l.kept);
       rows : min (l.fn.read.rows + rows_of_groups l.by_pages l.groups l.kept) (2 ^ 64 - 1) ≡ min (l.read.rows + rows_of_groups l.by_pages (drop l.i l.groups) (drop l.i l.kept)) (2 ^ 64 - 1);
       own_rows : l.fn.read.rows ≡ rows_in l.fn.read.chunks.items → l.read.rows ≡ rows_in l.read.chunks.items;
+      even : All AreEqualLengths l.fn.read.chunks.items → All AreEqualLengths l.read.chunks.items;
       fits : l.read.rows < 2 ^ 64;
       ticks : l.fn.steps ≤ l.steps;
       pages : l.read.pages ≡ min (l.fn.read.pages + (l.steps - l.fn.steps)) (2 ^ 64 - 1);
