@@ -1,0 +1,359 @@
+//! Types, values and names as words spell them, each asked of the first file.
+use crate::running::{answer_on, answer_to};
+use crate::written::{Column, FileBuilder};
+use pq_common::Status;
+use std::alloc::{AllocError, Global};
+use std::test::*;
+
+/// Whether a run on the first file ends so and writes nothing that is asked by these words.
+fn ends_with(alloc: Global, line: &str, status: Status) -> Result<bool, Fail> {
+    let found = answer_to(alloc, line)?;
+    Ok(found.as_slice() == [status.number()].as_slice())
+}
+
+/// What may be asked of a column of numbers of 32 bits, and gives the numbers themselves.
+const READ: [&str; 13] = [
+    "a:Int8",
+    "a:Int16",
+    "a:Int32",
+    "a:UInt8",
+    "a:UInt16",
+    "a:UInt32",
+    "a:Date32",
+    "a:Time32(s)",
+    "a:Time32(ms)",
+    "a:Time32(us)",
+    "a:Time32(ns)",
+    "a:Decimal(9,2)",
+    "a:Decimal(0,18446744073709551615)",
+];
+
+#[test]
+fn types_that_the_column_is_read_as(rt: HostRuntime) -> Result<(), Fail> {
+    let rows = b"\x00group 0 5 0+5\nchunk 5\n10\n12\n15\n18\n20\n".as_slice();
+    for line in READ.iter() {
+        let found = answer_to(rt.alloc(), line)?;
+        assert_eq!(rt; found.as_slice(), rows, "at {line}");
+    }
+    let nulls = answer_to(rt.alloc(), "a:Null")?;
+    assert_eq!(rt;
+        nulls.as_slice(),
+        b"\x00group 0 5 0+5\nchunk 5\nnull\nnull\nnull\nnull\nnull\n".as_slice()
+    );
+    let days = answer_to(rt.alloc(), "a:Date64")?;
+    assert_eq!(rt;
+        days.as_slice(),
+        b"\x00group 0 5 0+5\nchunk 5\n864000000\n1036800000\n1296000000\n1555200000\n1728000000\n".as_slice()
+    );
+    Ok(())
+}
+
+/// Types that such a column is not read as.
+const OTHERS: [&str; 29] = [
+    "Boolean",
+    "Int64",
+    "UInt64",
+    "Time64(s)",
+    "Time64(ms)",
+    "Time64(us)",
+    "Time64(ns)",
+    "Duration(s)",
+    "Duration(ms)",
+    "Duration(us)",
+    "Duration(ns)",
+    "Timestamp(s)",
+    "Timestamp(ms)",
+    "Timestamp(us)",
+    "Timestamp(ns)",
+    "FixedSizeBinary(4)",
+    "FixedSizeBinary(0)",
+    "FixedSizeBinary(18446744073709551615)",
+    "Interval(YearMonth)",
+    "Interval(DayTime)",
+    "Utf8",
+    "LargeUtf8",
+    "Binary",
+    "LargeBinary",
+    "Dictionary(Int32,Utf8)",
+    "Dictionary(UInt8,Int32)",
+    "Dictionary(UInt64,Timestamp(us))",
+    "Dictionary(Int8,FixedSizeBinary(4))",
+    "Dictionary(Int16,Decimal(9,2))",
+];
+
+/// Texts that spell no type.
+const NO_TYPES: [&str; 25] = [
+    "",
+    "int32",
+    "Float64",
+    "Decimal256(9,2)",
+    "Time32",
+    "Time32()",
+    "Time32(m)",
+    "Time64(S)",
+    "Timestamp(s,UTC)",
+    "Decimal(9)",
+    "Decimal(9,)",
+    "Decimal(,2)",
+    "Decimal(9,-2)",
+    "Decimal(18446744073709551616,0)",
+    "FixedSizeBinary",
+    "FixedSizeBinary()",
+    "FixedSizeBinary(+4)",
+    "FixedSizeBinary(4",
+    "Interval(MonthDayNano)",
+    "Dictionary(Utf8,Int32)",
+    "Dictionary(Int32)",
+    "Dictionary(Int32,Dictionary(Int32,Int32))",
+    "Dictionary(Int32,Float64)",
+    "List(Int32)",
+    "Int32()",
+];
+
+#[test]
+fn types_that_the_column_is_not_read_as(rt: HostRuntime) -> Result<(), Fail> {
+    for name in OTHERS.iter() {
+        let line = format!(in rt.alloc(); "a:{name}")?;
+        assert!(rt;
+            ends_with(rt.alloc(), &line, Status::NotCarried)?,
+            "at {line}"
+        );
+    }
+    for name in NO_TYPES.iter() {
+        let line = format!(in rt.alloc(); "a:{name}")?;
+        assert!(rt; ends_with(rt.alloc(), &line, Status::Words)?, "at {line}");
+    }
+    Ok(())
+}
+
+/// Types of numbers: the least and the greatest number of each, and those one past them.
+const RANGES: [(&str, &str, &str, &str, &str); 15] = [
+    ("Int8", "-128", "127", "-129", "128"),
+    ("Int16", "-32768", "32767", "-32769", "32768"),
+    (
+        "Int64",
+        "-9223372036854775808",
+        "9223372036854775807",
+        "-9223372036854775809",
+        "9223372036854775808",
+    ),
+    ("UInt8", "0", "255", "-1", "256"),
+    ("UInt16", "0", "65535", "-1", "65536"),
+    ("UInt32", "0", "4294967295", "-1", "4294967296"),
+    (
+        "UInt64",
+        "-0",
+        "18446744073709551615",
+        "-1",
+        "18446744073709551616",
+    ),
+    (
+        "Date32",
+        "-2147483648",
+        "2147483647",
+        "-2147483649",
+        "2147483648",
+    ),
+    (
+        "Date64",
+        "-9223372036854775808",
+        "9223372036854775807",
+        "-9223372036854775809",
+        "9223372036854775808",
+    ),
+    (
+        "Time32(s)",
+        "-2147483648",
+        "2147483647",
+        "-2147483649",
+        "2147483648",
+    ),
+    (
+        "Time64(us)",
+        "-9223372036854775808",
+        "9223372036854775807",
+        "-9223372036854775809",
+        "9223372036854775808",
+    ),
+    (
+        "Duration(ms)",
+        "-9223372036854775808",
+        "9223372036854775807",
+        "-9223372036854775809",
+        "9223372036854775808",
+    ),
+    (
+        "Timestamp(ns)",
+        "-9223372036854775808",
+        "9223372036854775807",
+        "-9223372036854775809",
+        "9223372036854775808",
+    ),
+    (
+        "Decimal(9,2)",
+        "-170141183460469231731687303715884105728",
+        "170141183460469231731687303715884105727",
+        "-170141183460469231731687303715884105729",
+        "170141183460469231731687303715884105728",
+    ),
+    ("Dictionary(Int8,UInt16)", "0", "65535", "-1", "65536"),
+];
+
+/// How a run on the first file ends that is asked for a type and for two bounds.
+fn ends_between(
+    alloc: Global,
+    name: &str,
+    low: &str,
+    high: &str,
+    status: Status,
+) -> Result<bool, Fail> {
+    let line = format!(in alloc; "a:{name} a>={low} a<={high}")?;
+    ends_with(alloc, &line, status)
+}
+
+/// Bounds on other types than Int32 are spelled, and are not carried.
+#[test]
+fn numbers_at_the_ends_of_their_types(rt: HostRuntime) -> Result<(), Fail> {
+    let alloc = rt.alloc();
+    for (name, least, greatest, below, above) in RANGES.iter() {
+        assert!(rt;
+            ends_between(alloc, name, least, greatest, Status::NotCarried)?,
+            "at {name}"
+        );
+        assert!(rt;
+            ends_between(alloc, name, below, greatest, Status::Words)?,
+            "at {name}"
+        );
+        assert!(rt;
+            ends_between(alloc, name, least, above, Status::Words)?,
+            "at {name}"
+        );
+    }
+    assert!(rt; ends_between(alloc, "Int32", "-2147483649", "2147483647", Status::Words)?);
+    assert!(rt; ends_between(alloc, "Int32", "-2147483648", "2147483648", Status::Words)?);
+    Ok(())
+}
+
+/// Ends of bounds, and how a run with them ends.
+const VALUES: [(&str, Status); 33] = [
+    // At most 39 digits.
+    (
+        "a:Decimal(9,2) a>=000000000000000000000000000000000000001",
+        Status::NotCarried,
+    ),
+    (
+        "a:Decimal(9,2) a>=-000000000000000000000000000000000000001",
+        Status::NotCarried,
+    ),
+    (
+        "a:Decimal(9,2) a>=0000000000000000000000000000000000000001",
+        Status::Words,
+    ),
+    (
+        "a:Decimal(9,2) a>=999999999999999999999999999999999999999",
+        Status::Words,
+    ),
+    (
+        "a:Int32 a>=0000000000000000000000000000000000000012",
+        Status::Words,
+    ),
+    ("a:Int32 a>=", Status::Words),
+    ("a:Int32 a>=-", Status::Words),
+    ("a:Int32 a>=+1", Status::Words),
+    ("a:Int32 a>=--1", Status::Words),
+    ("a:Int32 a>=1.0", Status::Words),
+    ("a:Int32 a>=0x1", Status::Words),
+    ("a:Int32 a>=1>=2", Status::Words),
+    // Bytes.
+    ("a:Binary a>=0x", Status::NotCarried),
+    ("a:Binary a>=0x00fF", Status::NotCarried),
+    (
+        "a:LargeBinary a<=0xABCDEFabcdef0123456789",
+        Status::NotCarried,
+    ),
+    ("a:FixedSizeBinary(2) a>=0x0102", Status::NotCarried),
+    ("a:FixedSizeBinary(2) a>=0x010203", Status::Argument),
+    ("a:Dictionary(Int8,Binary) a>=0x01", Status::NotCarried),
+    ("a:Binary a>=", Status::Words),
+    ("a:Binary a>=0x0", Status::Words),
+    ("a:Binary a>=0x0g", Status::Words),
+    ("a:Binary a>=0X00", Status::Words),
+    ("a:Binary a>=00", Status::Words),
+    // Texts.
+    ("a:Utf8 a>=", Status::NotCarried),
+    ("a:LargeUtf8 a<=x>=y", Status::NotCarried),
+    ("a:Utf8 a>=0x a<=", Status::NotCarried),
+    ("a:Dictionary(Int8,Utf8) a>=x", Status::NotCarried),
+    // Types without values.
+    ("a:Null a>=0", Status::Words),
+    ("a:Boolean a>=true", Status::Words),
+    ("a:Boolean a>=0", Status::Words),
+    ("a:Interval(YearMonth) a>=0", Status::Words),
+    ("a:Interval(DayTime) a>=0", Status::Words),
+    ("a:Dictionary(Int8,Boolean) a>=0", Status::Words),
+];
+
+#[test]
+fn values_of_each_kind(rt: HostRuntime) -> Result<(), Fail> {
+    for (line, status) in VALUES.iter() {
+        assert!(rt; ends_with(rt.alloc(), line, *status)?, "at {line}");
+    }
+    Ok(())
+}
+
+/// Sizes of chunks and limits, and how a run with them ends.
+const COUNTS: [(&str, Status); 8] = [
+    ("a:Int32 --chunk 2", Status::NotCarried),
+    ("a:Int32 --chunk=18446744073709551615", Status::NotCarried),
+    ("a:Int32 --limit 3", Status::NotCarried),
+    ("a:Int32 --limit 0", Status::NotCarried),
+    ("a:Int32 --limit 000000000000000000003", Status::Words),
+    ("a:Int32 --chunk 0", Status::Argument),
+    ("a:Int32 --chunk 00", Status::Argument),
+    ("a:Int32 --chunk 0x2", Status::Words),
+];
+
+#[test]
+fn numbers_of_rows(rt: HostRuntime) -> Result<(), Fail> {
+    for (line, status) in COUNTS.iter() {
+        assert!(rt; ends_with(rt.alloc(), line, *status)?, "at {line}");
+    }
+    Ok(())
+}
+
+/// A file of the numbers 1 and 3 in a column of this name.
+fn named(alloc: Global, name: &'static str) -> Result<Vec<u8>, AllocError> {
+    let mut file = FileBuilder::new(
+        alloc,
+        Column {
+            name,
+            is_time: false,
+        },
+    )?;
+    file.add_plain(&[&[1, 3]], Some((1, 3)))?;
+    file.finish()
+}
+
+/// The report on both rows.
+const BOTH: &[u8] = b"\x00group 0 2 0+2\nchunk 2\n1\n3\n";
+
+/// The name of a column, what is asked of it, and the answer.
+const NAMES: [(&str, &str, &[u8]); 7] = [
+    ("x:y", "x:y:Int32 x:y>=2", BOTH),
+    ("x:y", "x:Int32", &[3]),
+    ("x:Int32", "x:Int32:Int32", BOTH),
+    (":", "::Int32 :<=0", b"\x00group 0 2 -\n"),
+    ("=>", "=>:Int32", BOTH),
+    ("a>=b", "a>=b:Int32", &[2]),
+    ("\u{e4}", "\u{e4}:Int32 \u{e4}<=1", BOTH),
+];
+
+#[test]
+fn names_with_signs(rt: HostRuntime) -> Result<(), Fail> {
+    for (name, line, report) in NAMES.iter() {
+        let file = named(rt.alloc(), *name)?;
+        let found = answer_on(rt.alloc(), line, &file)?;
+        assert_eq!(rt; found.as_slice(), *report, "at {line}");
+    }
+    Ok(())
+}
