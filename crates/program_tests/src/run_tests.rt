@@ -1,6 +1,6 @@
-//! Reports on files, requests that are refused, and bytes that lie.
+//! Reports on files, files that are refused, and bytes that lie.
 use crate::files::{F0, F1, F2, F3, F3_V2, PAIRS};
-use crate::running::{answer_to, changed, text_of};
+use crate::running::{changed, text_of};
 use pq_common::{Status, status_text};
 use std::alloc::{AllocError, Global};
 use std::test::*;
@@ -20,58 +20,7 @@ fn rows_of_groups_that_count(rt: HostRuntime) -> Result<(), Fail> {
 }
 
 #[test]
-fn words_that_spell_no_command(rt: HostRuntime) -> Result<(), Fail> {
-    let none = text_of(rt.alloc(), &[], &F1)?;
-    assert_eq!(rt; none.as_slice(), [2u8].as_slice());
-    let lines = [
-        "a:Int32 --chunk",
-        "a:Int32 --chunk --",
-        "a:Int32 --chunk=",
-        "a:Int32 --chunk=+5",
-        "a:Int32 --chunk 18446744073709551616",
-        "a:Int32 --limit -1",
-        "a:Int32 --summary --summary",
-        "a:Int32 --summary=true",
-        "a:Int32 --limit 5 --limit 6",
-        "a:Int32 -x",
-        "a:Int32 -",
-        "--help",
-        "a:Float32",
-        ":Int32",
-        "a",
-        "a:Int32 a>=x",
-        "a:Int32 a>=1 a>=2",
-        "a:Int32 a>=2147483648",
-        "b>=1 a:Int32",
-    ];
-    for line in lines {
-        let refused = answer_to(rt.alloc(), line)?;
-        assert_eq!(rt; refused.as_slice(), [Status::Words.number()].as_slice());
-    }
-    Ok(())
-}
-
-#[test]
-fn requests_that_are_refused(rt: HostRuntime) -> Result<(), Fail> {
-    let lines = [
-        ("--summary", Status::Argument),
-        ("b:Int32", Status::Argument),
-        ("a:Int32 a:Int32", Status::Argument),
-        ("a:Int32 --chunk 0", Status::Argument),
-        ("a:Utf8", Status::NotCarried),
-        (
-            "a:Decimal(38,0) a>=-170141183460469231731687303715884105728",
-            Status::NotCarried,
-        ),
-        (
-            "a:Decimal(38,0) a<=170141183460469231731687303715884105727",
-            Status::NotCarried,
-        ),
-    ];
-    for (line, status) in lines.iter() {
-        let refused = answer_to(rt.alloc(), line)?;
-        assert_eq!(rt; refused.as_slice(), [status.number()].as_slice());
-    }
+fn files_that_are_refused(rt: HostRuntime) -> Result<(), Fail> {
     let empty = text_of(rt.alloc(), &["x", "a:Utf8"], &F0)?;
     assert_eq!(rt; empty.as_slice(), [Status::NotCarried.number()].as_slice());
     let short = text_of(rt.alloc(), &["x", "a:Int32"], &F0[..11])?;
@@ -79,20 +28,6 @@ fn requests_that_are_refused(rt: HostRuntime) -> Result<(), Fail> {
     let compressed = changed(rt.alloc(), &F1, &[(83, 0x02)])?;
     let codec = text_of(rt.alloc(), &["x", "a:Int32"], &compressed)?;
     assert_eq!(rt; codec.as_slice(), [Status::NotCarried.number()].as_slice());
-    Ok(())
-}
-
-#[test]
-fn words_in_other_places(rt: HostRuntime) -> Result<(), Fail> {
-    let rows = b"\x00group 0 5 0+5\nchunk 5\n10\n12\n15\n18\n20\n".as_slice();
-    for line in [
-        "-- a:Int32",
-        "a>=12 a:Int32 -- a<=18",
-        "a:Int32 a>=-2147483648 a<=2147483647",
-    ] {
-        let found = answer_to(rt.alloc(), line)?;
-        assert_eq!(rt; found.as_slice(), rows);
-    }
     Ok(())
 }
 

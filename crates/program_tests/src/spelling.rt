@@ -1,5 +1,6 @@
-//! Types, values and names as words spell them, each asked of the first file.
-use crate::running::{answer_on, answer_to};
+//! Options, types, values and names as words spell them, each asked of the first file.
+use crate::files::F1;
+use crate::running::{answer_on, answer_to, text_of};
 use crate::written::{Column, FileBuilder};
 use pq_common::Status;
 use std::alloc::{AllocError, Global};
@@ -10,6 +11,9 @@ fn ends_with(alloc: Global, line: &str, status: Status) -> Result<bool, Fail> {
     let found = answer_to(alloc, line)?;
     Ok(found.as_slice() == [status.number()].as_slice())
 }
+
+/// The report on the rows of the first file as numbers, behind the status.
+const NUMBERS: &[u8] = b"\x00group 0 5 0+5\nchunk 5\n10\n12\n15\n18\n20\n";
 
 /// What may be asked of a column of numbers of 32 bits, and gives the numbers themselves.
 const READ: [&str; 13] = [
@@ -30,10 +34,9 @@ const READ: [&str; 13] = [
 
 #[test]
 fn types_that_the_column_is_read_as(rt: HostRuntime) -> Result<(), Fail> {
-    let rows = b"\x00group 0 5 0+5\nchunk 5\n10\n12\n15\n18\n20\n".as_slice();
     for line in READ.iter() {
         let found = answer_to(rt.alloc(), line)?;
-        assert_eq!(rt; found.as_slice(), rows, "at {line}");
+        assert_eq!(rt; found.as_slice(), NUMBERS, "at {line}");
     }
     let nulls = answer_to(rt.alloc(), "a:Null")?;
     assert_eq!(rt;
@@ -85,7 +88,7 @@ const OTHERS: [&str; 29] = [
 const NO_TYPES: [&str; 25] = [
     "",
     "int32",
-    "Float64",
+    "Float32",
     "Decimal256(9,2)",
     "Time32",
     "Time32()",
@@ -235,7 +238,7 @@ fn numbers_at_the_ends_of_their_types(rt: HostRuntime) -> Result<(), Fail> {
 }
 
 /// Ends of bounds, and how a run with them ends.
-const VALUES: [(&str, Status); 33] = [
+const VALUES: [(&str, Status); 34] = [
     // At most 39 digits.
     (
         "a:Decimal(9,2) a>=000000000000000000000000000000000000001",
@@ -257,6 +260,7 @@ const VALUES: [(&str, Status); 33] = [
         "a:Int32 a>=0000000000000000000000000000000000000012",
         Status::Words,
     ),
+    ("a:Int32 a>=x", Status::Words),
     ("a:Int32 a>=", Status::Words),
     ("a:Int32 a>=-", Status::Words),
     ("a:Int32 a>=+1", Status::Words),
@@ -301,22 +305,61 @@ fn values_of_each_kind(rt: HostRuntime) -> Result<(), Fail> {
     Ok(())
 }
 
-/// Sizes of chunks and limits, and how a run with them ends.
-const COUNTS: [(&str, Status); 8] = [
+/// Options, fields and names of bounds, and how a run with them ends.
+const COMMANDS: [(&str, Status); 29] = [
     ("a:Int32 --chunk 2", Status::NotCarried),
     ("a:Int32 --chunk=18446744073709551615", Status::NotCarried),
-    ("a:Int32 --limit 3", Status::NotCarried),
-    ("a:Int32 --limit 0", Status::NotCarried),
-    ("a:Int32 --limit 000000000000000000003", Status::Words),
     ("a:Int32 --chunk 0", Status::Argument),
     ("a:Int32 --chunk 00", Status::Argument),
+    ("a:Int32 --chunk", Status::Words),
+    ("a:Int32 --chunk --", Status::Words),
+    ("a:Int32 --chunk=", Status::Words),
+    ("a:Int32 --chunk=+5", Status::Words),
     ("a:Int32 --chunk 0x2", Status::Words),
+    ("a:Int32 --chunk 18446744073709551616", Status::Words),
+    ("a:Int32 --limit 3", Status::NotCarried),
+    ("a:Int32 --limit 0", Status::NotCarried),
+    ("a:Int32 --limit -1", Status::Words),
+    ("a:Int32 --limit 000000000000000000003", Status::Words),
+    ("a:Int32 --limit 5 --limit 6", Status::Words),
+    ("a:Int32 --summary --summary", Status::Words),
+    ("a:Int32 --summary=true", Status::Words),
+    ("a:Int32 -x", Status::Words),
+    ("a:Int32 -", Status::Words),
+    ("--help", Status::Words),
+    ("--summary", Status::Argument),
+    ("b:Int32", Status::Argument),
+    ("a:Int32 a:Int32", Status::Argument),
+    (":Int32", Status::Words),
+    ("a", Status::Words),
+    ("a:Int32 a>=1 a>=2", Status::Words),
+    ("a:Int32 b>=1", Status::Words),
+    ("a:Int32 >=1", Status::Words),
+    ("a>=1", Status::Words),
 ];
 
 #[test]
-fn numbers_of_rows(rt: HostRuntime) -> Result<(), Fail> {
-    for (line, status) in COUNTS.iter() {
+fn options_fields_and_names(rt: HostRuntime) -> Result<(), Fail> {
+    for (line, status) in COMMANDS.iter() {
         assert!(rt; ends_with(rt.alloc(), line, *status)?, "at {line}");
+    }
+    let no_word = text_of(rt.alloc(), &[], &F1)?;
+    assert_eq!(rt; no_word.as_slice(), [Status::Words.number()].as_slice());
+    let no_item = text_of(rt.alloc(), &["x"], &F1)?;
+    assert_eq!(rt; no_item.as_slice(), [Status::Argument.number()].as_slice());
+    Ok(())
+}
+
+#[test]
+fn words_in_other_places(rt: HostRuntime) -> Result<(), Fail> {
+    for line in [
+        "-- a:Int32",
+        "a>=12 a:Int32 -- a<=18",
+        "a:Int32 a>=-2147483648 a<=2147483647",
+        "a:Int32 a>=000000000000000000000000000000000000012",
+    ] {
+        let found = answer_to(rt.alloc(), line)?;
+        assert_eq!(rt; found.as_slice(), NUMBERS, "at {line}");
     }
     Ok(())
 }
