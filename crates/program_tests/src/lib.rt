@@ -2,4 +2,18 @@
 #![tactic(auto)]
 
 #[cfg(test)]
+mod edges;
+#[cfg(test)]
+mod files;
+#[cfg(test)]
+mod groups;
+#[cfg(test)]
+mod refused;
+#[cfg(test)]
 mod run_tests;
+#[cfg(test)]
+mod running;
+#[cfg(test)]
+mod spelling;
+#[cfg(test)]
+mod written;

@@ -1,4 +1,4 @@
-use Rattle.program_tests.proofs.run_tests.run_on.Given as goal
+use Rattle.program_tests.proofs.running.run_on.Given as goal
 
 abbrev pub ghosts-run_counted : goal.ghosts-run_counted
 ghosts-run_counted g a = record { name = a.blank.name; parts = a.blank.parts }
