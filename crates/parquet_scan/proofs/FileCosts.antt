@@ -1,5 +1,5 @@
 -- What a scan costs in all, by the groups of the file.
-use Rattle.std.proofs.Common.{◌≡◌, ℕ, suc, get_or, ◌+◌, ◌<◌, ◌≤◌, Bool, true, false, cond, List, [], ◌∷◌, length, map, refl, sym, subst, ◌∙◌, ap, arith}
+use Rattle.std.proofs.Common.{◌≡◌, ℕ, suc, ◌+◌, ◌≤◌, Bool, true, false, cond, List, [], ◌∷◌, length, map, refl, sym, subst, ◌∙◌, ap, arith}
 use Rattle.std.specs.Prelude.{All, Option, Some, None, option_map, sum_by, filter, zip, ◌&&◌, nat_lt, IfSome, IfOk, OnOk, IsTrue, Result, Ok, Err, if◌then◌else◌}
 use Rattle.std.specs.List.{AllZip}
 use Rattle.std.proofs.lemmas.List.Sums.{sum_by-cons}
@@ -16,7 +16,7 @@ use Rattle.parquet_scan.specs.Counting.{are_pruned, column_taken, columns_taken,
 use Rattle.parquet_scan.specs.Request.{Request, is_legal}
 use Rattle.parquet_scan.specs.Rows.{File, file_of, file_with, first_rows, gives_rows, group_counts, groups_read, intervals, kept, kept_rows, prunes_pages}
 use Rattle.parquet_scan.specs.Scan.{HoldsMet, IsSound, OnFile, RisesBy, kept_groups}
-use Rattle.parquet_scan.specs.Truth.{KeepsMet, LosesNoRow, MeetsAll}
+use Rattle.parquet_scan.specs.Truth.{KeepsMet, LosesNoRow}
 use Rattle.parquet_scan.specs.declared.scanning.GroupKept.{GroupKept}
 use Rattle.parquet_scan.proofs.FileLemmas.{built_limit}
 use Rattle.parquet_scan.proofs.KeptLemmas.{one_group}

@@ -1,5 +1,5 @@
 -- What is wrong with a whole file, put together from its metadata and its groups.
-use Rattle.std.proofs.Common.{◌≡◌, ℕ, ◌≤◌, Bool, true, false, cond, not, List, [], ◌∷◌, ◌++◌, map, refl, sym, subst, ◌∙◌, ap, arith, inl, inr}
+use Rattle.std.proofs.Common.{◌≡◌, ℕ, Bool, true, false, cond, not, List, [], ◌∷◌, ◌++◌, map, refl, sym, subst, ◌∙◌, ap, inl, inr}
 use Rattle.std.specs.Prelude.{Option, Some, None, zip, filter, is_some, option_map, ◌&&◌, IfSome, IfOk, IfErr, OnOk, Result, Ok, Err, Contains, if◌then◌else◌}
 use Rattle.std.specs.List.{flat_map, list_all}
 use Rattle.std.specs.Option.{option_map_or}

@@ -1,5 +1,5 @@
 -- The pages of a column as its indexes tell of them.
-use Rattle.std.specs.Prelude.{ℕ, ℤ, Bool, true, false, ◌==◌, List, [], length, map, zip, unwrap_or, Option, Some, None, is_some, option_map}
+use Rattle.std.specs.Prelude.{ℕ, ℤ, Bool, true, false, ◌==◌, List, [], length, map, zip, unwrap_or, Option, None, is_some, option_map}
 use Rattle.std.specs.Option.{option_map_or}
 use Rattle.columns_core.specs.Causes.{Cause, ExternalFormat, NotYetImplemented, and_then, unless}
 use Rattle.parquet_base.specs.Intervals.{is_kept_page}

@@ -1,5 +1,5 @@
 use Rattle.std.proofs.Common.{◌≡◌, ◌-◌, ◌<◌, ◌^◌, ◌∙◌, [], ap, length, map, sym, subst, Bool, List, ℕ}
-use Rattle.std.specs.Prelude.{Option, IfSome, IfOk, IfErr, IsTrue, OnOk, min}
+use Rattle.std.specs.Prelude.{Option, IfSome, IfOk, IfErr, OnOk, min}
 use Rattle.std.proofs.lemmas.Result.{err_from_is_err_and}
 use Rattle.columns_core.specs.declared.data_type.Field.{Field}
 use Rattle.parquet_meta.specs.declared.metadata.RowGroupMetaData.{RowGroupMetaData}
