@@ -81,7 +81,7 @@ pub record Answers (request : Request) (told : Option (List ℕ)) (scan : Scan) 
   pub rows : OnFile told (λ file. scan.rows ≡ given_count request file)
   -- Where the statistics of a group are true, none of its rows that meets all bounds lies outside its runs.
   pub sound : OnFile told (λ file. IsSound request file (map kept_of scan.kept))
-  -- So it is with a source that does not tell its bytes.
+  -- This holds even over a source that does not tell its bytes.
   pub apart : All IsApart scan.kept
   pub even : All AreEqualLengths scan.chunks
   pub own_rows : scan.rows ≡ rows_in scan.chunks

@@ -38,12 +38,15 @@ pub struct Scan {
     /// One for each row group of the file.
     pub kept: Seq<GroupKept>,
     pub chunks: Seq<Chunk>,
-    /// How many pages were lent, at most `usize::MAX`.
+    /// The steps that were spent, one where a page is lent; at most `usize::MAX`.
     pub pages: usize,
 }
 
-/// The rows of the schema's fields that no bound rules out by statistics, the first `limit` of them, in
-/// chunks of `chunk_size` rows.
+/// The rows of the schema's fields that no bound rules out by statistics, a chunk for each row group that gives some. A `chunk_size` and
+/// a `limit` of rows are not carried yet.
+///
+/// `InvalidArgumentError` where the request is not legal on the file, `Io` where a read failed, and other errors by what
+/// the file has.
 pub fn scan_where<S: Source, L: Ledger>(
     alloc: Global,
     source: &mut S,
@@ -58,7 +61,7 @@ pub fn scan_where<S: Source, L: Ledger>(
         IfOk result (Answers request (S.told source.old)) }
     ensures refuses { let request = request_of schema.now bounds.now chunk_size limit in
         IfErr result (Refuses request (S.told source.old) (S.faults source.old) (S.faults source.new)) }
-    // What it costs: a step for each page that is lent, and bytes.
+    // What it costs: steps, one where a page is lent, and bytes.
     ensures ticks { steps.old ≤ steps.new }
     ensures pages { IfOk result (λ scan. scan.pages ≡ min (steps.new - steps.old) (2 ^ 64 - 1)) }
     ensures most_pages { let request = request_of schema.now bounds.now chunk_size limit in
