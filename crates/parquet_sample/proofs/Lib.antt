@@ -1,2 +1,3 @@
 mod Examples
 pub mod RangeLemmas
+pub mod LevelLemmas

@@ -3,5 +3,6 @@
 
 mod body;
 mod cell;
+mod levels;
 
 pub use cell::sample_cell;
