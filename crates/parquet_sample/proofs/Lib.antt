@@ -1,3 +1,4 @@
 mod Examples
 pub mod RangeLemmas
 pub mod LevelLemmas
+pub mod ItemLemmas

@@ -3,6 +3,8 @@
 
 mod body;
 mod cell;
+mod column;
 mod levels;
+mod page_body;
 
 pub use cell::sample_cell;
