@@ -12,12 +12,12 @@ use Rattle.parquet_plain.specs.Structs.{footer_bytes}
 use Rattle.parquet_plain.proofs.CanLemmas.{AllFit, GroupsFit, footer-can}
 use Rattle.parquet_plain.proofs.EndLemmas.{IsWritable}
 use Rattle.parquet_plain.proofs.PlaceLemmas.{Lies, AreAt, others_are, all_stand, parts_are}
-use Rattle.parquet_plain.specs.Fits.{FitsChunks, FitsFile, FitsGroups}
+use Rattle.parquet_plain.specs.Fits.{FitsPlainChunks, FitsFile, FitsPlainGroups}
 
 lies-bound : (file : List ℕ) (place : ℕ) (own : List ℕ) → Lies file place own → place + length own ≤ length file
 lies-bound file place own lies = omega (arith, ap length lies.is, lies.at, length-append lies.before (own ++ lies.after), length-append own lies.after)
 
-all_fit : (file : List ℕ) (at : Starts) (chunks others : List PlainChunk) → length file < 2 ^ 63 → AreAt file at (chunks ++ others) → FitsChunks at chunks → AllFit at chunks
+all_fit : (file : List ℕ) (at : Starts) (chunks others : List PlainChunk) → length file < 2 ^ 63 → AreAt file at (chunks ++ others) → FitsPlainChunks at chunks → AllFit at chunks
 all_fit file at [] others short are tested = tt
 all_fit file at (chunk ∷ chunks) others short are tested =
     let own = lies-bound file at.chunk (data_bytes (chunk ∷ (chunks ++ others))) are.chunks_lie in
@@ -54,7 +54,7 @@ group-few [] at chunks = omega arith
 group-few (descriptor ∷ descriptors) at [] = omega arith
 group-few (descriptor ∷ descriptors) at (chunk ∷ chunks) = omega (arith, group-few descriptors (behind at chunk) chunks)
 
-groups_fit : (file : List ℕ) (columns : List PlainColumn) (at : Starts) (groups : List PlainGroup) → length file < 2 ^ 63 → length columns < 2 ^ 31 → AreAt file at (chunks_of groups) → FitsGroups at groups → GroupsFit columns at groups
+groups_fit : (file : List ℕ) (columns : List PlainColumn) (at : Starts) (groups : List PlainGroup) → length file < 2 ^ 63 → length columns < 2 ^ 31 → AreAt file at (chunks_of groups) → FitsPlainGroups at groups → GroupsFit columns at groups
 groups_fit file columns at [] short few are tested = tt
 groups_fit file columns at (group ∷ groups) short few are tested =
     let own = lies-bound file at.chunk (data_bytes (group.chunks ++ chunks_of groups)) are.chunks_lie in

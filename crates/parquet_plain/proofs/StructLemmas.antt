@@ -17,7 +17,7 @@ use Rattle.parquet_meta.specs.OffsetIndex.{location_field, location_of, location
 use Rattle.parquet_meta.specs.PageHeader.{data_field, data_of, data_header, header_field, header_of, header, page_header, page_type}
 use Rattle.parquet_meta.specs.declared.metadata.PageLocation.{PageLocation}
 use Rattle.parquet_plain.specs.Structs.{page_header_fields, page_header_bytes, location_value, offset_index_fields, offset_index_bytes, column_index_fields, column_index_bytes}
-use Rattle.parquet_plain.specs.Fits.{FitsIndex, FitsLocation, IsFew, IsShort}
+use Rattle.parquet_plain.specs.Fits.{FitsIndex, FitsLocation, IsFew, HasShortLength}
 use Rattle.parquet_plain.specs.Found.{plain_header}
 
 -- ---- any struct
@@ -108,11 +108,11 @@ counts-can [] all = can_none 6
 counts-can (x ∷ xs) all = can_one_more 6 (number (pos x)) (values_of number (map pos xs)) (can_i64_element x (All-head IsFew x xs all)) (counts-can xs (All-tail IsFew x xs all))
 
 column_index-can : (nulls : List Bool) (lows highs : List (List ℕ)) (counts : List ℕ) → length nulls < 2 ^ 64 → length lows ≡ length nulls → length highs ≡ length nulls → length counts ≡ length nulls →
-    All IsShort lows → All IsShort highs → All IsFew counts → CanWriteFields 0 (column_index_fields (index_with nulls lows highs (Some (map pos counts))))
+    All HasShortLength lows → All HasShortLength highs → All IsFew counts → CanWriteFields 0 (column_index_fields (index_with nulls lows highs (Some (map pos counts))))
 column_index-can nulls lows highs counts few l h c short_lows short_highs small =
     can_list 0 1 1 (values_of truth nulls) _ refl refl (rw (value_count-values truth nulls) few) (can_values (λ b. Unit {0}) 1 truth nulls (λ b t. can_truth_element b) (λ k d lt. tt))
-    (can_list 1 2 8 (values_of binary lows) _ refl refl (rw (value_count-values binary lows) (omega arith)) (can_values IsShort 8 binary lows (λ x s. can_bytes_element x s) short_lows)
-    (can_list 2 3 8 (values_of binary highs) _ refl refl (rw (value_count-values binary highs) (omega arith)) (can_values IsShort 8 binary highs (λ x s. can_bytes_element x s) short_highs)
+    (can_list 1 2 8 (values_of binary lows) _ refl refl (rw (value_count-values binary lows) (omega arith)) (can_values HasShortLength 8 binary lows (λ x s. can_bytes_element x s) short_lows)
+    (can_list 2 3 8 (values_of binary highs) _ refl refl (rw (value_count-values binary highs) (omega arith)) (can_values HasShortLength 8 binary highs (λ x s. can_bytes_element x s) short_highs)
     (can_i32 3 4 0 _ refl (omega arith)
     (can_list 4 5 6 (values_of number (map pos counts)) no_fields refl refl (rw (value_count-values number (map pos counts), length-map counts pos) (omega arith)) (counts-can counts small) (can_end 5)))))
 

@@ -71,12 +71,12 @@ locations_from start row [] = []
 locations_from start row (page ∷ pages) =
     record { offset = pos start; compressed_page_size = pos (length (page_bytes page)); first_row_index = pos row } ∷ locations_from (start + length (page_bytes page)) (row + page.rows) pages
 
-abbrev pub statistics_of : ℕ → Option Ends → StatisticsBytes
-statistics_of nulls None = record { null_count = Some (pos nulls); distinct_count = None; max_value = None; min_value = None }
-statistics_of nulls (Some ends) = record { null_count = Some (pos nulls); distinct_count = None; max_value = Some ends.greatest; min_value = Some ends.least }
+abbrev pub statistics_from : ℕ → Option Ends → StatisticsBytes
+statistics_from nulls None = record { null_count = Some (pos nulls); distinct_count = None; max_value = None; min_value = None }
+statistics_from nulls (Some ends) = record { null_count = Some (pos nulls); distinct_count = None; max_value = Some ends.greatest; min_value = Some ends.least }
 
 abbrev pub statistics_of_chunk : PlainChunk → StatisticsBytes
-statistics_of_chunk chunk = statistics_of chunk.nulls chunk.ends
+statistics_of_chunk chunk = statistics_from chunk.nulls chunk.ends
 
 abbrev pub descriptor_of : PlainColumn → ColumnDescriptor
 descriptor_of column = record { path_in_schema = column.name ∷ []; primitive_type = column.type; flat = true }

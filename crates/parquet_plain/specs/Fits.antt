@@ -16,8 +16,8 @@ use Rattle.parquet_plain.specs.File.{Starts, behind, behind_all, chunk_index_byt
 use Rattle.parquet_plain.specs.Structs.{footer_bytes, width_of}
 
 -- a length that stands in front of bytes
-abbrev pub IsShort : List ℕ → Type 0
-IsShort bytes = length bytes < 2 ^ 64
+abbrev pub HasShortLength : List ℕ → Type 0
+HasShortLength bytes = length bytes < 2 ^ 64
 
 -- a number that is not negative in 64 bits
 abbrev pub IsFew : ℕ → Type 0
@@ -35,7 +35,7 @@ pub record IsPlainColumn (column : PlainColumn) : Type 0 where
   pub typed : IsType column.type.physical_type
   pub flat : is_flat (column.name ∷ []) column.type.repetition ≡ true
   pub text : is_utf8 column.name ≡ true
-  pub short : IsShort column.name
+  pub short : HasShortLength column.name
   pub narrow : IfSome (width_of column.type.physical_type) (λ width. width < 2 ^ 31)
 
 -- ---- pages
@@ -93,8 +93,8 @@ pub record FitsIndex (nulls : List Bool) (lows highs : List (List ℕ)) (counts 
   pub lows_even : length lows ≡ length nulls
   pub highs_even : length highs ≡ length nulls
   pub counts_even : length counts ≡ length nulls
-  pub lows_short : All IsShort lows
-  pub highs_short : All IsShort highs
+  pub lows_short : All HasShortLength lows
+  pub highs_short : All HasShortLength highs
   pub counts_few : All IsFew counts
 
 -- ---- files
@@ -104,20 +104,20 @@ abbrev pub HasChunks : ℕ → PlainGroup → Type 0
 HasChunks columns group = length group.chunks ≡ columns
 
 -- the numbers of a chunk, places aside: those lie in the file
-pub record FitsChunk (at : Starts) (chunk : PlainChunk) : Type 0 where
+pub record FitsPlainChunk (at : Starts) (chunk : PlainChunk) : Type 0 where
   pub rows : IsFew (rows_of_chunk chunk)
   pub nulls : IsFew chunk.nulls
   pub index : length (chunk_index_bytes chunk) < 2 ^ 31
   pub locations : length (chunk_locations_bytes at.chunk chunk) < 2 ^ 31
-  pub ends : IfSome chunk.ends (λ ends. IsShort ends.least × IsShort ends.greatest)
+  pub ends : IfSome chunk.ends (λ ends. HasShortLength ends.least × HasShortLength ends.greatest)
 
-abbrev pub FitsChunks : Starts → List PlainChunk → Type 0
-FitsChunks at [] = Unit {0}
-FitsChunks at (chunk ∷ chunks) = FitsChunk at chunk × FitsChunks (behind at chunk) chunks
+abbrev pub FitsPlainChunks : Starts → List PlainChunk → Type 0
+FitsPlainChunks at [] = Unit {0}
+FitsPlainChunks at (chunk ∷ chunks) = FitsPlainChunk at chunk × FitsPlainChunks (behind at chunk) chunks
 
-abbrev pub FitsGroups : Starts → List PlainGroup → Type 0
-FitsGroups at [] = Unit {0}
-FitsGroups at (group ∷ groups) = FitsChunks at group.chunks × IsFew group.rows × FitsGroups (behind_all at group.chunks) groups
+abbrev pub FitsPlainGroups : Starts → List PlainGroup → Type 0
+FitsPlainGroups at [] = Unit {0}
+FitsPlainGroups at (group ∷ groups) = FitsPlainChunks at group.chunks × IsFew group.rows × FitsPlainGroups (behind_all at group.chunks) groups
 
 pub record FitsFile (file : PlainFile) : Type 0 where
   pub columns : All IsPlainColumn file.columns
@@ -125,6 +125,6 @@ pub record FitsFile (file : PlainFile) : Type 0 where
   pub chunks : All (HasChunks (length file.columns)) file.groups
   pub groups : length file.groups < 2 ^ 64
   pub rows : IsFew (sum_by (λ (group : PlainGroup). group.rows) file.groups)
-  pub numbers : FitsGroups (first_starts (chunks_of file.groups)) file.groups
+  pub numbers : FitsPlainGroups (first_starts (chunks_of file.groups)) file.groups
   pub footer : length (footer_bytes (meta_data_of_plain file)) < 2 ^ 32
   pub size : length (plain_file file) < 2 ^ 63

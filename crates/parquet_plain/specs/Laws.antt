@@ -2,6 +2,7 @@
 use Rattle.std.specs.Prelude.{◌≡◌, ◌<◌, ◌++◌, ◌^◌, ℕ, ℤ, Bool, true, List, ◌∷◌, Option, Some, All, FitsSigned, length, map, pos, sum_by}
 use Rattle.std.specs.Int.{w32, w64, cast_unsigned}
 use Rattle.std.specs.List.{flat_map}
+use Rattle.parquet_base.specs.Pieces.{cut}
 use Rattle.parquet_meta.specs.ColumnIndex.{column_index_in, index_with}
 use Rattle.parquet_meta.specs.File.{footer}
 use Rattle.parquet_meta.specs.OffsetIndex.{locations_in}
@@ -9,7 +10,7 @@ use Rattle.parquet_meta.specs.PageHeader.{page_header}
 use Rattle.parquet_meta.specs.StoredEnds.{int32_end, int64_end}
 use Rattle.parquet_meta.specs.declared.metadata.PageLocation.{PageLocation}
 use Rattle.parquet_meta.specs.declared.metadata.PrimitiveType.{PrimitiveType}
-use Rattle.parquet_page.specs.Chunk.{chunk_pages, pages_of_chunk}
+use Rattle.parquet_page.specs.Chunk.{NoDictionary, chunk_dictionary, chunk_pages, pages_of_chunk}
 use Rattle.parquet_page.specs.Content.{header_values}
 use Rattle.parquet_page.specs.Locations.{has_shape, page_intervals}
 use Rattle.parquet_page.specs.Spelling.{spelled}
@@ -53,6 +54,10 @@ PartsStand = (file : PlainFile) → GroupsStand (plain_file file) (first_starts 
 abbrev pub PagesAreRead : Type 0
 PagesAreRead = (pages : List PlainPage) → All FitsPage pages → chunk_pages (rows_of_pages pages) (flat_map page_bytes pages) ≡ whole_walk pages
 
+-- a chunk has no dictionary
+abbrev pub HaveNoDictionary : Type 0
+HaveNoDictionary = (pages : List PlainPage) → All FitsPage pages → chunk_dictionary (flat_map page_bytes pages) ≡ NoDictionary
+
 -- the locations that are written are where the pages stand, also in a chunk that begins at a place
 abbrev pub LocationsAreTrue : Type 0
 LocationsAreTrue =
@@ -83,6 +88,13 @@ abbrev pub BodiesSpell : Type 0
 BodiesSpell =
     (type : PrimitiveType) (items : List (Option Stored)) (dictionary : Option (List Stored)) → FitsItems type items → HasPlaces type.repetition items →
     spelled (plain_content type items) dictionary ≡ Some items
+
+-- items in pages of a size: all of them, in order
+abbrev pub PiecesAreWhole : Type 0
+PiecesAreWhole = (size : ℕ) (items : List (Option Stored)) → 0 < size → flat_map (λ piece. piece) (cut (Some size) items) ≡ items
+
+abbrev pub PiecesCountAll : Type 0
+PiecesCountAll = (size : ℕ) (items : List (Option Stored)) → 0 < size → sum_by length (cut (Some size) items) ≡ length items
 
 -- ---- ends
 

@@ -2,7 +2,7 @@
 ghost use Rattle.parquet_plain.specs.Laws.{BodiesSpell, CountsAreTrue, EndsAreRead, EndsBound};
 ghost use Rattle.parquet_plain.specs.Laws.{FootersAreRead, HeadersAreRead, IndexesAreRead, LocationsAreRead};
 ghost use Rattle.parquet_plain.specs.Laws.{LocationsAreTrue, LocationsHaveShape, PagesAreLocated, PagesAreRead};
-ghost use Rattle.parquet_plain.specs.Laws.{PartsStand, RowsAreDivided};
+ghost use Rattle.parquet_plain.specs.Laws.{HaveNoDictionary, PartsStand, PiecesAreWhole, PiecesCountAll, RowsAreDivided};
 ghost use Rattle.parquet_plain.specs.Orders.{IsNumber, numbers_at_most};
 
 /// Page headers and indexes are read back from their bytes, whatever stands behind them.
@@ -21,6 +21,7 @@ pub fn files_are_read_back()
 /// The pages of a chunk are read back, in order and by their locations.
 pub fn pages_are_read_back()
     ensures pages { PagesAreRead }
+    ensures dictionary { HaveNoDictionary }
     ensures counts { CountsAreTrue }
     ensures locations { LocationsAreTrue }
     ensures shape { LocationsHaveShape }
@@ -31,6 +32,12 @@ pub fn pages_are_read_back()
 /// The body of a page spells the items that it was written from.
 pub fn bodies_are_read_back()
     ensures { BodiesSpell }
+{}
+
+/// The pages of a column hold all its items, in order.
+pub fn pages_hold_all_items()
+    ensures whole { PiecesAreWhole }
+    ensures count { PiecesCountAll }
 {}
 
 /// The ends of items are bounds of all of them, and numbers are read back from their ends.

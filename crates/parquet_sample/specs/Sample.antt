@@ -26,14 +26,14 @@ name_text n = 114 ∷ decimal n
 
 -- ---- items
 
-abbrev pub id_of : ℕ → Option Stored
-id_of n = Some (Number (pos n))
+abbrev pub id_item : ℕ → Option Stored
+id_item n = Some (Number (pos n))
 
-abbrev pub qty_of : ℕ → Option Stored
-qty_of n = if is_absent n then None else Some (Number (pos (quantity n)))
+abbrev pub qty_item : ℕ → Option Stored
+qty_item n = if is_absent n then None else Some (Number (pos (quantity n)))
 
-abbrev pub text_of : ℕ → Option Stored
-text_of n = Some (Octets (name_text n))
+abbrev pub name_item : ℕ → Option Stored
+name_item n = Some (Octets (name_text n))
 
 -- ---- columns
 
@@ -73,7 +73,7 @@ sample_columns = id_column ∷ qty_column ∷ name_column ∷ []
 
 -- the items of rows with these numbers
 abbrev pub rows_of_numbers : List ℕ → Rows
-rows_of_numbers numbers = record { count = length numbers; items = map id_of numbers ∷ map qty_of numbers ∷ map text_of numbers ∷ [] }
+rows_of_numbers numbers = record { count = length numbers; items = map id_item numbers ∷ map qty_item numbers ∷ map name_item numbers ∷ [] }
 
 abbrev pub group_rows : ℕ
 group_rows = 20000
@@ -82,15 +82,11 @@ group_rows = 20000
 unfoldable pub sample : ℕ → ℕ → List ℕ
 sample rows seed = plain_file (written_file sample_columns (map rows_of_numbers (cut (Some group_rows) (range_with_len seed rows))))
 
--- the most rows of a sample
-abbrev pub most_rows : ℕ
-most_rows = 2000000
-
 -- ---- cells
 
 -- the cell of a column by the number of its row
-abbrev pub cell_of : ℕ → ℕ → Cell
-cell_of column n =
+abbrev pub sample_cell_at : ℕ → ℕ → Cell
+sample_cell_at column n =
     if column == 0 then Int (pos n)
     else (if column == 1 then (if is_absent n then Null else Int (pos (quantity n)))
     else Text (name_text n))

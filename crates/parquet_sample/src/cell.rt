@@ -2,7 +2,7 @@
 
 ghost use Rattle.std.specs.Prelude.{◌≡◌, ◌<◌, ◌+◌, string_bytes, IfErr, IfOk};
 ghost use Rattle.columns_core.specs.declared.error.Error.TheVariants.{OutOfMemory};
-ghost use Rattle.parquet_sample.specs.Sample.{cell_of, name_text};
+ghost use Rattle.parquet_sample.specs.Sample.{sample_cell_at, name_text};
 
 use columns_core::{Cell, Error, Name};
 use itoa::Buffer;
@@ -22,7 +22,7 @@ fn name_of(alloc: Global, number: u64) -> Result<String, AllocError>
 /// The cell of a row in one of the three columns.
 pub fn sample_cell(alloc: Global, seed: u32, column: usize, row: u32) -> Result<Cell, Error>
     requires { column < 3 }
-    ensures cell { IfOk result (λ cell. cell ≡ cell_of column (seed + row)) }
+    ensures cell { IfOk result (λ cell. cell ≡ sample_cell_at column (seed + row)) }
     ensures memory { IfErr result (λ e. e ≡ OutOfMemory) }
 {
     let number = u64::from(seed) + u64::from(row);

@@ -10,7 +10,7 @@ use Rattle.parquet_meta.specs.declared.metadata.ColumnDescriptor.{ColumnDescript
 use Rattle.parquet_meta.specs.declared.metadata.FileMetaData.{FileMetaData}
 use Rattle.parquet_meta.specs.declared.metadata.PageLocation.{PageLocation}
 use Rattle.parquet_meta.specs.declared.metadata.RowGroupMetaData.{RowGroupMetaData}
-use Rattle.parquet_plain.specs.Description.{PlainChunk, chunk_bytes, greatest_of, least_of, rows_of_chunk, statistics_of}
+use Rattle.parquet_plain.specs.Description.{PlainChunk, chunk_bytes, greatest_of, least_of, rows_of_chunk, statistics_from}
 use Rattle.parquet_plain.specs.File.{Starts, behind, chunk_index_bytes, chunk_locations_bytes, tail_bytes}
 use Rattle.parquet_plain.specs.Structs.{chunk_value, footer_bytes, group_value, location_value, meta_data_fields, statistics_fields}
 use Rattle.parquet_plain.specs.declared.ends.Ends.{Ends}
@@ -85,7 +85,7 @@ column_told descriptor bases chunk = record {
   total_compressed_size = chunk.size;
   data_page_offset = chunk.start;
   dictionary_page_offset = None;
-  statistics_bytes = Some (statistics_of chunk.nulls chunk.ends);
+  statistics_bytes = Some (statistics_from chunk.nulls chunk.ends);
   offset_index = Some (record { offset = bases.locations + chunk.locations; length = chunk.locations_size });
   column_index = Some (record { offset = bases.indexes + chunk.index; length = chunk.index_size });
   column_index_offset = Some (bases.indexes + chunk.index);
@@ -113,7 +113,7 @@ HasColumns columns group = length group.chunks ≡ columns
 -- ---- the bytes of groups
 
 abbrev pub statistics_bytes : ℕ → Option Ends → List ℕ
-statistics_bytes nulls ends = fields_bytes 0 (statistics_fields (statistics_of nulls ends))
+statistics_bytes nulls ends = fields_bytes 0 (statistics_fields (statistics_from nulls ends))
 
 abbrev pub meta_data_bytes : ColumnDescriptor → Bases → ChunkFacts → List ℕ
 meta_data_bytes column bases chunk = fields_bytes 0 (meta_data_fields (column_told column bases chunk))

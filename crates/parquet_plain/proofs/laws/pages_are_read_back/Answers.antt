@@ -8,7 +8,7 @@ use Rattle.parquet_plain.specs.Description.{PlainPage, locations_from, page_byte
 use Rattle.parquet_plain.specs.Fits.{FitsPage}
 use Rattle.parquet_plain.specs.Found.{AllLocated, intervals_from, location_met}
 use Rattle.parquet_plain.proofs.LocatedLemmas.{all_located, has_shape-written, page_intervals-written}
-use Rattle.parquet_plain.proofs.PageLemmas.{chunk_pages-written, counts-true, locations-true, pages_of_chunk-written}
+use Rattle.parquet_plain.proofs.PageLemmas.{chunk_pages-written, chunk_dictionary-written, counts-true, locations-true, pages_of_chunk-written}
 use Rattle.parquet_plain.proofs.laws.pages_are_read_back.Goals as goal
 
 counts : (pages : List PlainPage) → All FitsPage pages → sum_by (λ (placed : PlacedPage). header_values placed.page.header) (pages_of_chunk (rows_of_pages pages) (flat_map page_bytes pages)) ≡ rows_of_pages pages
@@ -30,4 +30,4 @@ found start pages all =
     subst (λ (n : ℕ). AllLocated start (flat_map page_bytes pages) n 0 pages) here (all_located start 0 [] pages all)
 
 pub returns : goal.returns
-returns c = record { pages = chunk_pages-written; counts = counts; locations = places; shape = has_shape-written; rows = rows; located = found }
+returns c = record { pages = chunk_pages-written; dictionary = chunk_dictionary-written; counts = counts; locations = places; shape = has_shape-written; rows = rows; located = found }

@@ -4,7 +4,7 @@ use Rattle.compact_write.specs.Fields.{values_of}
 use Rattle.compact_write.specs.Written.{elements_bytes, fields_bytes, value_count}
 use Rattle.compact_write.proofs.FieldLemmas.{value_count-values}
 use Rattle.parquet_meta.specs.declared.metadata.ColumnChunkMetaData.{ColumnChunkMetaData}
-use Rattle.parquet_plain.specs.Description.{statistics_of}
+use Rattle.parquet_plain.specs.Description.{statistics_from}
 use Rattle.parquet_plain.specs.Structs.{encodings_of, meta_data_fields, statistics_fields}
 use Rattle.parquet_write.specs.Told.{column_told}
 use Rattle.parquet_write.proofs.StepLemmas.{ends, large, list_begins, part, small, struct_begins}
@@ -28,6 +28,6 @@ returns c =
     let s8 = large 5 6 _ _ _ _ _ whole refl s7 c.in_ok-write_measure-2.ensures.written in
     let s9 = large 6 7 _ _ _ _ _ whole refl s8 c.in_ok-write_measure-3.ensures.written in
     let s10 = large 7 9 _ _ _ _ _ whole refl s9 c.in_ok-write_measure-4.ensures.written in
-    let s11 = struct_begins 9 12 (statistics_fields (statistics_of c.args.chunk.now.nulls c.args.chunk.now.ends)) _ _ _ whole s10 c.in_ok-write_struct_start.ensures.written in
-    let s12 = part (fields_bytes 0 (statistics_fields (statistics_of c.args.chunk.now.nulls c.args.chunk.now.ends))) _ _ _ whole s11 c.in_ok-write_statistics.ensures.written in
+    let s11 = struct_begins 9 12 (statistics_fields (statistics_from c.args.chunk.now.nulls c.args.chunk.now.ends)) _ _ _ whole s10 c.in_ok-write_struct_start.ensures.written in
+    let s12 = part (fields_bytes 0 (statistics_fields (statistics_from c.args.chunk.now.nulls c.args.chunk.now.ends))) _ _ _ whole s11 c.in_ok-write_statistics.ensures.written in
     record { written = ends 12 _ _ whole s12 c.in_ok-write_end.ensures.written }
