@@ -1,3 +1,4 @@
 pub mod Sample
 pub mod Rows
 pub mod Writing
+pub mod Ends

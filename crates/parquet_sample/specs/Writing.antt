@@ -6,7 +6,7 @@ use Rattle.parquet_page.specs.Stored.{Stored}
 use Rattle.parquet_plain.specs.Bodies.{level_bytes}
 use Rattle.parquet_plain.specs.Columns.{Written}
 use Rattle.parquet_sample.specs.Rows.{are_present, id_bytes, qty_bytes, text_bytes}
-use Rattle.parquet_sample.specs.Sample.{id_column, id_of, name_column, qty_column, qty_of, text_of}
+use Rattle.parquet_sample.specs.Sample.{id_column, id_item, name_column, qty_column, qty_item, name_item}
 use Rattle.parquet_sample.specs.declared.column.SampleColumn.{SampleColumn}
 use Rattle.parquet_sample.specs.declared.column.SampleColumn.TheVariants.{Id, Qty, Name}
 
@@ -16,9 +16,9 @@ written_of Qty = qty_column
 written_of Name = name_column
 
 abbrev pub item_of : SampleColumn → ℕ → Option Stored
-item_of Id n = id_of n
-item_of Qty n = qty_of n
-item_of Name n = text_of n
+item_of Id n = id_item n
+item_of Qty n = qty_item n
+item_of Name n = name_item n
 
 -- the items of rows from one on
 abbrev pub items_from : SampleColumn → ℕ → ℕ → List (Option Stored)

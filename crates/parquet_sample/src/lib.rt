@@ -5,6 +5,7 @@ mod body;
 mod cell;
 mod column;
 mod levels;
+mod number_ends;
 mod page_body;
 
 pub use cell::sample_cell;

@@ -1,0 +1,32 @@
+-- The least and the greatest of items, an item at a time.
+use Rattle.std.specs.Prelude.{ℕ, pos, Bool, List, [], ◌∷◌, Option, Some, None}
+use Rattle.parquet_meta.specs.declared.metadata.PhysicalType.{PhysicalType}
+use Rattle.parquet_page.specs.Stored.{Stored, Number}
+use Rattle.parquet_plain.specs.Columns.{end_bytes, first_of, last_of}
+use Rattle.parquet_plain.specs.Orders.{numbers_at_most}
+use Rattle.parquet_plain.specs.declared.ends.Ends.{Ends}
+use Rattle.parquet_sample.specs.declared.number_ends.NumberEnds.{NumberEnds}
+
+-- none, or the least and the greatest
+abbrev pub Bounds : Type 0
+Bounds = Option (Stored × Stored)
+
+abbrev pub with_item : (Stored → Stored → Bool) → Bounds → Stored → Stored × Stored
+with_item at_most None item = (item, item)
+with_item at_most (Some bounds) item = (first_of at_most bounds.0 item, last_of at_most bounds.1 item)
+
+abbrev pub bounds_after : (Stored → Stored → Bool) → Bounds → List Stored → Bounds
+bounds_after at_most bounds [] = bounds
+bounds_after at_most bounds (item ∷ items) = bounds_after at_most (Some (with_item at_most bounds item)) items
+
+abbrev pub numbers_after : Bounds → List Stored → Bounds
+numbers_after bounds items = bounds_after numbers_at_most bounds items
+
+-- as they are stored
+abbrev pub ends_by : PhysicalType → Bounds → Option Ends
+ends_by type None = None
+ends_by type (Some bounds) = Some (record { least = end_bytes type bounds.0; greatest = end_bytes type bounds.1 })
+
+abbrev pub number_bounds : Option NumberEnds → Bounds
+number_bounds None = None
+number_bounds (Some ends) = Some (Number (pos ends.least), Number (pos ends.greatest))
