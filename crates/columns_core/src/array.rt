@@ -5,10 +5,10 @@ ghost use Rattle.columns_core.specs.Column.{cell_of};
 ghost use Rattle.columns_core.specs.Lent.{cell_lent};
 ghost use Rattle.columns_core.specs.declared.cell.Cell.{Bool, Bytes, Text};
 
-use crate::lent::Lent;
+use crate::lent::{Lends, Lent};
 use crate::{
     BinaryArray, BooleanArray, Cell, DataType, DictionaryArray, Error, FixedSizeBinaryArray,
-    NativeType, NullArray, Offset, PrimitiveArray, Utf8Array, days_ms,
+    NullArray, Offset, PrimitiveArray, Utf8Array, days_ms,
 };
 use std::alloc::Global;
 
@@ -162,7 +162,7 @@ pub(crate) fn lent_truth(array: &BooleanArray, i: usize) -> Lent<'_>
     }
 }
 
-pub(crate) fn lent_number<T: NativeType>(array: &PrimitiveArray<T>, i: usize) -> Lent<'_>
+pub(crate) fn lent_number<T: Lends>(array: &PrimitiveArray<T>, i: usize) -> Lent<'_>
     requires { i < length array.now.items }
     ensures { slice_get (map (cell_of T.cell) array.now.items) i ≡ Some (cell_lent result) }
 {

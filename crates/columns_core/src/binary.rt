@@ -4,7 +4,7 @@ ghost use Rattle.columns_core.specs.Causes.{IsWantOfMemory, is_invalid_argument}
 ghost use Rattle.columns_core.specs.Stored.{is_binary};
 ghost use Rattle.columns_core.specs.Joined.{strings, FitTogether};
 
-use crate::joined::JoinedBytes;
+use crate::joined::{JoinedBytes, fit_together};
 use crate::{Bitmap, DataType, Error, Offset, Offsets, Part};
 use std::alloc::Global;
 use std::marker::Model;
@@ -40,11 +40,14 @@ impl<O: Offset> BinaryArray<O> {
         ensures ok { IfOk result (λ _. IsTrue (is_binary O.is_large data_type) × FitTogether offsets values.items validity) }
         ensures err { IfErr result (λ e. IsTrue (is_invalid_argument e) × (IsTrue (is_binary O.is_large data_type) → FitTogether offsets values.items validity → ⊥)) }
     {
-        if !stores::<O>(&data_type) {
-            return Err(Error::InvalidArgumentError(Part::Values));
+        if stores::<O>(&data_type) && fit_together(&offsets, values.as_slice(), validity.as_ref()) {
+            Ok(BinaryArray {
+                data_type,
+                items: JoinedBytes::new(offsets, values, validity),
+            })
+        } else {
+            Err(Error::InvalidArgumentError(Part::Values))
         }
-        let items = JoinedBytes::try_new(offsets, values, validity)?;
-        Ok(BinaryArray { data_type, items })
     }
 
     pub fn data_type(&self) -> &DataType
@@ -72,8 +75,8 @@ impl<O: Offset> BinaryArray<O> {
         ensures err { IfErr result IsWantOfMemory }
     {
         Ok(BinaryArray {
-            data_type: self.data_type.try_clone(alloc)?,
             items: self.items.try_clone(alloc)?,
+            data_type: self.data_type.try_clone(alloc)?,
         })
     }
 }

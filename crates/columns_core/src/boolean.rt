@@ -84,9 +84,9 @@ impl BooleanArray {
         ensures memory { IfErr result IsWantOfMemory }
     {
         Ok(BooleanArray {
-            data_type: self.data_type.try_clone(alloc)?,
             values: self.values.try_clone(alloc)?,
             validity: copy_of_mask(alloc, self.validity.as_ref())?,
+            data_type: self.data_type.try_clone(alloc)?,
         })
     }
 }

@@ -80,9 +80,9 @@ impl DictionaryArray {
         ensures memory { IfErr result IsWantOfMemory }
     {
         Ok(DictionaryArray {
-            data_type: self.data_type.try_clone(alloc)?,
-            keys: self.keys.try_clone(alloc)?,
             entries: Boxed::new(alloc, self.entries.get().try_clone(alloc)?)?,
+            keys: self.keys.try_clone(alloc)?,
+            data_type: self.data_type.try_clone(alloc)?,
         })
     }
 }

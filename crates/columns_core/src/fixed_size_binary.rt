@@ -90,10 +90,10 @@ impl FixedSizeBinaryArray {
         ensures memory { IfErr result IsWantOfMemory }
     {
         Ok(FixedSizeBinaryArray {
-            data_type: self.data_type.try_clone(alloc)?,
             size: self.size,
             values: Vec::from_slice(alloc, self.values.as_slice())?,
             validity: copy_of_mask(alloc, self.validity.as_ref())?,
+            data_type: self.data_type.try_clone(alloc)?,
         })
     }
 }

@@ -1,12 +1,12 @@
 //! Byte strings one behind another.
-ghost use Rattle.std.specs.Prelude.{◌≡◌, ◌<◌, ◌≤◌, ◌-◌, IsTrue, ◌↔◌, length, slice_get, Some, IfOk, IfErr, OnOk, option_copied};
-ghost use Rattle.columns_core.specs.Causes.{IsWantOfMemory, is_invalid_argument};
+ghost use Rattle.std.specs.Prelude.{◌≡◌, ◌<◌, ◌≤◌, ◌-◌, IsTrue, ◌↔◌, length, slice_get, Some, IfOk, IfErr, option_copied};
+ghost use Rattle.columns_core.specs.Causes.{IsWantOfMemory};
 ghost use Rattle.columns_core.specs.Offsets.{AreOffsets, last};
 ghost use Rattle.columns_core.specs.Joined.{strings, FitTogether, AreTexts, BeginAtCharacters};
 
 use crate::mask::{copy_of_mask, is_there};
 use crate::primitive::fits_mask;
-use crate::{Bitmap, Error, Offset, Offsets, Part};
+use crate::{Bitmap, Error, Offset, Offsets};
 use std::alloc::Global;
 use std::marker::Model;
 
@@ -31,22 +31,6 @@ impl<O: Offset> Model for JoinedBytes<O> {
 }
 
 impl<O: Offset> JoinedBytes<O> {
-    pub(crate) fn try_new(
-        offsets: Offsets<O>,
-        values: Vec<u8>,
-        validity: Option<Bitmap>,
-    ) -> Result<Self, Error>
-        ensures ok { IfOk result (λ joined. joined ≡ strings offsets values.items validity) }
-        ensures fits { OnOk result (FitTogether offsets values.items validity) }
-        ensures err { IfErr result (λ e. IsTrue (is_invalid_argument e) × (FitTogether offsets values.items validity → ⊥)) }
-    {
-        if fit_together(&offsets, values.as_slice(), validity.as_ref()) {
-            Ok(JoinedBytes::new(offsets, values, validity))
-        } else {
-            Err(Error::InvalidArgumentError(Part::Values))
-        }
-    }
-
     pub(crate) fn new(offsets: Offsets<O>, values: Vec<u8>, validity: Option<Bitmap>) -> Self
         requires shape { AreOffsets offsets }
         requires fit { FitTogether offsets values.items validity }

@@ -3,12 +3,12 @@ ghost use Rattle.std.specs.Prelude.{◌≡◌, ◌↔◌, IsTrue, IfOk, IfErr};
 ghost use Rattle.columns_core.specs.Causes.{IsWantOfMemory};
 ghost use Rattle.columns_core.specs.Lent.{cell_lent};
 
-use crate::{Cell, Error, Name, Seq};
+use crate::{Cell, Error, Name, NativeType, Seq, days_ms};
 use std::alloc::Global;
 
 /// A cell whose text or bytes lie in an array.
 #[derive(Clone, Copy)]
-pub enum Lent<'a> {
+pub(crate) enum Lent<'a> {
     Null,
     Bool(bool),
     Int(i128),
@@ -18,7 +18,7 @@ pub enum Lent<'a> {
 }
 
 impl<'a> Lent<'a> {
-    pub fn to_cell(self, alloc: Global) -> Result<Cell, Error>
+    pub(crate) fn to_cell(self, alloc: Global) -> Result<Cell, Error>
         ensures cell { IfOk result (λ cell. cell ≡ cell_lent self.entry) }
         ensures memory { IfErr result IsWantOfMemory }
     {
@@ -32,7 +32,7 @@ impl<'a> Lent<'a> {
         })
     }
 
-    pub fn is_same(self, other: Lent<'a>) -> bool
+    pub(crate) fn is_same(self, other: Lent<'a>) -> bool
         ensures { IsTrue result ↔ (cell_lent self.entry ≡ cell_lent other.entry) }
     {
         match self {
@@ -45,5 +45,71 @@ impl<'a> Lent<'a> {
             Lent::Text(text) => matches!(other, Lent::Text(that) if text == that),
             Lent::Bytes(bytes) => matches!(other, Lent::Bytes(that) if bytes == that),
         }
+    }
+}
+
+/// A number that a cell holds whole.
+pub(crate) trait Lends: NativeType {
+    fn lent<'a>(self) -> Lent<'a>
+        ensures { cell_lent result ≡ Self.cell self };
+}
+
+impl Lends for i8 {
+    fn lent<'a>(self) -> Lent<'a> {
+        Lent::Int(self as i128)
+    }
+}
+
+impl Lends for i16 {
+    fn lent<'a>(self) -> Lent<'a> {
+        Lent::Int(self as i128)
+    }
+}
+
+impl Lends for i32 {
+    fn lent<'a>(self) -> Lent<'a> {
+        Lent::Int(self as i128)
+    }
+}
+
+impl Lends for i64 {
+    fn lent<'a>(self) -> Lent<'a> {
+        Lent::Int(self as i128)
+    }
+}
+
+impl Lends for u8 {
+    fn lent<'a>(self) -> Lent<'a> {
+        Lent::Int(self as i128)
+    }
+}
+
+impl Lends for u16 {
+    fn lent<'a>(self) -> Lent<'a> {
+        Lent::Int(self as i128)
+    }
+}
+
+impl Lends for u32 {
+    fn lent<'a>(self) -> Lent<'a> {
+        Lent::Int(self as i128)
+    }
+}
+
+impl Lends for u64 {
+    fn lent<'a>(self) -> Lent<'a> {
+        Lent::Int(self as i128)
+    }
+}
+
+impl Lends for i128 {
+    fn lent<'a>(self) -> Lent<'a> {
+        Lent::Int(self)
+    }
+}
+
+impl Lends for days_ms {
+    fn lent<'a>(self) -> Lent<'a> {
+        Lent::DaysMs(self.0, self.1)
     }
 }

@@ -28,8 +28,6 @@ mod packing;
 mod primitive;
 mod same_array;
 mod seq;
-#[cfg(test)]
-mod tests;
 mod utf8;
 
 pub use array::Array;

@@ -2,9 +2,7 @@
 ghost use Rattle.std.specs.Prelude.{◌≡◌, Bool, pos};
 ghost use Rattle.columns_core.specs.declared.data_type.DataType.{DataType};
 ghost use Rattle.columns_core.specs.declared.cell.Cell.{Cell, Int};
-ghost use Rattle.columns_core.specs.Lent.{cell_lent};
 
-use crate::lent::Lent;
 use crate::{DataType, IntervalUnit, days_ms};
 
 /// A type that an array may store.
@@ -17,10 +15,6 @@ pub trait NativeType: Copy {
 
     fn stores(data_type: &DataType) -> bool
         ensures { result ≡ stores data_type.now };
-
-    /// The cell of a value, which lies in the value itself.
-    fn lent<'a>(self) -> Lent<'a>
-        ensures { cell_lent result ≡ cell self };
 }
 
 impl NativeType for i8 {
@@ -33,10 +27,6 @@ impl NativeType for i8 {
     fn stores(data_type: &DataType) -> bool {
         matches!(data_type, DataType::Int8)
     }
-
-    fn lent<'a>(self) -> Lent<'a> {
-        Lent::Int(self as i128)
-    }
 }
 
 impl NativeType for i16 {
@@ -48,10 +38,6 @@ impl NativeType for i16 {
 
     fn stores(data_type: &DataType) -> bool {
         matches!(data_type, DataType::Int16)
-    }
-
-    fn lent<'a>(self) -> Lent<'a> {
-        Lent::Int(self as i128)
     }
 }
 
@@ -70,10 +56,6 @@ impl NativeType for i32 {
                 | DataType::Time32(_)
                 | DataType::Interval(IntervalUnit::YearMonth)
         )
-    }
-
-    fn lent<'a>(self) -> Lent<'a> {
-        Lent::Int(self as i128)
     }
 }
 
@@ -94,10 +76,6 @@ impl NativeType for i64 {
                 | DataType::Timestamp(_, _)
         )
     }
-
-    fn lent<'a>(self) -> Lent<'a> {
-        Lent::Int(self as i128)
-    }
 }
 
 impl NativeType for u8 {
@@ -109,10 +87,6 @@ impl NativeType for u8 {
 
     fn stores(data_type: &DataType) -> bool {
         matches!(data_type, DataType::UInt8)
-    }
-
-    fn lent<'a>(self) -> Lent<'a> {
-        Lent::Int(self as i128)
     }
 }
 
@@ -126,10 +100,6 @@ impl NativeType for u16 {
     fn stores(data_type: &DataType) -> bool {
         matches!(data_type, DataType::UInt16)
     }
-
-    fn lent<'a>(self) -> Lent<'a> {
-        Lent::Int(self as i128)
-    }
 }
 
 impl NativeType for u32 {
@@ -141,10 +111,6 @@ impl NativeType for u32 {
 
     fn stores(data_type: &DataType) -> bool {
         matches!(data_type, DataType::UInt32)
-    }
-
-    fn lent<'a>(self) -> Lent<'a> {
-        Lent::Int(self as i128)
     }
 }
 
@@ -158,10 +124,6 @@ impl NativeType for u64 {
     fn stores(data_type: &DataType) -> bool {
         matches!(data_type, DataType::UInt64)
     }
-
-    fn lent<'a>(self) -> Lent<'a> {
-        Lent::Int(self as i128)
-    }
 }
 
 impl NativeType for i128 {
@@ -174,10 +136,6 @@ impl NativeType for i128 {
     fn stores(data_type: &DataType) -> bool {
         matches!(data_type, DataType::Decimal(_, _))
     }
-
-    fn lent<'a>(self) -> Lent<'a> {
-        Lent::Int(self)
-    }
 }
 
 impl NativeType for days_ms {
@@ -189,9 +147,5 @@ impl NativeType for days_ms {
 
     fn stores(data_type: &DataType) -> bool {
         matches!(data_type, DataType::Interval(IntervalUnit::DayTime))
-    }
-
-    fn lent<'a>(self) -> Lent<'a> {
-        Lent::DaysMs(self.0, self.1)
     }
 }

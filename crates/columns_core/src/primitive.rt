@@ -98,9 +98,9 @@ impl<T: Copy> PrimitiveArray<T> {
         ensures memory { IfErr result IsWantOfMemory }
     {
         Ok(PrimitiveArray {
-            data_type: self.data_type.try_clone(alloc)?,
             values: Vec::from_slice(alloc, self.values.as_slice())?,
             validity: copy_of_mask(alloc, self.validity.as_ref())?,
+            data_type: self.data_type.try_clone(alloc)?,
         })
     }
 

@@ -5,10 +5,10 @@ ghost use Rattle.columns_core.specs.Shown.{Shown};
 
 use crate::array::{lent_bytes, lent_number, lent_string, lent_text, lent_truth};
 use crate::equal::is_same_type;
-use crate::lent::Lent;
+use crate::lent::{Lends, Lent};
 use crate::{
     Array, BinaryArray, BooleanArray, Chunk, DataType, DictionaryArray, FixedSizeBinaryArray,
-    NativeType, NullArray, Offset, PrimitiveArray, Utf8Array,
+    NullArray, Offset, PrimitiveArray, Utf8Array,
 };
 
 /// An array as its data type and its cells.
@@ -153,7 +153,7 @@ impl PartialEq for BooleanArray {
     }
 }
 
-impl<T: NativeType> Columnar for PrimitiveArray<T> {
+impl<T: Lends> Columnar for PrimitiveArray<T> {
     ghost use Rattle.columns_core.specs.Shown.{shown_by};
 
     ghost shown = { shown_by T.cell };
@@ -171,7 +171,7 @@ impl<T: NativeType> Columnar for PrimitiveArray<T> {
     }
 }
 
-impl<T: NativeType> PartialEq for PrimitiveArray<T> {
+impl<T: Lends> PartialEq for PrimitiveArray<T> {
     ghost use Rattle.columns_core.specs.Equal.{is_same};
     ghost use Rattle.columns_core.specs.Same.{seen_laws};
     ghost use Rattle.columns_core.specs.Shown.{shown_code};

@@ -82,8 +82,8 @@ impl<O: Offset> Utf8Array<O> {
         ensures err { IfErr result IsWantOfMemory }
     {
         Ok(Utf8Array {
-            data_type: self.data_type.try_clone(alloc)?,
             items: self.items.try_clone(alloc)?,
+            data_type: self.data_type.try_clone(alloc)?,
         })
     }
 }

@@ -3,7 +3,7 @@ use Rattle.std.proofs.Common.{◌≡◌, ℕ, zero, suc, ◌+◌, ◌-◌, ◌�
 use Rattle.std.specs.Prelude.{Some, None, if◌then◌else◌}
 use Rattle.std.proofs.lemmas.List.{drop-map, length-append, length-drop, length-map, length-replicate, length-take-le, map-append, take-map, take_at}
 use Rattle.std.proofs.lemmas.Simd.{map-map}
-use Rattle.columns_core.specs.Column.{FitsMask, cell_of, masked, where_set}
+use Rattle.columns_core.specs.Column.{cell_of, masked, where_set}
 use Rattle.columns_core.specs.declared.cell.Cell.{Cell, Null}
 use Rattle.parquet_page.specs.Levels.{present_count}
 use Rattle.parquet_page.specs.Plan.{Step, along, plan, plan_from}
@@ -175,11 +175,6 @@ array_items values [] is = all_some values
 array_items values (set ∷ mask) (inl none) = cc
 array_items values (set ∷ mask) (inr long) = where_set-marked values (set ∷ mask) long
 
-pub array_mask : {T : Type 0} (values : List T) (mask : List Bool) → IsMaskFor values mask → FitsMask values (found_mask mask)
-array_mask values [] is found e = cc
-array_mask values (set ∷ mask) (inl none) found e = cc
-array_mask values (set ∷ mask) (inr long) found e = let same : (set ∷ mask) ≡ found = cc in ap length (sym same) ∙ long
-
 -- ---- the mask goes on
 
 pub mask-with_places : {T : Type 0} (null : T) (values stored new : List T) (mask places marks : List Bool) (held : ℕ) → held ≡ length values → IsMaskFor values mask → new ≡ values ++ spread_over null places stored → marks ≡ with_places held places mask → IsMaskFor new marks
@@ -188,23 +183,6 @@ mask-with_places null values stored new [] places marks held counted is all mark
 mask-with_places null values stored new (set ∷ mask) places marks held counted (inl none) all marked = cc
 mask-with_places null values stored new (set ∷ mask) places marks held counted (inr long) all marked =
     inr (ap length marked ∙ length-append (set ∷ mask) places ∙ omega (arith, long, counted, length-spread null places stored, length-append values (spread_over null places stored), ap length all))
-
-pub mask-with_values : {T : Type 0} (values more : List T) (mask : List Bool) → IsMaskFor values mask → IsMaskFor (values ++ more) (with_values (length more) mask)
-mask-with_values values more [] is = inl refl
-mask-with_values values more (set ∷ mask) (inl none) = cc
-mask-with_values values more (set ∷ mask) (inr long) =
-    inr (length-append (set ∷ mask) (replicate (length more) true) ∙ omega (arith, long, length-replicate (length more) true, length-append values more))
-
-pub mask-with_nulls : {T : Type 0} (values more : List T) (mask : List Bool) (count : ℕ) → length more ≡ count → IsMaskFor values mask → IsMaskFor (values ++ more) (with_nulls (length values) count mask)
-mask-with_nulls values [] mask zero e (inl none) = inl none
-mask-with_nulls values [] mask zero e (inr long) = inr (long ∙ ap length (sym (append-nil values)))
-mask-with_nulls values (x ∷ more) mask zero e is = absurd (omega (arith, e))
-mask-with_nulls values more [] (suc count) e is =
-    inr (length-append (replicate (length values) true) (replicate (suc count) false)
-    ∙ omega (arith, length-replicate (length values) true, length-replicate (suc count) false, length-append values more, e))
-mask-with_nulls values more (set ∷ mask) (suc count) e (inl none) = cc
-mask-with_nulls values more (set ∷ mask) (suc count) e (inr long) =
-    inr (length-append (set ∷ mask) (replicate (suc count) false) ∙ omega (arith, long, length-replicate (suc count) false, length-append values more, e))
 
 pub mask-added : {T : Type 0} (cell : T → Cell) (old new : List T) (mask marks : List Bool) (outcomes : List Outcome) → IsMaskFor old mask → Adds cell old new outcomes → marks ≡ with_values (length new - length old) mask → IsMaskFor new marks
 mask-added cell old new [] marks outcomes is added marked = inl marked

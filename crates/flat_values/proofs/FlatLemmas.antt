@@ -1,10 +1,11 @@
 -- What flat pages give, by their walks and their values.
 use Rattle.std.proofs.Common.{Bor, ◌≡◌, ℕ, zero, suc, ◌+◌, ◌-◌, ◌<◌, ◌≤◌, Bool, true, false, List, [], ◌∷◌, ◌++◌, length, take, drop, map, refl, sym, ap, ◌∙◌, subst, arith, append_assoc, append-nil}
-use Rattle.std.specs.Prelude.{◌&&◌, ◌||◌, if◌then◌else◌, is_some, replicate, unwrap_or, Option, Some, None, option_map, Result, Ok, Err, OnOk}
+use Rattle.std.specs.Prelude.{◌&&◌, ◌||◌, if◌then◌else◌, is_some, replicate, unwrap_or, Option, Some, None, option_map, Result, OnOk}
 use Rattle.std.specs.Option.{option_copied, option_map_or}
 use Rattle.std.proofs.lemmas.Bool.{and_parts}
 use Rattle.std.proofs.lemmas.List.Elements.{Contains-push}
 use Rattle.std.proofs.lemmas.List.{drop-drop, map-append, length-append, length-drop, length-replicate, length-take-le}
+use Rattle.std.proofs.lemmas.Result.{on_ok_weaker}
 use Rattle.columns_core.specs.Causes.{Cause, ExternalFormat, IsOneOf, NotYetImplemented, and_then, unless}
 use Rattle.columns_core.specs.declared.cell.Cell.{Cell, Null}
 use Rattle.columns_core.specs.declared.error.Error.{Error}
@@ -31,8 +32,9 @@ use Rattle.parquet_page.specs.declared.validity_part.ValidityPart.{ValidityPart}
 use Rattle.parquet_page.specs.declared.validity_part.ValidityPart.TheVariants as part
 use Rattle.parquet_page.specs.declared.validity_part.ValidityWord.{ValidityWord}
 use Rattle.parquet_page.proofs.PlanLemmas.{along-null, along-passed, along-plan, along-present}
-use Rattle.parquet_page.proofs.SpelledLemmas.{are_placed}
+use Rattle.parquet_page.proofs.SpelledLemmas.{are_placed, no_cause}
 use Rattle.page_decoding.proofs.FilteredLemmas.{stored-plan}
+use Rattle.page_decoding.proofs.NextLemmas.{nothing_wrong}
 use Rattle.page_decoding.proofs.RowLemmas.{caused-left, caused-right}
 use Rattle.page_decoding.specs.FilteredLeft.{stored_values}
 use Rattle.page_decoding.specs.Outcome.{Outcome, Given, IsCausedBy, causes_in, page_outcomes}
@@ -43,10 +45,6 @@ use Rattle.flat_values.proofs.CountLemmas.{length-outcomes, length-values}
 use Rattle.flat_values.proofs.WordLemmas.{all_null, along-append, kept-plan, length-given, length-plan, plan-null, plan-present, stored-append}
 
 -- ---- nulls
-
-ok-maps : {T E : Type 0} {A B : Type 0} (r : Result T E) → (A → B) → OnOk r A → OnOk r B
-ok-maps (Ok x) f h = f h
-ok-maps (Err e) f h = tt
 
 map-nulls : (n : ℕ) → map Given (replicate n Null) ≡ replicate n (Given Null)
 map-nulls zero = refl
@@ -59,14 +57,14 @@ nulls-behind n old new e = ap (map Given) e ∙ map-append Given old (replicate 
 pub nulls-given : {T E : Type 0} (result : Result T E) (which : Run) (rows : ℕ) (old new : List Cell) (values : List Outcome) → which ≡ run.Null rows → OnOk result (new ≡ old ++ replicate rows Null) → OnOk result (map Given new ≡ map Given old ++ run_outcomes which values)
 nulls-given result which rows old new values is given =
     let P : Run → Type 0 = λ r. OnOk result (map Given new ≡ map Given old ++ run_outcomes r values) in
-    subst P (sym is) (ok-maps result (nulls-behind rows old new) given)
+    subst P (sym is) (on_ok_weaker result (nulls-behind rows old new) given)
 
 -- a word whose rows are all null
 pub word-null : {T E : Type 0} (result : Result T E) (word : ValidityWord) (old new : List Cell) (values : List Outcome) → present_count (word_places word) ≤ 0 → OnOk result (new ≡ old ++ replicate word.rows Null)
     → OnOk result (map Given new ≡ map Given old ++ given_along (word_steps word) values)
 word-null result word old new values none given =
     let all = all_null 0 (word_places word) values (omega arith) ∙ ap (λ n. replicate n (Given Null)) (length-low_bits word.bits word.rows) in
-    ok-maps result (λ e. nulls-behind word.rows old new e ∙ ap (λ xs. map Given old ++ xs) (sym all)) given
+    on_ok_weaker result (λ e. nulls-behind word.rows old new e ∙ ap (λ xs. map Given old ++ xs) (sym all)) given
 
 -- ---- what the parts of rows give
 
@@ -201,19 +199,6 @@ turned which wanted rows old new values behind shown more turn counted is cells 
     let Q : List Outcome → Type 0 = λ xs. Turned wanted rows old new values xs shown more in
     subst Q (sym is) (subst P (sym counted) now)
 
--- nothing is left where no step is
-pub none-given : (n : ℕ) (steps : List Step) (values : List Outcome) → steps ≡ [] → take n (given_along steps values) ≡ []
-none-given n steps values e = ap (λ s. take n (given_along s values)) e ∙ empty n where
-  empty : (n : ℕ) → take {A = Outcome} n [] ≡ []
-  empty zero = refl
-  empty (suc n) = refl
-
-pub none-left : (n : ℕ) (steps : List Step) (values : List Outcome) → steps ≡ [] → drop n (given_along steps values) ≡ []
-none-left n steps values e = ap (λ s. drop n (given_along s values)) e ∙ empty n where
-  empty : (n : ℕ) → drop {A = Outcome} n [] ≡ []
-  empty zero = refl
-  empty (suc n) = refl
-
 -- ---- one turn of the loop over the runs of a word
 
 -- the run of rows that are all of one kind
@@ -285,16 +270,12 @@ run-caused false rows old new values error is begins enough told = cc
 
 -- ---- what is wrong with a page
 
-no_cause : (o : Option Cause) → IsOneOf [] o → ⊥
-no_cause None h = h
-no_cause (Some cause) h = absurd (omega (arith, h.1))
-
 -- what is wrong with a page as a whole stands at its first place
 pub told-first : (rule : Conversion) (entries : Option (List Cell)) (page : DataContent) (o : Option Cause) → IsOneOf (page_causes None (is_some entries) (option_map length entries) page) o → IsOneOf (causes_in (take 1 (selected_outcomes rule entries page))) o
 unfolding selected_outcomes
 told-first rule entries page o wrong = go (page_causes None (is_some entries) (option_map length entries) page) wrong where
   go : (causes : List Cause) → IsOneOf causes o → IsOneOf (causes_in (take 1 (page_outcomes causes page.selected (unwrap_or (place_outcomes rule entries page) [])))) o
-  go [] wrong = absurd (no_cause o wrong)
+  go [] wrong = absurd (nothing_wrong o wrong)
   go (cause ∷ causes) wrong = let P : List Cause → Type 0 = λ found. IsOneOf found o in subst P (sym (append-nil (cause ∷ causes))) wrong
 
 -- the encoding is not read
@@ -374,7 +355,7 @@ levels-told has_dictionary entries page encoding o read wrong = go (has_readable
       → IsOneOf (and_then (unless readable NotYetImplemented) (unless (is_some (option_map (λ parts. parts.0) parts)) ExternalFormat)) o → IsOneOf (page_causes None has_dictionary entries page) o
   go false e parts split wrong = let Q : List Cause → Type 0 = λ causes. IsOneOf causes o in subst Q (sym (causes-read has_dictionary false entries page encoding read e)) wrong
   go true e None split wrong = let Q : List Cause → Type 0 = λ causes. IsOneOf causes o in subst Q (sym (causes-read has_dictionary true entries page encoding read e ∙ no-parts has_dictionary entries page encoding read e split)) wrong
-  go true e (Some parts) split wrong = absurd (no_cause o wrong)
+  go true e (Some parts) split wrong = absurd (nothing_wrong o wrong)
 
 -- ---- a page that was opened
 
@@ -393,12 +374,9 @@ opened page body count steps none parts steps_are many = go (has_readable_levels
   here : (o : Option (List Bool)) → presence page.type.repetition body.definition (header_values page.header) ≡ o → places_and_values page ≡ (o >>= λ places. Some (places, body.values))
   here o e = rw (parts, e) refl
 
-  no_none : {A : Type 0} (x : A) (xs : List A) → x ∷ xs ≡ [] → ⊥
-  no_none x xs e = absurd cc
-
   go : (readable : Bool) → has_readable_levels page.type.repetition page.header ≡ readable → (o : Option (List Bool)) → presence page.type.repetition body.definition (header_values page.header) ≡ o → IsOpened page body.values count steps
-  go false e o is = absurd (no_none NotYetImplemented [] (sym (ap (λ b. and_then (unless b NotYetImplemented) (unless (is_some (page_places page)) ExternalFormat)) e) ∙ none))
-  go true e None is = absurd (no_none ExternalFormat [] (sym (ap (λ b. and_then (unless b NotYetImplemented) (unless (is_some (page_places page)) ExternalFormat)) e ∙ ap (λ o. unless (is_some (option_map (λ parts. parts.0) o)) ExternalFormat) (here None is)) ∙ none))
+  go false e o is = absurd (no_cause NotYetImplemented [] (sym (ap (λ b. and_then (unless b NotYetImplemented) (unless (is_some (page_places page)) ExternalFormat)) e) ∙ none))
+  go true e None is = absurd (no_cause ExternalFormat [] (sym (ap (λ b. and_then (unless b NotYetImplemented) (unless (is_some (page_places page)) ExternalFormat)) e ∙ ap (λ o. unless (is_some (option_map (λ parts. parts.0) o)) ExternalFormat) (here None is)) ∙ none))
   go true e (Some places) is =
       let split = here (Some places) is in
       let all : steps ≡ plan page.selected places = steps_are ∙ ap (λ o. plan page.selected (unwrap_or (option_map (λ parts. parts.0) o) [])) split in

@@ -1,6 +1,7 @@
 -- Keys past the entries of a dictionary.
 use Rattle.std.proofs.Common.{◌≡◌, ℕ, zero, suc, ◌+◌, ◌<◌, ◌≤◌, Bool, true, false, List, [], ◌∷◌, ◌++◌, length, map, take, drop, get_or, refl, sym, ap, ◌∙◌, arith}
 use Rattle.std.specs.Option.{option_map_or}
+use Rattle.std.proofs.Math.Bool.{or-false}
 use Rattle.std.proofs.lemmas.Option.{slice_get-get_or, slice_get_past}
 use Rattle.columns_core.specs.Causes.{Cause, ExternalFormat, IsOneOf, OutOfSpec, cause_of}
 use Rattle.columns_core.specs.declared.error.Error.{Error}
@@ -40,13 +41,9 @@ twice : (b : Bool) → (b || b) ≡ b
 twice true = refl
 twice false = refl
 
-once : (b : Bool) → (b || false) ≡ b
-once true = refl
-once false = refl
-
 copies_past : (entries count value : ℕ) → 0 < count → has_key_past entries (replicate count value) ≡ nat_le entries value
 copies_past entries zero value h = absurd (omega (arith, h))
-copies_past entries (suc zero) value h = once (nat_le entries value)
+copies_past entries (suc zero) value h = or-false (nat_le entries value)
 copies_past entries (suc (suc count)) value h = ap (λ b. nat_le entries value || b) (copies_past entries (suc count) value (omega arith)) ∙ twice (nat_le entries value)
 
 -- copies of one key
@@ -142,14 +139,14 @@ or-assoc true b c = refl
 or-assoc false b c = refl
 
 pub none_greater : (entries : ℕ) → nat_le entries 0 ≡ (nat_le entries 0 || has_key_past entries [])
-none_greater entries = sym (once (nat_le entries 0))
+none_greater entries = sym (or-false (nat_le entries 0))
 
 pub one_greater : (entries most key i : ℕ) (keys : List ℕ) → i < length keys → key ≡ get_or keys i 0 → nat_le entries most ≡ (nat_le entries 0 || has_key_past entries (take i keys))
     → nat_le entries (max most key) ≡ (nat_le entries 0 || has_key_past entries (take (i + 1) keys))
 one_greater entries most key i keys lt is before =
     let front = has_key_past entries (take i keys) in
     let more : has_key_past entries (take (i + 1) keys) ≡ (front || nat_le entries key) =
-    ap (has_key_past entries) (take_more keys i 0 lt) ∙ list_any-append (λ key. nat_le entries key) (take i keys) (get_or keys i 0 ∷ []) ∙ ap (λ b. front || b) (once (nat_le entries (get_or keys i 0)) ∙ ap (nat_le entries) (sym is)) in
+    ap (has_key_past entries) (take_more keys i 0 lt) ∙ list_any-append (λ key. nat_le entries key) (take i keys) (get_or keys i 0 ∷ []) ∙ ap (λ b. front || b) (or-false (nat_le entries (get_or keys i 0)) ∙ ap (nat_le entries) (sym is)) in
     le-max entries most key ∙ ap (λ b. b || nat_le entries key) before ∙ or-assoc (nat_le entries 0) front (nat_le entries key) ∙ ap (λ b. nat_le entries 0 || b) (sym more)
 
 pub some_greater : (entries : ℕ) (keys : List ℕ) → (length keys == 0) ≡ false → (nat_le entries 0 || has_key_past entries keys) ≡ has_key_past entries keys

@@ -12,8 +12,8 @@ use Rattle.columns_core.specs.Types.{signed}
 use Rattle.flat_values.specs.CellTypes.{is_in}
 use Rattle.parquet_meta.specs.declared.metadata.PrimitiveLogicalType.{PrimitiveLogicalType}
 use Rattle.flat_values.specs.Conversion.{Item, Value, NotInRange, NotText, scaled}
-use Rattle.flat_values.specs.Units.{unit_factor}
-use Rattle.flat_values.specs.Order.{KeepsOrder}
+use Rattle.flat_values.specs.Units.{nanoseconds_of, per_second, unit_factor}
+use Rattle.flat_values.specs.Order.{KeepsOrder, KeepsOrderOfWords}
 
 abbrev number_or : ℤ → Item → ℤ
 number_or z (Value (Int n)) = n
@@ -80,3 +80,16 @@ keeps_order stored unit a b x y e p q =
     let multiply : Bool = (unit_factor stored unit).1 in
     ap₂ int_le (sym (given_is (is_in (signed 64) (scaled f multiply a)) (scaled f multiply a) x p)) (sym (given_is (is_in (signed 64) (scaled f multiply b)) (scaled f multiply b) y q))
     ∙ scaled_keeps f (has_factor stored unit) multiply a b e
+
+has_unit : (unit : TimeUnit) → 0 < 1000000000 / per_second unit
+has_unit Second = ltb-true 0 1000000000 refl
+has_unit Millisecond = ltb-true 0 1000000 refl
+has_unit Microsecond = ltb-true 0 1000 refl
+has_unit Nanosecond = ltb-true 0 1 refl
+
+pub keeps_order_of_words : KeepsOrderOfWords
+keeps_order_of_words unit low high day low_b high_b day_b x y e p q =
+    let f : ℕ = 1000000000 / per_second unit in
+    let a : ℤ = nanoseconds_of low high day in
+    let b : ℤ = nanoseconds_of low_b high_b day_b in
+    ap₂ int_le (sym (given_is (is_in (signed 64) a) (scaled f false a) x p)) (sym (given_is (is_in (signed 64) b) (scaled f false b) y q)) ∙ by_keeps f (has_unit unit) a b e

@@ -5,6 +5,7 @@ use Rattle.columns_core.specs.declared.data_type.DataType.{DataType, out-DataTyp
 use Rattle.columns_core.specs.declared.data_type.DataType.TheOpen.{DataType-F}
 use Rattle.columns_core.specs.declared.data_type.IntervalUnit.TheVariants.{YearMonth, DayTime}
 use Rattle.columns_core.specs.Types.{Layer}
+use Rattle.columns_core.specs.declared.data_type.TimeUnit.{TimeUnit}
 use Rattle.parquet_meta.specs.declared.metadata.PhysicalType.{PhysicalType}
 use Rattle.parquet_meta.specs.declared.metadata.PhysicalType.TheVariants.{Boolean, Int32, Int64, Int96, Float, Double, ByteArray, FixedLenByteArray}
 use Rattle.parquet_meta.specs.declared.metadata.PrimitiveLogicalType.{PrimitiveLogicalType}
@@ -35,6 +36,10 @@ from_int32 (DataType-F.Decimal precision scale) = Some Keep
 from_int32 DataType-F.Date64 = Some (Scale 86400000 true)
 from_int32 _ = None
 
+-- the time since 1970 in a unit, by how many nanoseconds this has
+abbrev pub since_1970 : TimeUnit → Conversion
+since_1970 unit = SinceEpoch (1000000000 / per_second unit)
+
 -- from the unit of a column to that which is asked for
 abbrev pub rescale : ℕ × Bool → Conversion
 rescale factor = Scale factor.0 factor.1
@@ -50,9 +55,8 @@ from_int64 logical (DataType-F.Decimal precision scale) = Some Keep
 from_int64 logical (DataType-F.Timestamp unit time_zone) = Some (rescale (unit_factor logical unit))
 from_int64 logical _ = None
 
--- how many nanoseconds a unit has
 abbrev pub from_int96 : Layer → Option Conversion
-from_int96 (DataType-F.Timestamp unit time_zone) = Some (SinceEpoch (1000000000 / per_second unit))
+from_int96 (DataType-F.Timestamp unit time_zone) = Some (since_1970 unit)
 from_int96 _ = None
 
 -- There are no items of 0 bytes. An interval is stored in 12 bytes, and a decimal in at most 16.

@@ -49,7 +49,7 @@ impl DecodedFixed {
     {
         let DecodedFixed { values, validity } = self;
         if !is_of_size(&data_type, values.size()) {
-            return Err(Error::InvalidArgumentError(Part::Values));
+            return Err(Error::InvalidArgumentError(Part::Request));
         }
         FixedSizeBinaryArray::try_new(data_type, values.into_values(), freeze_mask(validity))
     }
@@ -150,7 +150,7 @@ fn extend_named(
 {
     for key in keys {
         let Some(item) = named(entries, *key) else {
-            return Err(Error::OutOfSpec(Part::Values));
+            return Err(Error::OutOfSpec(Part::Dictionary));
         };
         items.push(item)?;
     }

@@ -4,9 +4,8 @@ ghost use Rattle.std.specs.List.{concat};
 ghost use Rattle.columns_core.specs.Causes.{IsWantOfMemory, is_invalid_argument};
 ghost use Rattle.columns_core.specs.ElementType.{fixed_size};
 ghost use Rattle.columns_core.specs.Fixed.{pieces};
-ghost use Rattle.page_decoding.specs.Column.{DataPagesAre};
 ghost use Rattle.page_decoding.specs.Queue.{IsChunkSize};
-ghost use Rattle.parquet_meta.specs.declared.metadata.PhysicalType.TheVariants.{FixedLenByteArray};
+ghost use Rattle.flat_values.specs.FixedItems.{AreOfSize};
 
 use crate::{ArrayIter, FixedValues};
 use columns_core::{DataType, Error, Part};
@@ -156,7 +155,7 @@ fn length_with(bytes: usize, additional: usize, size: usize) -> Result<usize, Er
 pub type Iter<I> = ArrayIter<I, FixedValues>;
 
 impl<I: Pages> ArrayIter<I, FixedValues> {
-    /// The rows of these pages, at most so many.
+    /// The rows of these pages, at most so many. Where the type is that of byte strings of one size, the pages have such byte strings.
     pub fn new(
         alloc: Global,
         iter: I,
@@ -164,7 +163,7 @@ impl<I: Pages> ArrayIter<I, FixedValues> {
         num_rows: usize,
         chunk_size: Option<usize>,
     ) -> Result<Self, Error>
-        requires takes { DataPagesAre (λ page. page.type.physical_type ≡ FixedLenByteArray (fixed_size data_type)) (I.to_come iter) }
+        requires takes { AreOfSize (fixed_size data_type) (I.to_come iter) }
         ensures ok { IfOk result (λ _. IsChunkSize chunk_size × (0 < fixed_size data_type)) }
         ensures err { IfErr result (λ e. IsTrue (is_invalid_argument e) × (IsChunkSize chunk_size → 0 < fixed_size data_type → ⊥)) }
         ensures values { IfOk result (λ arrays. arrays.chunks.decoder.values.size ≡ fixed_size data_type) }

@@ -298,7 +298,7 @@ impl<V: ValueDecoder> Decoder for FlatDecoder<V> {
         dict: Option<&Self::Dict>,
     ) -> Result<Self::State, Error> {
         let Some(encoding) = page_encoding(page, dict.is_some()) else {
-            return Err(Error::NotYetImplemented(Part::Values));
+            return Err(Error::NotYetImplemented(Part::Header));
         };
         let walk = FilteredOptionalPageValidity::try_new(page)?;
         let (_, _, bytes) = split_buffer(page)?;

@@ -40,7 +40,7 @@ impl KeyPlace {
             return Err(damaged);
         };
         if pass_entries(&keys, rest, entries) {
-            return Err(Error::OutOfSpec(Part::Values));
+            return Err(Error::OutOfSpec(Part::Dictionary));
         }
         Ok(KeyPlace { keys })
     }
@@ -172,7 +172,7 @@ pub(crate) fn extend_named<T: NativeType>(
     ensures cause { ComesOf result (causes_in (map (entry_outcome (Some (map T.cell entries.now))) keys.now)) }
 {
     if slice_has_past(keys, entries.len()) {
-        return Err(Error::OutOfSpec(Part::Values));
+        return Err(Error::OutOfSpec(Part::Dictionary));
     }
     let Some(first) = entries.first() else {
         return Ok(());

@@ -4,7 +4,7 @@ ghost use Rattle.page_decoding.specs.Queue.{IsChunkSize};
 ghost use Rattle.parquet_base.specs.Pieces.{cut};
 ghost use Rattle.flat_values.specs.NullChunks.{cut_rows};
 ghost use Rattle.flat_values.specs.Sound.{ConvertsToType, EndsAreStored, PageHasType};
-ghost use Rattle.flat_values.specs.Order.{KeepsOrder};
+ghost use Rattle.flat_values.specs.Order.{KeepsOrder, KeepsOrderOfWords};
 ghost use Rattle.flat_values.specs.Agreement.{PlacesGiveItems};
 
 /// A converted item is null or a value of the type that is asked for.
@@ -22,9 +22,10 @@ pub fn ends_are_stored_values()
     ensures { EndsAreStored }
 {}
 
-/// Of two timestamps that have values in a unit, the later one has no earlier value.
+/// Of two timestamps that have values in a unit, the later one has no earlier value: of numbers in any stored unit, and of the times of older files.
 pub fn timestamps_keep_their_order()
-    ensures { KeepsOrder }
+    ensures numbers { KeepsOrder }
+    ensures words { KeepsOrderOfWords }
 {}
 
 /// Where nothing is wrong with a page, its places give what its items are.

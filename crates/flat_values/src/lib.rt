@@ -2,8 +2,6 @@
 #![tactic(auto)]
 
 mod array_iter;
-#[cfg(test)]
-mod array_tests;
 pub mod boolean;
 mod bulk;
 mod convert;
@@ -27,14 +25,10 @@ pub mod primitive;
 mod scale;
 mod spread;
 mod stored;
-#[cfg(test)]
-mod tests;
 mod time;
 mod truths;
 mod validity;
 mod value_decoder;
-#[cfg(test)]
-mod word_tests;
 
 pub use array_iter::ArrayIter;
 pub use bulk::{

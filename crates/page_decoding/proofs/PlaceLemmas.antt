@@ -6,15 +6,17 @@ use Rattle.columns_core.proofs.BitLemmas.{length-low_bits}
 use Rattle.parquet_page.specs.Plan.{Keep, KeepNull, Pass, Step, plan}
 use Rattle.parquet_page.specs.Runs.{GivesRun}
 use Rattle.parquet_page.specs.Stretches.{BeginsOtherwise, BeginsWith}
-use Rattle.parquet_page.specs.ValidityLeft.{IsLongest}
+use Rattle.parquet_page.specs.ValidityLeft.{IsLongest, IsLongestPart, optional_steps}
 use Rattle.parquet_page.specs.ValidityParts.{GivesPart, part_rows, part_steps, word_places}
 use Rattle.parquet_page.specs.declared.run.Run.{Run}
+use Rattle.parquet_page.specs.Content.{DataContent}
+use Rattle.parquet_page.specs.declared.validity.OptionalPageValidity.{OptionalPageValidity}
 use Rattle.parquet_page.specs.declared.run.Run.TheVariants.{Present, Null, Passed}
 use Rattle.parquet_page.specs.declared.validity_part.ValidityPart.{ValidityPart}
 use Rattle.parquet_page.specs.declared.validity_part.ValidityPart.TheVariants.{Run as OfRun, Word as OfWord}
 use Rattle.parquet_page.proofs.PlanLemmas.{kept_as}
 use Rattle.parquet_page.proofs.ValidityLemmas.{length-all, plan-all}
-use Rattle.page_decoding.specs.FilteredLeft.{IsPartOf, IsRunOf}
+use Rattle.page_decoding.specs.FilteredLeft.{IsPartOf, IsRunOf, IsWholePart, places_left}
 
 same-kept : (x y : Bool) → kept_as x ≡ kept_as y → x ≡ y
 same-kept true true e = refl
@@ -95,6 +97,11 @@ part-of limit old new (OfRun (Present n)) gives = with-places limit old new (OfR
 part-of limit old new (OfRun (Null n)) gives = with-places limit old new (OfRun (Null n)) gives (length-replicate n KeepNull) gives.1
 part-of limit old new (OfRun (Passed n)) gives = absurd (none-passed n old (plan None new) gives.1 (sym (plan-all 0 old) ∙ gives.0))
 part-of limit old new (OfWord word) gives = with-places limit old new (OfWord word) gives (length-all (word_places word) ∙ length-low_bits word.bits word.rows) gives.1
+
+pub whole-of : (limit : ℕ) (page : DataContent) (old new : OptionalPageValidity) (part : ValidityPart) → GivesPart limit (optional_steps old page) (optional_steps new page) (Some part) → IsLongestPart limit (Some part) (optional_steps new page)
+    → IsWholePart limit page old new part
+whole-of limit page old new (OfRun run) gives longest = run-of limit (places_left old page) (places_left new page) run gives longest
+whole-of limit page old new (OfWord word) gives longest = longest
 
 pub none-left : (places : List Bool) → plan None places ≡ [] → places ≡ []
 none-left places e = go places (sym (plan-all 0 places) ∙ e) where

@@ -40,10 +40,6 @@ AreFull-last shown size (x ∷ []) (suc n) d long cut full = cc
 AreFull-last shown size (x ∷ y ∷ items) zero d long cut full = cc
 AreFull-last shown size (x ∷ y ∷ items) (suc n) d long cut full = let e : length (y ∷ items) ≡ suc n = cc in (cut.0, cut.1, AreFull-last shown size (y ∷ items) n d e cut.2 full)
 
-pub AreFull-empty : {X A : Type 0} (shown : X → List A) (size : Option ℕ) (items : List X) → length items ≡ 0 → AreFull size (map shown items)
-AreFull-empty shown size [] none = tt
-AreFull-empty shown size (x ∷ items) none = cc
-
 pub joined-push : {A : Type 0} (items : List (List A)) (item : List A) → joined (items ++ item ∷ []) ≡ joined items ++ item
 joined-push [] item = append-nil item
 joined-push (first ∷ items) item = ap (λ rest. first ++ rest) (joined-push items item) ∙ sym (append_assoc first (joined items) item)

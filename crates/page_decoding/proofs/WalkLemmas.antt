@@ -22,7 +22,7 @@ use Rattle.parquet_page.specs.declared.validity_part.ValidityPart.{ValidityPart}
 use Rattle.parquet_page.specs.declared.validity_part.ValidityPart.TheVariants.{Run as OfRun, Word as OfWord}
 use Rattle.parquet_page.proofs.PlanLemmas.{kept_as}
 use Rattle.parquet_page.proofs.ValidityLemmas.{copies-kept, plan-all}
-use Rattle.page_decoding.specs.FilteredLeft.{AreGiven, IsLongestOf, IsPageOf, IsPartOf, IsRunOf, PassesOver, filtered_steps, places_left, selected_rows}
+use Rattle.page_decoding.specs.FilteredLeft.{AreGiven, EndsInterval, IsLongestOf, IsLongestPartOf, IsPageOf, IsPartOf, IsRunOf, IsWholePart, PassesOver, filtered_steps, places_left, selected_rows}
 use Rattle.page_decoding.specs.declared.filtered_validity.FilteredOptionalPageValidity.{FilteredOptionalPageValidity}
 use Rattle.page_decoding.proofs.FilteredLemmas.{begins, behind-gap, is_range, keeps-rows, none-selected, not-passed, other-step, passes-rows}
 
@@ -226,14 +226,14 @@ takes limit page first taken before old new run rest stands some most split own 
         long own.kind count run own.is own.some,
         omega (arith, own.begins.most, most),
       );
-      longest = elim own.begins.longest as (λ _. (count ≡ limit) ⊎ ((count ≡ first_left before.rows (selected_rows page)) ⊎ BeginsOtherwise (step_of run) (filtered_steps new page))) [ inl all ↦ ended all | inr other ↦ otherwise other gives.selected own.begins.most ];
+      longest = elim own.begins.longest as (λ _. (count ≡ limit) ⊎ (EndsInterval before page run ⊎ BeginsOtherwise (step_of run) (filtered_steps new page))) [ inl all ↦ ended all | inr other ↦ otherwise other gives.selected own.begins.most ];
       is_page = gives.is_page;
     } where
-      ended : run_rows run ≡ taken → (run_rows run ≡ limit) ⊎ ((run_rows run ≡ first_left before.rows (selected_rows page)) ⊎ BeginsOtherwise (step_of run) (filtered_steps new page))
-      ended all = elim (cases_lt limit (first_left before.rows (selected_rows page))) [ inl less ↦ inl (omega (arith, all, most, less)) | inr more ↦ inr (inl (omega (arith, all, most, more))) ]
+      ended : run_rows run ≡ taken → (run_rows run ≡ limit) ⊎ (EndsInterval before page run ⊎ BeginsOtherwise (step_of run) (filtered_steps new page))
+      ended all = elim (cases_lt limit (first_left before.rows (selected_rows page))) [ inl less ↦ inl (omega (arith, all, most, less)) | inr more ↦ inr (inl (own.some, omega (arith, all, most, more))) ]
 
       otherwise : BeginsOtherwise own.kind (places_left new.places page) → ((k : ℕ) → k < taken → is_selected page.selected (old.row + k) ≡ true) → run_rows run ≤ taken
-          → (run_rows run ≡ limit) ⊎ ((run_rows run ≡ first_left before.rows (selected_rows page)) ⊎ BeginsOtherwise (step_of run) (filtered_steps new page))
+          → (run_rows run ≡ limit) ⊎ (EndsInterval before page run ⊎ BeginsOtherwise (step_of run) (filtered_steps new page))
       otherwise other all within =
           let next = λ (less : run_rows run < taken). ap (is_selected page.selected) took.row ∙ all (run_rows run) less in
           let S : Step → Type 0 = λ step. BeginsOtherwise step (filtered_steps new page) in
@@ -299,6 +299,7 @@ taken-rows limit page rows first taken before old new (Some run) rest same stand
 -- what a call for a part gives, and what it leaves
 pub record GoesPart (limit : ℕ) (page : DataContent) (old new : FilteredOptionalPageValidity) (result : Option ValidityPart) : Type 0 where
   pub part : GivesPart limit (filtered_steps old page) (filtered_steps new page) result
+  pub longest : IsLongestPartOf limit page old new result
   pub is_page : IsPageOf new page
 
 -- a walk that stands at the next selected row
@@ -311,17 +312,23 @@ some-steps (OfRun (Null n)) some = some
 some-steps (OfRun (Passed n)) some = absurd (omega arith)
 some-steps (OfWord word) some = some
 
+longest-part : (limit : ℕ) (page : DataContent) (first taken : ℕ) (before old new : FilteredOptionalPageValidity) (part : ValidityPart) (rest : List ℕ) → StandsAt page first before old → 0 < taken → taken ≡ min limit (first_left before.rows (selected_rows page))
+    → rows_left before.rows (selected_rows page) ≡ range_with_len first taken ++ rest → IsWholePart taken page old.places new.places part → Takes page (part_rows part) old new → IsLongestPartOf limit page before new (Some part)
+longest-part limit page first taken before old new (OfRun run) rest stands some most split whole took = (takes limit page first taken before old new run rest stands some most split whole took).longest
+longest-part limit page first taken before old new (OfWord word) rest stands some most split whole took = whole
+
 pub taken-part : (limit : ℕ) (page : DataContent) (rows : List Interval) (first taken : ℕ) (before old new : FilteredOptionalPageValidity) (result : Option ValidityPart) (rest : List ℕ) → rows ≡ selected_rows page → StandsAt page first before old → 0 < taken
     → taken ≡ min limit (first_left before.rows (selected_rows page)) → rows_left before.rows (selected_rows page) ≡ range_with_len first taken ++ rest → IfNone result (places_left old.places page ≡ [])
-    → IfSome result (IsPartOf taken (places_left old.places page) (places_left new.places page)) → IfSome result (λ part. AreGiven (part_rows part) (rows_left old.rows rows) (rows_left new.rows rows) new.rows.place) → IfSome result (λ part. new.row ≡ old.row + part_rows part)
+    → IfSome result (IsPartOf taken (places_left old.places page) (places_left new.places page)) → IfSome result (IsWholePart taken page old.places new.places) → IfSome result (λ part. AreGiven (part_rows part) (rows_left old.rows rows) (rows_left new.rows rows) new.rows.place) → IfSome result (λ part. new.row ≡ old.row + part_rows part)
     → IfSome result (λ part. new.place ≡ new.row) → IsSome (optional_left new.places page) → IsWalkOver new.rows rows → GoesPart limit page before new result
-taken-part limit page rows first taken before old new None rest same stands some most split ended own given row place levels walk = absurd (omega (arith, stands.some, ap length ended))
-taken-part limit page rows first taken before old new (Some part) rest same stands some most split ended own given row place levels walk =
+taken-part limit page rows first taken before old new None rest same stands some most split ended own whole given row place levels walk = absurd (omega (arith, stands.some, ap length ended))
+taken-part limit page rows first taken before old new (Some part) rest same stands some most split ended own whole given row place levels walk =
     let G : List Interval → Type 0 = λ xs. AreGiven (part_rows part) (rows_left old.rows xs) (rows_left new.rows xs) new.rows.place in
     let W : List Interval → Type 0 = λ xs. IsWalkOver new.rows xs in
     let took : Takes page (part_rows part) old new = record { levels = levels; given = subst G same given; row = row; place = place; intervals = subst W same walk } in
     let gives = gives-rows page first taken (part_rows part) own.places before old new rest stands some split took own.split own.count own.some in
     record {
       part = (gives.steps ∙ ap (λ steps. steps ++ filtered_steps new page) own.steps, some-steps part own.some, omega (arith, own.most, most));
+      longest = longest-part limit page first taken before old new part rest stands some most split whole took;
       is_page = gives.is_page;
     }

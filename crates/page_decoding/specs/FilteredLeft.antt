@@ -9,11 +9,12 @@ use Rattle.parquet_page.specs.Runs.{run_rows}
 use Rattle.parquet_page.specs.SliceLeft.{IsWalkOver, first_left, rows_left}
 use Rattle.parquet_page.specs.Stretches.{BeginsOtherwise, BeginsWith}
 use Rattle.parquet_page.specs.ValidityLeft.{optional_left, step_of}
-use Rattle.parquet_page.specs.ValidityParts.{part_rows, part_steps}
+use Rattle.parquet_page.specs.ValidityParts.{HasBothKinds, part_rows, part_steps}
 use Rattle.parquet_page.specs.declared.run.Run.{Run}
 use Rattle.parquet_page.specs.declared.run.Run.TheVariants.{Present, Null, Passed}
 use Rattle.parquet_page.specs.declared.validity.OptionalPageValidity.{OptionalPageValidity}
 use Rattle.parquet_page.specs.declared.validity_part.ValidityPart.{ValidityPart}
+use Rattle.parquet_page.specs.declared.validity_part.ValidityPart.TheVariants.{Run as OfRun, Word as OfWord}
 use Rattle.page_decoding.specs.declared.filtered_validity.FilteredOptionalPageValidity.{FilteredOptionalPageValidity}
 
 -- selected rows as intervals; without a selection all of so many rows are selected
@@ -49,10 +50,21 @@ pub record IsPageOf (walk : FilteredOptionalPageValidity) (page : DataContent) :
   pub fits : header_values page.header < 2 ^ 64
   pub rows : rows_left walk.rows (selected_rows page) ≡ filter (is_selected page.selected) (range_with_len walk.row (length (places_left walk.places page)))
 
--- A run has as many rows as are asked for or as are left of an interval, or another step stands behind it.
+-- a run of selected rows that is all that is left of an interval
+abbrev pub EndsInterval : FilteredOptionalPageValidity → DataContent → Run → Type 0
+EndsInterval walk page run = (0 < run_rows run) × (run_rows run ≡ first_left walk.rows (selected_rows page))
+
+-- A run has as many rows as are asked for or as are left of an interval, or another step stands behind it. One that is passed over has no selected row, so another
+-- step stands behind it.
 abbrev pub IsLongestOf : ℕ → FilteredOptionalPageValidity → DataContent → Option Run → List Step → Type 0
 IsLongestOf limit walk page None behind = Unit {0}
-IsLongestOf limit walk page (Some run) behind = (run_rows run ≡ limit) ⊎ ((run_rows run ≡ first_left walk.rows (selected_rows page)) ⊎ BeginsOtherwise (step_of run) behind)
+IsLongestOf limit walk page (Some run) behind = (run_rows run ≡ limit) ⊎ (EndsInterval walk page run ⊎ BeginsOtherwise (step_of run) behind)
+
+-- A run is as long as it can be, and a word has rows of both kinds.
+abbrev pub IsLongestPartOf : ℕ → DataContent → FilteredOptionalPageValidity → FilteredOptionalPageValidity → Option ValidityPart → Type 0
+IsLongestPartOf limit page old new None = Unit {0}
+IsLongestPartOf limit page old new (Some (OfRun run)) = IsLongestOf limit old page (Some run) (filtered_steps new page)
+IsLongestPartOf limit page old new (Some (OfWord word)) = HasBothKinds word
 
 -- so many stored values are passed over, if there are any
 abbrev pub PassesOver : ℕ → Option Run → Type 0
@@ -74,6 +86,11 @@ pub record IsPartOf (limit : ℕ) (old new : List Bool) (part : ValidityPart) : 
   pub count : length places ≡ part_rows part
   pub some : 0 < part_rows part
   pub most : part_rows part ≤ limit
+
+-- a run of all rows of one kind up to a limit, or a word of both kinds
+abbrev pub IsWholePart : ℕ → DataContent → OptionalPageValidity → OptionalPageValidity → ValidityPart → Type 0
+IsWholePart limit page old new (OfRun run) = IsRunOf limit (places_left old page) (places_left new page) run
+IsWholePart limit page old new (OfWord word) = HasBothKinds word
 
 -- so many of the selected rows are given, up to the row at which the others are looked for
 pub record AreGiven (count : ℕ) (old new : List ℕ) (place : ℕ) : Type 0 where

@@ -9,7 +9,7 @@ ghost use Rattle.parquet_page.specs.Runs.{GivesRun, run_rows};
 ghost use Rattle.parquet_page.specs.SliceLeft.{IsWalkOver, first_left, rows_left};
 ghost use Rattle.parquet_page.specs.ValidityLeft.{levels_causes, optional_left, page_places};
 ghost use Rattle.parquet_page.specs.ValidityParts.{GivesPart, part_rows};
-ghost use Rattle.page_decoding.specs.FilteredLeft.{AreGiven, IsPartOf, IsRunOf, PassesOver, intervals_of, places_left};
+ghost use Rattle.page_decoding.specs.FilteredLeft.{AreGiven, IsPartOf, IsRunOf, IsWholePart, PassesOver, intervals_of, places_left};
 
 use columns_core::Error;
 use parquet_page::{DataPage, Interval, OptionalPageValidity, Run, SliceFiltered, ValidityPart};
@@ -29,7 +29,7 @@ pub struct FilteredOptionalPageValidity {
 }
 
 impl FilteredOptionalPageValidity {
-    ghost use Rattle.page_decoding.specs.FilteredLeft.{IsLongestOf, IsPageOf, filtered_steps, selected_rows, stored_values};
+    ghost use Rattle.page_decoding.specs.FilteredLeft.{IsLongestOf, IsLongestPartOf, IsPageOf, filtered_steps, selected_rows, stored_values};
 
     /// Before the first row.
     pub fn try_new(page: &DataPage<'_>) -> Result<Self, Error>
@@ -67,12 +67,13 @@ impl FilteredOptionalPageValidity {
         }
     }
 
-    /// The next part, with `limit` selected rows at most: the bits of packed levels of selected rows that stand side by side, or a run. Which of
-    /// the two comes and how long it is, is not promised. The page is that of `try_new`.
+    /// The next part, with `limit` selected rows at most: a run as long as it can be, or the bits of at most 32 packed levels, not all the same, of selected
+    /// rows that stand side by side. The page is that of `try_new`.
     pub fn next_part(&mut self, page: &DataPage<'_>, limit: usize) -> Option<ValidityPart>
         requires page { IsPageOf self.old (data_content page.now) }
         requires limit { 0 < limit }
         ensures part { GivesPart limit (filtered_steps self.old (data_content page.now)) (filtered_steps self.new (data_content page.now)) result }
+        ensures longest { IsLongestPartOf limit (data_content page.now) self.old self.new result }
         ensures page { IsPageOf self.new (data_content page.now) }
     {
         match page.selected_rows {
@@ -134,6 +135,7 @@ impl FilteredOptionalPageValidity {
         requires rows { rows.now ≡ selected_rows (data_content page.now) }
         requires limit { 0 < limit }
         ensures part { GivesPart limit (filtered_steps self.old (data_content page.now)) (filtered_steps self.new (data_content page.now)) result }
+        ensures longest { IsLongestPartOf limit (data_content page.now) self.old self.new result }
         ensures page { IsPageOf self.new (data_content page.now) }
     {
         let mut ahead = self.rows;
@@ -205,6 +207,7 @@ impl FilteredOptionalPageValidity {
         requires fits { self.old.row + length (places_left self.old.places (data_content page.now)) < 2 ^ 64 }
         ensures ended { IfNone result (places_left self.old.places (data_content page.now) ≡ []) }
         ensures part { IfSome result (IsPartOf limit (places_left self.old.places (data_content page.now)) (places_left self.new.places (data_content page.now))) }
+        ensures whole { IfSome result (IsWholePart limit (data_content page.now) self.old.places self.new.places) }
         ensures given { IfSome result (λ part. AreGiven (part_rows part) (rows_left self.old.rows rows.now) (rows_left self.new.rows rows.now) self.new.rows.place) }
         ensures row { IfSome result (λ part. self.new.row ≡ self.old.row + part_rows part) }
         ensures place { IfSome result (λ part. self.new.place ≡ self.new.row) }

@@ -7,8 +7,6 @@ mod filtered_validity;
 pub mod laws;
 mod next_chunk;
 mod queue;
-#[cfg(test)]
-mod tests;
 
 pub use chunks::Chunks;
 pub use decoder::{DecodedState, Decoder};

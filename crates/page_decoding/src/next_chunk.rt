@@ -1,5 +1,5 @@
 //! The next chunk of a column, over any pages and any decoder.
-ghost use Rattle.std.specs.Prelude.{◌≡◌, ◌⊎◌, ◌+◌, ◌-◌, ◌<◌, true, false, All, List, [], ◌++◌, length, take, map, Option, IfErr, IfOk, OnOk, IfSome, option_map};
+ghost use Rattle.std.specs.Prelude.{◌≡◌, ◌⊎◌, ◌+◌, ◌-◌, ◌<◌, ◌≤◌, true, false, All, List, [], ◌++◌, length, take, map, Option, IfErr, IfOk, OnOk, IfSome, option_map};
 ghost use Rattle.std.specs.Option.{option_copied};
 ghost use Rattle.columns_core.specs.Causes.{ComesOf};
 ghost use Rattle.parquet_page.specs.Content.{DataOf, data_content, is_shaped};
@@ -66,6 +66,7 @@ fn add_page<D: Decoder>(
     requires own { All (D.is_own decoder.now) items.old.items }
     ensures rows { OnOk result (map Given (joined (map D.DecodedState.shown items.new.items)) ≡ map Given (joined (map D.DecodedState.shown items.old.items)) ++ take remaining.old (D.outcomes decoder.now (option_map (D.dict_shown decoder.now) (option_copied dict.entry)) (data_content page.now))) }
     ensures remaining { OnOk result (remaining.new ≡ remaining.old - length (D.outcomes decoder.now (option_map (D.dict_shown decoder.now) (option_copied dict.entry)) (data_content page.now))) }
+    ensures fewer { remaining.new ≤ remaining.old }
     ensures cut { OnOk result (IsCut chunk_size (map D.DecodedState.shown items.new.items)) }
     ensures own { OnOk result (All (D.is_own decoder.now) items.new.items) }
     ensures cause { ComesOf result (causes_in (take remaining.old (D.outcomes decoder.now (option_map (D.dict_shown decoder.now) (option_copied dict.entry)) (data_content page.now)))) }
@@ -95,6 +96,7 @@ fn read_page<I: Pages, D: Decoder, L: Ledger>(
     requires own { All (D.is_own decoder.now) items.old.items }
     ensures rows { OnOk result (still_wanted (D.entries decoder.now) (D.outcomes decoder.now) (standing D.DecodedState.shown (D.dict_shown decoder.now) items.new.items remaining.new dict.new) (I.to_come iter.new) (I.causes iter.new) ≡ still_wanted (D.entries decoder.now) (D.outcomes decoder.now) (standing D.DecodedState.shown (D.dict_shown decoder.now) items.old.items remaining.old dict.old) (I.to_come iter.old) (I.causes iter.old)) }
     ensures standing { OnOk result (Advances (D.entries decoder.now) (D.outcomes decoder.now) (I.to_come iter.old) (I.to_come iter.new) (standing D.DecodedState.shown (D.dict_shown decoder.now) items.old.items remaining.old dict.old) (standing D.DecodedState.shown (D.dict_shown decoder.now) items.new.items remaining.new dict.new)) }
+    ensures fewer { remaining.new ≤ remaining.old }
     ensures end { IfOk result (λ more. more ≡ false → HasEnded (I.to_come iter.old) (I.causes iter.old)) }
     ensures ended { IfOk result (λ more. more ≡ false → HasEnded (I.to_come iter.new) (I.causes iter.new)) }
     ensures more { IfOk result (λ more. more ≡ true → length (I.to_come iter.new) < length (I.to_come iter.old)) }
@@ -127,7 +129,8 @@ fn read_page<I: Pages, D: Decoder, L: Ledger>(
     }
 }
 
-/// The next chunk of the rows that are wanted. Reads one page at most, and none where no row is wanted of it or a whole chunk waits.
+/// The next chunk of the rows that are wanted. Reads one page at most, and none where no row is wanted of it or a whole chunk waits. After an error
+/// no more rows are wanted than before.
 pub fn next<I: Pages, D: Decoder, L: Ledger>(
     alloc: Global,
     iter: &mut I,
@@ -145,6 +148,7 @@ pub fn next<I: Pages, D: Decoder, L: Ledger>(
     requires own { All (D.is_own decoder.now) items.old.items }
     ensures chunk { GivesChunk D.DecodedState.shown chunk_size (still_wanted (D.entries decoder.now) (D.outcomes decoder.now) (standing D.DecodedState.shown (D.dict_shown decoder.now) items.old.items remaining.old dict.old) (I.to_come iter.old) (I.causes iter.old)) (still_wanted (D.entries decoder.now) (D.outcomes decoder.now) (standing D.DecodedState.shown (D.dict_shown decoder.now) items.new.items remaining.new dict.new) (I.to_come iter.new) (I.causes iter.new)) result }
     ensures standing { OnNoError result (Advances (D.entries decoder.now) (D.outcomes decoder.now) (I.to_come iter.old) (I.to_come iter.new) (standing D.DecodedState.shown (D.dict_shown decoder.now) items.old.items remaining.old dict.old) (standing D.DecodedState.shown (D.dict_shown decoder.now) (front_of result ++ items.new.items) remaining.new dict.new)) }
+    ensures fewer { remaining.new ≤ remaining.old }
     ensures more { OnMore result (length (I.to_come iter.new) < length (I.to_come iter.old)) }
     ensures waits { OnMore result (BeginsFull chunk_size (map D.DecodedState.shown items.new.items) → ⊥) }
     ensures end { OnNone result (NoneComes remaining.old (I.to_come iter.old) (I.causes iter.old)) }

@@ -131,7 +131,7 @@ fn add_rows<D: Decoder>(
     Ok(taken)
 }
 
-/// Appends the page's rows to the queue, as many as are wanted.
+/// Appends the page's rows to the queue, as many as are wanted. After an error some of them may wait there, and no more rows are wanted than before.
 pub fn extend_from_new_page<D: Decoder>(
     alloc: Global,
     page: &DataPage<'_>,
@@ -150,6 +150,7 @@ pub fn extend_from_new_page<D: Decoder>(
     requires own { All (D.is_own decoder.now) items.old.items }
     ensures rows { OnOk result (map Given (joined (map D.DecodedState.shown items.new.items)) ≡ map Given (joined (map D.DecodedState.shown items.old.items)) ++ take remaining.old (D.left decoder.now (option_copied dict.entry) (data_content page.now) state)) }
     ensures remaining { OnOk result (remaining.new ≡ remaining.old - length (D.left decoder.now (option_copied dict.entry) (data_content page.now) state)) }
+    ensures fewer { remaining.new ≤ remaining.old }
     ensures cut { OnOk result (IsCut chunk_size (map D.DecodedState.shown items.new.items)) }
     ensures own { OnOk result (All (D.is_own decoder.now) items.new.items) }
     ensures cause { ComesOf result (causes_in (take remaining.old (D.left decoder.now (option_copied dict.entry) (data_content page.now) state))) }

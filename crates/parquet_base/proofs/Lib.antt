@@ -6,6 +6,7 @@ pub mod SegmentLemmas
 pub mod ShapeLemmas
 pub mod OverlapLemmas
 pub mod DeterminedLemmas
+pub mod RangeLemmas
 pub mod RowLemmas
 pub mod TakeLemmas
 pub mod Examples

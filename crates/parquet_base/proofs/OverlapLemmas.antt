@@ -14,9 +14,6 @@ use Rattle.parquet_base.proofs.SegmentLemmas.{holds_inside, holds_before, holds_
 
 -- ---- intervals beside a page
 
-pub overlap-before : (page run : Interval) → end run ≤ page.start → overlap page run ≡ None
-overlap-before page run h = rw (le-ltb (max page.start run.start) (min (end page) (end run)) (omega arith)) refl
-
 pub overlap-behind : (page run : Interval) → end page ≤ run.start → overlap page run ≡ None
 overlap-behind page run h = rw (le-ltb (max page.start run.start) (min (end page) (end run)) (omega arith)) refl
 

@@ -5,8 +5,6 @@
 mod interval;
 pub mod laws;
 mod steps;
-#[cfg(test)]
-mod tests;
 mod varint;
 
 pub use interval::{Interval, common_runs, is_well_shaped, overlaps, page_runs, runs_of_all};

@@ -24,6 +24,3 @@ pub use plain_bits::PlainBits;
 pub use plain_bytes::PlainBytes;
 pub use plain_fixed::PlainFixed;
 pub use run::HybridRun;
-
-#[cfg(test)]
-mod tests;

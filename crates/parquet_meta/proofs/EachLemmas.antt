@@ -7,19 +7,12 @@ use Rattle.columns_core.specs.declared.error.Error.TheVariants as error
 use Rattle.parquet_base.specs.Failures.{MayFail}
 use Rattle.parquet_meta.specs.Lists.{all_of}
 use Rattle.parquet_meta.specs.Source.{Finds}
-use Rattle.parquet_meta.proofs.ListLemmas.{IsMaking, making-begins, making-goes_on, making-fails, making-ends}
+use Rattle.parquet_meta.proofs.ListLemmas.{IsMaking, making-goes_on, making-fails, making-ends}
 
 -- what was read, and what is left, are all of it; what was taken, and what is left to take, are at most all
 pub record IsReadingEach {A B : Type 0} (value : List ℕ → A → Option B) (cost : A → ℕ) (told : Option (List ℕ)) (all rest : List A) (items : List B) (before_all now : ℕ) : Type 0 where
   pub found : IfSome told (λ file. IsMaking (value file) all rest items)
   pub taken : now + sum_by cost rest ≤ before_all + sum_by cost all
-
-pub each_begins : {A B : Type 0} (value : List ℕ → A → Option B) (cost : A → ℕ) (told : Option (List ℕ)) (all : List A) (now : ℕ) → IsReadingEach value cost told all all [] now now
-each_begins {A = A} {B = B} value cost told all now = record { found = found told; taken = omega arith }
-  where
-    found : (o : Option (List ℕ)) → IfSome o (λ file. IsMaking (value file) all all [])
-    found None = tt
-    found (Some file) = making-begins (value file) all
 
 pub each_goes_on : {A B : Type 0} (value : List ℕ → A → Option B) (cost : A → ℕ) (told : Option (List ℕ)) (all rest : List A) (x : A) (items : List B) (y : B) (before_all now then : ℕ) →
     IsReadingEach value cost told all (x ∷ rest) items before_all now → IfSome told (λ file. value file x ≡ Some y) → then ≤ now + cost x → IsReadingEach value cost told all rest (items ++ y ∷ []) before_all then

@@ -3,11 +3,11 @@ use Rattle.std.proofs.Common.{◌≡◌, ℕ, ◌+◌, ◌≤◌, List, ◌++◌
 use Rattle.std.specs.Prelude.{IfSome}
 use Rattle.std.proofs.lemmas.List.{drop-drop}
 
--- a source's count has not fallen, it tells the same, and the buffer begins with the first bytes of the part
+-- no call of the source failed, it tells the same, and the buffer begins with the first bytes of the part
 pub record IsFilling {S K : Type 0} (told : S → Option (List ℕ)) (faults taken : S → ℕ) (kept : S → K) (first : S) (place : ℕ) (start : List ℕ) (now : S) (filled : ℕ) (out : List ℕ) : Type 0 where
   pub same : told now ≡ told first
   pub kept_so : kept now ≡ kept first
-  pub later : faults first ≤ faults now
+  pub quiet : faults now ≡ faults first
   pub taken_so : taken now ≤ taken first + filled
   pub len : length out ≡ length start
   pub within : filled ≤ length out
@@ -22,16 +22,15 @@ front_grows (Some file) place filled n old new h before behind =
     ∙ sym (take-add filled n (drop place file))
 
 pub goes_on : {S K : Type 0} (told : S → Option (List ℕ)) (faults taken : S → ℕ) (kept : S → K) (first : S) (place : ℕ) (start : List ℕ) (now : S) (filled : ℕ) (out : List ℕ) (next : S) (n : ℕ) (new : List ℕ) →
-    IsFilling told faults taken kept first place start now filled out → told next ≡ told now → kept next ≡ kept now → faults now ≤ faults next → taken next ≤ taken now + n → length new ≡ length out → filled + n ≤ length out →
+    IsFilling told faults taken kept first place start now filled out → told next ≡ told now → kept next ≡ kept now → faults next ≡ faults now → taken next ≤ taken now + n → length new ≡ length out → filled + n ≤ length out →
     take filled new ≡ take filled out → IfSome (told now) (λ file. take n (drop filled new) ≡ take n (drop (place + filled) file)) →
     IsFilling told faults taken kept first place start next (filled + n) new
-goes_on told faults taken kept first place start now filled out next n new f same keeps later t len room before behind =
-    let earlier = f.later in
+goes_on told faults taken kept first place start now filled out next n new f same keeps quiet t len room before behind =
     let so_far = f.taken_so in
     record {
       same = same ∙ f.same;
       kept_so = keeps ∙ f.kept_so;
-      later = omega arith;
+      quiet = quiet ∙ f.quiet;
       taken_so = omega arith;
       len = len ∙ f.len;
       within = omega (arith, len);

@@ -30,9 +30,6 @@ all_of-next value x rest = refl
 pub record IsMaking {A B : Type 0} (value : A → Option B) (all rest : List A) (items : List B) : Type 0 where
   pub same : before items (all_of value rest) ≡ all_of value all
 
-pub making-begins : {A B : Type 0} (value : A → Option B) (all : List A) → IsMaking value all all []
-making-begins value all = record { same = before_none (all_of value all) }
-
 pub making-goes_on : {A B : Type 0} (value : A → Option B) (all rest others : List A) (x : A) (items : List B) (y : B) →
     IsMaking value all rest items → rest ≡ x ∷ others → value x ≡ Some y → IsMaking value all others (items ++ y ∷ [])
 making-goes_on {B = B} value all rest others x items y making is one = record {

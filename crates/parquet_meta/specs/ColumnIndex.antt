@@ -1,5 +1,5 @@
 -- A column index as it is stored: for each page whether it is a page of nulls alone, its ends and its count of nulls.
-use Rattle.std.specs.Prelude.{ℕ, ℤ, Bool, true, ◌&&◌, ◌==◌, List, length, Option, Some, None, option_map, if◌then◌else◌}
+use Rattle.std.specs.Prelude.{ℕ, ℤ, Bool, true, ◌&&◌, ◌==◌, List, length, Option, Some, None, if◌then◌else◌}
 use Rattle.std.specs.Option.{option_map_or}
 use Rattle.parquet_base.specs.Reading.{◌>>=◌, given}
 use Rattle.parquet_meta.specs.Front.{value_in}
@@ -38,7 +38,3 @@ column_index = made (struct_of column_index_field (record { null_pages = None; m
 -- the column index that the bytes begin with; bytes after it are passed over
 unfoldable pub column_index_in : List ℕ → Option ColumnIndex
 column_index_in = value_in column_index
-
--- how many pages it speaks of
-unfoldable pub column_index_pages : List ℕ → Option ℕ
-column_index_pages bytes = option_map (λ index. length index.null_pages) (column_index_in bytes)

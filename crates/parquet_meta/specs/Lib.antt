@@ -4,6 +4,7 @@ pub mod Meaning
 pub mod Code
 pub mod Places
 pub mod Source
+pub mod Keeps
 pub mod Front
 pub mod Statistics
 pub mod Schema

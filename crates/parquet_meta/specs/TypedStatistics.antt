@@ -23,6 +23,13 @@ abbrev pub known_count : Option ℤ → Option (Option ℕ)
 known_count None = Some None
 known_count (Some n) = option_map Some (not_negative n)
 
+-- the counts of nulls and of distinct values that are told
+abbrev pub counts_in : StatisticsBytes → Option (Option ℕ × Option ℕ)
+counts_in s = do
+  nulls ← known_count s.null_count
+  distinct ← known_count s.distinct_count
+  Some (nulls, distinct)
+
 -- an end that is told has the width of its type
 abbrev pub known_end : {A : Type 0} → (List ℕ → Option A) → Option (List ℕ) → Option (Option A)
 known_end end None = Some None
@@ -50,6 +57,17 @@ typed_statistics (types.FixedLenByteArray width) s = option_map (raw.FixedLenByt
 abbrev pub statistics_of : PhysicalType → Option StatisticsBytes → Option (Option RawStatistics)
 statistics_of physical_type None = Some None
 statistics_of physical_type (Some s) = option_map Some (typed_statistics physical_type s)
+
+-- the counts of a chunk, none of which is told where there are no statistics
+abbrev pub counts_of : Option StatisticsBytes → Option (Option ℕ × Option ℕ)
+counts_of None = Some (None, None)
+counts_of (Some s) = counts_in s
+
+-- A call gives the counts, whatever type the ends have. It refuses exactly where a count is negative.
+abbrev pub GivesCounts : Option StatisticsBytes → Result (Option ℕ × Option ℕ) Error → Type 0
+GivesCounts stored (Ok counts) = counts_of stored ≡ Some counts
+GivesCounts stored (Err (error.ExternalFormat part)) = counts_of stored ≡ None
+GivesCounts stored (Err _) = ⊥
 
 -- A call gives the typed statistics. It refuses where the type is not carried, whatever is stored, and where an end has another
 -- width or a count is negative.

@@ -1,14 +1,14 @@
 //! What row groups and their chunks say of themselves.
 
 use crate::metadata::{ColumnChunkMetaData, ColumnDescriptor, RawStatistics, RowGroupMetaData};
-use crate::typed_statistics::{is_carried, typed_statistics};
+use crate::typed_statistics::{is_carried, known_counts, typed_statistics};
 use columns_core::{Error, Part};
 use std::alloc::Global;
 
 impl ColumnChunkMetaData {
     ghost use Rattle.std.specs.Prelude.{◌≡◌};
     ghost use Rattle.parquet_meta.specs.Chunks.{chunk_start};
-    ghost use Rattle.parquet_meta.specs.TypedStatistics.{GivesStatistics};
+    ghost use Rattle.parquet_meta.specs.TypedStatistics.{GivesCounts, GivesStatistics};
 
     /// The column's place in the schema, and its type.
     pub fn descriptor(&self) -> &ColumnDescriptor
@@ -32,6 +32,20 @@ impl ColumnChunkMetaData {
             _ => self.data_page_offset,
         };
         (start, self.total_compressed_size)
+    }
+
+    /// The counts of nulls and of distinct values that the statistics tell, each None where it is not told. They
+    /// speak of no end, so a column of any type has them. Takes no memory; `ExternalFormat` where a count is negative.
+    pub fn counts(&self) -> Result<(Option<u64>, Option<u64>), Error>
+        ensures { GivesCounts self.now.statistics_bytes result }
+    {
+        let Some(stored) = &self.statistics_bytes else {
+            return Ok((None, None));
+        };
+        match known_counts(stored) {
+            Ok(counts) => Ok(counts),
+            Err(fault) => Err(fault.at(Part::Statistics)),
+        }
     }
 
     /// The statistics in the type of the column, or None where there are none.

@@ -1,7 +1,8 @@
 //! Reads whole parts of a file.
 
-ghost use Rattle.std.specs.Prelude.{◌≡◌, ◌+◌, ◌^◌, ◌<◌, ◌≤◌, length, take, drop, IfOk, IfErr, IfSome, OnErr, vec_len};
+ghost use Rattle.std.specs.Prelude.{◌≡◌, ◌+◌, ◌^◌, ◌<◌, ◌≤◌, length, take, drop, IfOk, IfErr, IfSome, OnErr, vec_len, OnOk};
 ghost use Rattle.parquet_meta.specs.Places.{part_at};
+ghost use Rattle.parquet_meta.specs.Keeps.{Keeps};
 ghost use Rattle.parquet_meta.specs.Source.{Finds, IsFailure};
 
 use crate::metadata::Place;
@@ -15,11 +16,11 @@ pub fn read_exact_at<S: Source>(
     source: &mut S,
     place: Place,
 ) -> Result<Vec<u8>, Error>
-    ensures same { S.told source.new ≡ S.told source.old }
-    ensures kept { S.kept source.new ≡ S.kept source.old }
-    ensures later { S.faults source.old ≤ S.faults source.new }
+    ensures keeps { Keeps S.Source source.old source.new }
+    ensures quiet { OnOk result (S.faults source.new ≡ S.faults source.old) }
     ensures length { IfOk result (λ bytes. vec_len bytes ≡ place.length) }
-    ensures part { Finds (λ bytes. bytes.items) (λ file. part_at file place) (S.told source.old) (S.faults source.old) (S.faults source.new) result }
+    ensures part { Finds (λ bytes. bytes.items) (λ file. part_at file place)
+        (S.told source.old) (S.faults source.old) (S.faults source.new) result }
     ensures taken { S.taken source.new ≤ S.taken source.old + place.length }
 {
     let size = source.size().map_err(|_| Error::Io)?;
@@ -35,11 +36,12 @@ pub fn read_exact_at<S: Source>(
 fn fill_from<S: Source>(source: &mut S, place: u64, out: &mut [u8]) -> Result<(), Error>
     requires fits { place + length out.old < 2 ^ 64 }
     requires within { IfSome (S.told source.old) (λ file. place + length out.old ≤ length file) }
-    ensures same { S.told source.new ≡ S.told source.old }
-    ensures kept { S.kept source.new ≡ S.kept source.old }
-    ensures later { S.faults source.old ≤ S.faults source.new }
-    ensures filled { IfOk result (λ _. IfSome (S.told source.old) (λ file. out.new ≡ take (length out.old) (drop place file))) }
-    ensures failed { IfErr result (λ e. IsFailure e (S.told source.old) (S.faults source.old) (S.faults source.new)) }
+    ensures keeps { Keeps S.Source source.old source.new }
+    ensures quiet { OnOk result (S.faults source.new ≡ S.faults source.old) }
+    ensures filled { IfOk result (λ _. IfSome (S.told source.old) (λ file.
+        out.new ≡ take (length out.old) (drop place file))) }
+    ensures failed { IfErr result (λ e.
+        IsFailure e (S.told source.old) (S.faults source.old) (S.faults source.new)) }
     ensures taken { S.taken source.new ≤ S.taken source.old + length out.old }
 {
     let mut filled = 0;
@@ -60,13 +62,14 @@ fn read_behind<S: Source>(
     requires room { filled < length out.old }
     requires fits { place + length out.old < 2 ^ 64 }
     requires within { IfSome (S.told source.old) (λ file. place + length out.old ≤ length file) }
-    ensures same { S.told source.new ≡ S.told source.old }
-    ensures kept { S.kept source.new ≡ S.kept source.old }
-    ensures later { S.faults source.old ≤ S.faults source.new }
+    ensures keeps { Keeps S.Source source.old source.new }
+    ensures quiet { OnOk result (S.faults source.new ≡ S.faults source.old) }
     ensures count { IfOk result (λ n. (0 < n) × (filled + n ≤ length out.old)) }
     ensures before { take filled out.new ≡ take filled out.old }
-    ensures behind { IfOk result (λ n. IfSome (S.told source.old) (λ file. take n (drop filled out.new) ≡ take n (drop (place + filled) file))) }
-    ensures failed { IfErr result (λ e. IsFailure e (S.told source.old) (S.faults source.old) (S.faults source.new)) }
+    ensures behind { IfOk result (λ n. IfSome (S.told source.old) (λ file.
+        take n (drop filled out.new) ≡ take n (drop (place + filled) file))) }
+    ensures failed { IfErr result (λ e.
+        IsFailure e (S.told source.old) (S.faults source.old) (S.faults source.new)) }
     ensures taken { IfOk result (λ n. S.taken source.new ≤ S.taken source.old + n) }
     ensures not_taken { OnErr result (S.taken source.new ≤ S.taken source.old) }
 {

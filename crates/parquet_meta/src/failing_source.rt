@@ -2,7 +2,6 @@
 
 ghost use Rattle.std.specs.Prelude.{◌≡◌, ◌==◌, ℕ, List, Some, IfOk, OnErr, length, take, drop, is_err, ◌<◌, ◌≤◌};
 ghost use Rattle.std.specs.List.{list_any};
-ghost use Rattle.parquet_base.specs.Failures.{CountsFailures};
 ghost use Rattle.parquet_meta.specs.Source.{AreCounts, counted, is_failing, next_call, raised};
 
 use crate::memory_source::copy_from;
@@ -56,8 +55,8 @@ impl FailingSource {
         ensures bytes { self.new.bytes ≡ self.old.bytes }
         ensures listed { self.new.listed ≡ self.old.listed }
         ensures taken { self.new.taken ≡ self.old.taken }
-        ensures exact { self.new.faults ≡ counted self.old.faults result }
-        ensures counted { CountsFailures self.old.faults self.new.faults result }
+        ensures counted { self.new.faults ≡ counted self.old.faults result }
+        ensures later { self.old.faults ≤ self.new.faults }
         ensures bounded { AreCounts self.new.faults self.new.taken }
     {
         let number = self.calls.saturating_add(1);
@@ -87,8 +86,8 @@ impl Source for FailingSource {
         ensures same { self.new.bytes ≡ self.old.bytes }
         ensures kept { self.new.listed ≡ self.old.listed }
         ensures size { IfOk result (λ n. n ≡ length self.old.bytes) }
-        ensures exact { self.new.faults ≡ counted self.old.faults result }
-        ensures counted { CountsFailures self.old.faults self.new.faults result }
+        ensures counted { self.new.faults ≡ counted self.old.faults result }
+        ensures later { self.old.faults ≤ self.new.faults }
         ensures bounded { AreCounts self.new.faults self.new.taken }
         ensures taken { self.new.taken ≡ self.old.taken }
     {
@@ -104,8 +103,8 @@ impl Source for FailingSource {
         ensures at_most { IfOk result (λ n. n ≤ length out.new) }
         ensures read { IfOk result (λ n. take n out.new ≡ take n (drop place self.old.bytes)) }
         ensures some { IfOk result (λ n. place < length self.old.bytes → 0 < length out.old → 0 < n) }
-        ensures exact { self.new.faults ≡ counted self.old.faults result }
-        ensures counted { CountsFailures self.old.faults self.new.faults result }
+        ensures counted { self.new.faults ≡ counted self.old.faults result }
+        ensures later { self.old.faults ≤ self.new.faults }
         ensures bounded { AreCounts self.new.faults self.new.taken }
         ensures taken { IfOk result (λ n. self.new.taken ≡ raised self.old.taken n) }
         ensures not_taken { OnErr result (self.new.taken ≡ self.old.taken) }

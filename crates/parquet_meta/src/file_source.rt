@@ -1,7 +1,6 @@
 //! A file of the system as a source. Nothing is known of what the system answers.
 
 ghost use Rattle.std.specs.Prelude.{◌≡◌, ◌≤◌, None, IfOk, OnErr, length};
-ghost use Rattle.parquet_base.specs.Failures.{CountsFailures};
 ghost use Rattle.parquet_meta.specs.Source.{AreCounts, counted, raised};
 
 use crate::source::{Failed, Source};
@@ -95,8 +94,8 @@ impl<R: Files + Drop> Source for FileSource<R> {
     ghost kept = { λ _. tt };
 
     fn size(&mut self) -> Result<u64, Failed>
-        ensures exact { self.new.0 ≡ counted self.old.0 result }
-        ensures counted { CountsFailures self.old.0 self.new.0 result }
+        ensures counted { self.new.0 ≡ counted self.old.0 result }
+        ensures later { self.old.0 ≤ self.new.0 }
         ensures bounded { AreCounts self.new.0 self.new.1 }
         ensures taken { self.new.1 ≡ self.old.1 }
     {
@@ -110,8 +109,8 @@ impl<R: Files + Drop> Source for FileSource<R> {
 
     fn read_at(&mut self, place: u64, out: &mut [u8]) -> Result<usize, Failed>
         ensures at_most { IfOk result (λ n. n ≤ length out.new) }
-        ensures exact { self.new.0 ≡ counted self.old.0 result }
-        ensures counted { CountsFailures self.old.0 self.new.0 result }
+        ensures counted { self.new.0 ≡ counted self.old.0 result }
+        ensures later { self.old.0 ≤ self.new.0 }
         ensures bounded { AreCounts self.new.0 self.new.1 }
         ensures taken { IfOk result (λ n. self.new.1 ≡ raised self.old.1 n) }
         ensures not_taken { OnErr result (self.new.1 ≡ self.old.1) }

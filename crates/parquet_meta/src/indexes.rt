@@ -1,11 +1,12 @@
 //! Reads the indexes of columns.
 
-ghost use Rattle.std.specs.Prelude.{◌≡◌, ◌+◌, ◌≤◌, map, sum_by, true};
+ghost use Rattle.std.specs.Prelude.{◌≡◌, ◌+◌, ◌≤◌, map, sum_by, true, OnOk};
 ghost use Rattle.parquet_meta.specs.Fault.{MakesOr};
 ghost use Rattle.parquet_meta.specs.Indexes.{FindsIndex, FindsIndexes, column_index_length, field_columns, index_in, is_read, length_of, locations_at, locations_of, offset_index_length};
 ghost use Rattle.parquet_meta.specs.Lists.{all_of};
 ghost use Rattle.parquet_meta.specs.OffsetIndex.{locations_in};
 ghost use Rattle.parquet_meta.specs.Places.{part_at};
+ghost use Rattle.parquet_meta.specs.Keeps.{Keeps};
 ghost use Rattle.parquet_meta.specs.Source.{Finds};
 
 use crate::column_index::decode_column_index;
@@ -26,10 +27,10 @@ pub fn read_pages_locations<S: Source>(
     source: &mut S,
     columns: &[ColumnChunkMetaData],
 ) -> Result<Vec<Vec<PageLocation>>, Error>
-    ensures same { S.told source.new ≡ S.told source.old }
-    ensures kept { S.kept source.new ≡ S.kept source.old }
-    ensures later { S.faults source.old ≤ S.faults source.new }
-    ensures found { Finds (λ lists. map (λ list. list.items) lists.items) (λ file. all_of (locations_of file) columns.now) (S.told source.old) (S.faults source.old) (S.faults source.new) result }
+    ensures keeps { Keeps S.Source source.old source.new }
+    ensures quiet { OnOk result (S.faults source.new ≡ S.faults source.old) }
+    ensures found { Finds (λ lists. map (λ list. list.items) lists.items) (λ file. all_of (locations_of file) columns.now)
+        (S.told source.old) (S.faults source.old) (S.faults source.new) result }
     ensures taken { S.taken source.new ≤ S.taken source.old + sum_by offset_index_length columns.now }
 {
     let mut lists = Vec::new(alloc);
@@ -45,10 +46,10 @@ fn read_locations<S: Source>(
     source: &mut S,
     place: Option<Place>,
 ) -> Result<Vec<PageLocation>, Error>
-    ensures same { S.told source.new ≡ S.told source.old }
-    ensures kept { S.kept source.new ≡ S.kept source.old }
-    ensures later { S.faults source.old ≤ S.faults source.new }
-    ensures found { Finds (λ list. list.items) (λ file. locations_at file place) (S.told source.old) (S.faults source.old) (S.faults source.new) result }
+    ensures keeps { Keeps S.Source source.old source.new }
+    ensures quiet { OnOk result (S.faults source.new ≡ S.faults source.old) }
+    ensures found { Finds (λ list. list.items) (λ file. locations_at file place)
+        (S.told source.old) (S.faults source.old) (S.faults source.new) result }
     ensures taken { S.taken source.new ≤ S.taken source.old + length_of place }
 {
     let Some(place) = place else {
@@ -69,11 +70,12 @@ pub fn read_raw_indexes<S: Source>(
     columns: &[ColumnChunkMetaData],
     field_name: &str,
 ) -> Result<Vec<Index>, Error>
-    ensures same { S.told source.new ≡ S.told source.old }
-    ensures kept { S.kept source.new ≡ S.kept source.old }
-    ensures later { S.faults source.old ≤ S.faults source.new }
-    ensures found { FindsIndexes (λ indexes. indexes.items) (field_columns field_name.now columns.now) (S.told source.old) (S.faults source.old) (S.faults source.new) result }
-    ensures taken { S.taken source.new ≤ S.taken source.old + sum_by column_index_length (field_columns field_name.now columns.now) }
+    ensures keeps { Keeps S.Source source.old source.new }
+    ensures quiet { OnOk result (S.faults source.new ≡ S.faults source.old) }
+    ensures found { FindsIndexes (λ indexes. indexes.items) (field_columns field_name.now columns.now)
+        (S.told source.old) (S.faults source.old) (S.faults source.new) result }
+    ensures taken { S.taken source.new ≤ S.taken source.old
+        + sum_by column_index_length (field_columns field_name.now columns.now) }
 {
     let mut indexes = Vec::new(alloc);
     for column in columns {
@@ -91,10 +93,10 @@ fn read_raw_index<S: Source>(
     source: &mut S,
     column: &ColumnChunkMetaData,
 ) -> Result<Index, Error>
-    ensures same { S.told source.new ≡ S.told source.old }
-    ensures kept { S.kept source.new ≡ S.kept source.old }
-    ensures later { S.faults source.old ≤ S.faults source.new }
-    ensures found { FindsIndex column.now (S.told source.old) (S.faults source.old) (S.faults source.new) result }
+    ensures keeps { Keeps S.Source source.old source.new }
+    ensures quiet { OnOk result (S.faults source.new ≡ S.faults source.old) }
+    ensures found { FindsIndex column.now
+        (S.told source.old) (S.faults source.old) (S.faults source.new) result }
     ensures taken { S.taken source.new ≤ S.taken source.old + column_index_length column.now }
 {
     let physical_type = column.descriptor.primitive_type.physical_type;

@@ -46,8 +46,3 @@ pub use page_header::{
 };
 pub use read::read_metadata;
 pub use source::{Failed, Source};
-
-#[cfg(test)]
-mod index_tests;
-#[cfg(test)]
-mod tests;

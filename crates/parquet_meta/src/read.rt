@@ -1,8 +1,9 @@
 //! Reads what a file's footer says.
 
-ghost use Rattle.std.specs.Prelude.{◌≡◌, ◌+◌, ◌≤◌, length, true};
+ghost use Rattle.std.specs.Prelude.{◌≡◌, ◌+◌, ◌≤◌, length, true, OnOk};
 ghost use Rattle.parquet_meta.specs.Fault.{MakesOr};
 ghost use Rattle.parquet_meta.specs.File.{footer, footer_length, meta_data_in, most_taken};
+ghost use Rattle.parquet_meta.specs.Keeps.{Keeps};
 ghost use Rattle.parquet_meta.specs.Source.{Finds};
 
 use crate::exact::read_exact_at;
@@ -44,10 +45,10 @@ fn footer_length(end: &[u8]) -> Option<u32>
 /// What a file's footer says. Only the last 8 bytes and the footer before them are read.
 #[tactic(auto, unfolding(crate::specs::File::footer, crate::specs::File::footer_at))]
 pub fn read_metadata<S: Source>(alloc: Global, source: &mut S) -> Result<FileMetaData, Error>
-    ensures same { S.told source.new ≡ S.told source.old }
-    ensures kept { S.kept source.new ≡ S.kept source.old }
-    ensures later { S.faults source.old ≤ S.faults source.new }
-    ensures footer { Finds (λ metadata. metadata) footer (S.told source.old) (S.faults source.old) (S.faults source.new) result }
+    ensures keeps { Keeps S.Source source.old source.new }
+    ensures quiet { OnOk result (S.faults source.new ≡ S.faults source.old) }
+    ensures footer { Finds (λ metadata. metadata) footer
+        (S.told source.old) (S.faults source.old) (S.faults source.new) result }
     ensures taken { S.taken source.new ≤ S.taken source.old + most_taken (S.told source.old) }
 {
     let Ok(size) = source.size() else {

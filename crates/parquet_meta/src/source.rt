@@ -1,8 +1,7 @@
 //! Where a file's bytes come from.
 
 ghost use Rattle.std.specs.Prelude.{◌≡◌, ℕ, ◌<◌, ◌≤◌, List, Option, length, take, drop, IfOk, IfSome, OnErr};
-ghost use Rattle.parquet_base.specs.Failures.{CountsFailures};
-ghost use Rattle.parquet_meta.specs.Source.{AreCounts, raised};
+ghost use Rattle.parquet_meta.specs.Source.{AreCounts, counted, raised};
 
 /// A read failed.
 #[derive(Clone, Copy, Debug, PartialEq, Eq)]
@@ -13,7 +12,7 @@ pub trait Source {
     /// The bytes, where the source tells them. No call changes them.
     ghost told: { Self → Option (List ℕ) };
 
-    /// How often a call failed, up to the last number that is shown.
+    /// How often a call failed, up to the last number that is shown. A call that answers leaves it as it was.
     ghost faults: { Self → ℕ };
 
     /// How many bytes were handed out, up to the last number that is shown.
@@ -29,7 +28,8 @@ pub trait Source {
         ensures same { told self.new ≡ told self.old }
         ensures kept { Self.kept self.new ≡ Self.kept self.old }
         ensures size { IfOk result (λ n. IfSome (told self.old) (λ bytes. n ≡ length bytes)) }
-        ensures counted { CountsFailures (faults self.old) (faults self.new) result }
+        ensures counted { faults self.new ≡ counted (faults self.old) result }
+        ensures later { faults self.old ≤ faults self.new }
         ensures bounded { AreCounts (faults self.new) (taken self.new) }
         ensures taken { taken self.new ≡ taken self.old };
 
@@ -40,8 +40,10 @@ pub trait Source {
         ensures kept { Self.kept self.new ≡ Self.kept self.old }
         ensures at_most { IfOk result (λ n. n ≤ length out.new) }
         ensures read { IfOk result (λ n. IfSome (told self.old) (λ bytes. take n out.new ≡ take n (drop place bytes))) }
-        ensures some { IfOk result (λ n. IfSome (told self.old) (λ bytes. place < length bytes → 0 < length out.old → 0 < n)) }
-        ensures counted { CountsFailures (faults self.old) (faults self.new) result }
+        ensures some { IfOk result (λ n. IfSome (told self.old) (λ bytes.
+            place < length bytes → 0 < length out.old → 0 < n)) }
+        ensures counted { faults self.new ≡ counted (faults self.old) result }
+        ensures later { faults self.old ≤ faults self.new }
         ensures bounded { AreCounts (faults self.new) (taken self.new) }
         ensures taken { IfOk result (λ n. taken self.new ≡ raised (taken self.old) n) }
         ensures not_taken { OnErr result (taken self.new ≡ taken self.old) };

@@ -2,7 +2,7 @@
 
 ghost use Rattle.std.specs.Prelude.{◌≡◌, true, false};
 ghost use Rattle.parquet_meta.specs.Fault.{MakesOr};
-ghost use Rattle.parquet_meta.specs.TypedStatistics.{ends_by, is_carried, known_count, known_end, typed_statistics};
+ghost use Rattle.parquet_meta.specs.TypedStatistics.{counts_in, ends_by, is_carried, known_count, known_end, typed_statistics};
 
 use crate::fault::Fault;
 use crate::metadata::{Ends, PhysicalType, RawStatistics, StatisticsBytes};
@@ -27,6 +27,15 @@ fn known_count(count: Option<i64>) -> Result<Option<u64>, Fault>
         Some(count) if count < 0 => Err(Fault::Unspelled),
         Some(count) => Ok(Some(count as u64)),
     }
+}
+
+/// The counts of nulls and of distinct values, where they are told.
+pub(crate) fn known_counts(stored: &StatisticsBytes) -> Result<(Option<u64>, Option<u64>), Fault>
+    ensures { MakesOr false result (counts_in stored.now) }
+{
+    let null_count = known_count(stored.null_count)?;
+    let distinct_count = known_count(stored.distinct_count)?;
+    Ok((null_count, distinct_count))
 }
 
 /// An end in the width of its type, where it is told.

@@ -1,10 +1,9 @@
 -- Walking a chunk.
-use Rattle.std.proofs.Common.{◌≡◌, ◌≢◌, ℕ, zero, suc, ◌-◌, ◌<◌, ◌≤◌, Bool, true, false, List, [], ◌∷◌, length, map, drop, Option, Some, None, refl, sym, ap, ◌∙◌, arith, inl, inr}
-use Rattle.std.specs.Prelude.{ℤ, pos, negsuc}
+use Rattle.std.proofs.Common.{◌≡◌, ℕ, zero, suc, ◌-◌, ◌<◌, ◌≤◌, Bool, true, false, List, [], ◌∷◌, length, map, drop, Option, Some, None, refl, sym, ap, ◌∙◌, arith}
+use Rattle.std.specs.Prelude.{ℤ}
 use Rattle.std.specs.List.{list_all}
 use Rattle.std.specs.Option.{option_map_or}
 use Rattle.std.proofs.lemmas.Bool.{le-leb, lt-leb}
-use Rattle.std.proofs.lemmas.Bool.Decides.{eqb_tells}
 use Rattle.std.proofs.lemmas.List.{length-drop}
 use Rattle.columns_core.specs.Causes.{NotYetImplemented}
 use Rattle.columns_core.specs.declared.error.Part.{Part}
@@ -65,13 +64,6 @@ unfolding data_page_at dictionary_at
 page_of_data left header body rest bytes e = (λ few. rw (e, le-leb _ _ few) refl, λ many. rw (e, lt-leb _ _ many) refl, rw e refl)
 
 -- ---- the dictionary page
-
-pub has_other_entries : (encoding : ℤ) → encoding ≢ pos 0 → encoding ≢ pos 2 → has_plain_entries encoding ≡ false
-has_other_entries (pos n) zeroth second = elim (eqb_tells n 0) [
-  | inl same ↦ absurd (zeroth (ap pos same.1))
-  | inr other ↦ elim (eqb_tells n 2) [ inl same ↦ absurd (second (ap pos same.1)) | inr another ↦ rw (other.0, another.0) refl ]
-]
-has_other_entries (negsuc n) zeroth second = refl
 
 lends_no_dictionary : (limit : ℕ) (type : PrimitiveType) (left : ℕ) (bytes : List ℕ) (read : DictionaryPage × List ℕ) → 0 < left → dictionary_at bytes ≡ Some read → has_plain_entries read.0.encoding ≡ false
     → lent_from limit type true left bytes ≡ not_carried

@@ -28,9 +28,6 @@ differs a b other = elim (eqb_tells a b) [ inl same ↦ absurd (other same.1) | 
 
 -- ---- a page in its part
 
-pub other_length : (entry : FilteredPage) (part : List ℕ) → length part ≢ entry.length → wanted_page entry part ≡ None
-other_length entry part other = rw (differs (length part) entry.length other) refl
-
 -- a part of the stated length
 stated : (entry : FilteredPage) (part : List ℕ) → length part ≡ entry.length → wanted_page entry part ≡ page_in part entry.num_rows
 stated entry part same = rw (eq-eqb (length part) entry.length same) refl
@@ -91,9 +88,6 @@ not_empty part = (length part == 0) ≡ false
 
 part_with : (part : List ℕ) → (length part == 0) ≡ false → dictionary_in part ≡ if_defined (dictionary_at part) Undefined
 part_with part e = rw e refl
-
-pub empty_part : (part : List ℕ) (others : Lent) → (length part == 0) ≡ true → behind_dictionary (dictionary_in part) others ≡ others
-empty_part part others e = rw e refl
 
 refused_at : (part : List ℕ) (others : Lent) (where_part : Part) → (length part == 0) ≡ false → dictionary_at part ≡ None → IsRefused (behind_dictionary (dictionary_in part) others) (error.ExternalFormat where_part)
 refused_at part others where_part e none = is_damaged _ where_part (ap (λ d. behind_dictionary d others) (part_with part e) ∙ ap (λ o. behind_dictionary (if_defined o Undefined) others) none)

@@ -1,6 +1,6 @@
 -- Rows of pages, one page after the other.
 use Rattle.std.proofs.Common.{◌≡◌, ℕ, zero, suc, ◌+◌, ◌-◌, ◌<◌, ◌≤◌, true, false, List, [], ◌∷◌, length, take, drop, Option, Some, None, refl, sym, ap, subst, add-one, ◌∙◌, arith}
-use Rattle.std.specs.Prelude.{ℤ, pos, negsuc, All, nat_le}
+use Rattle.std.specs.Prelude.{ℤ, pos, negsuc, nat_le}
 use Rattle.std.proofs.Common.{get_or}
 use Rattle.std.proofs.lemmas.Bool.{le-leb, leb-true, and_parts, and_from}
 use Rattle.parquet_base.specs.Reading.{◌>>=◌}
@@ -54,11 +54,6 @@ filtered_pages-drop intervals (location ∷ locations) (own ∷ rows) (suc i) d 
 pub no_entries : (intervals : List Interval) (locations : List PageLocation) (rows : List Interval) (i : ℕ) → length locations ≤ i → filtered_pages intervals (drop i locations) (drop i rows) ≡ Some []
 unfolding filtered_pages
 no_entries intervals locations rows i h = ap (λ left. filtered_pages intervals left (drop i rows)) (drop_all i locations h)
-
--- the rows of pages end at or before the number of rows, and there are as many as locations
-pub record AreRows (locations : List PageLocation) (rows : List Interval) (num_rows : ℕ) : Type 0 where
-  pub within : All (λ page. end page ≤ num_rows) rows
-  pub all : length rows ≡ length locations
 
 -- ---- pages lie one behind the other
 

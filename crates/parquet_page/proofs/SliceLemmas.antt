@@ -1,24 +1,15 @@
 -- One run of a walk over selected rows.
-use Rattle.std.proofs.Common.{◌≡◌, ℕ, ◌+◌, ◌-◌, ◌<◌, ◌≤◌, ◌^◌, suc, zero, true, List, [], ◌∷◌, ◌++◌, length, drop, get_or, refl, sym, ap, ◌∙◌, subst, arith, append_assoc, length-append}
+use Rattle.std.proofs.Common.{◌≡◌, ℕ, ◌+◌, ◌-◌, ◌<◌, ◌≤◌, ◌^◌, true, List, [], ◌∷◌, ◌++◌, length, drop, get_or, refl, sym, ap, ◌∙◌, subst, arith, append_assoc, length-append}
 use Rattle.std.specs.Prelude.{max, min}
 use Rattle.std.specs.List.{range_with_len}
 use Rattle.std.proofs.lemmas.List.{drop_more}
 use Rattle.std.proofs.lemmas.List.FromFn.{length-range_with_len}
 use Rattle.parquet_base.specs.Intervals.{end, is_well_shaped_from, rows_of}
 use Rattle.parquet_base.specs.declared.interval.Interval.{Interval}
+use Rattle.parquet_base.proofs.RangeLemmas.{range-split}
 use Rattle.parquet_base.proofs.ShapeLemmas.{shape-cons, shape-here, shape-le}
 use Rattle.parquet_page.specs.SliceLeft.{first_count, rows_from, IsWalkOver, StandsBefore}
 use Rattle.parquet_page.specs.declared.slice_filtered.SliceFiltered.{SliceFiltered}
-
-pub range-split : (from n m : ℕ) → range_with_len from (n + m) ≡ range_with_len from n ++ range_with_len (from + n) m
-range-split from zero m =
-    let none : zero + m ≡ m = omega arith in
-    let here : from ≡ from + zero = omega arith in
-    ap (range_with_len from) none ∙ ap (λ at. range_with_len at m) here
-range-split from (suc n) m =
-    let more : suc n + m ≡ suc (n + m) = omega arith in
-    let there : from + 1 + n ≡ from + suc n = omega arith in
-    ap (range_with_len from) more ∙ ap (λ rest. from ∷ rest) (range-split (from + 1) n m ∙ ap (λ at. range_with_len (from + 1) n ++ range_with_len at m) there)
 
 -- from a row at or before the first interval on they are all rows
 pub from-start : (row : ℕ) (runs : List Interval) (rows : ℕ) → is_well_shaped_from row runs rows ≡ true → rows_from row runs ≡ rows_of runs

@@ -121,7 +121,7 @@ keys_spelled page keys entries encoding carried e within =
 
 -- ---- nothing is wrong
 
-no_cause : {A : Type 0} (x : A) (xs : List A) → x ∷ xs ≡ [] → ⊥
+pub no_cause : {A : Type 0} (x : A) (xs : List A) → x ∷ xs ≡ [] → ⊥
 no_cause x xs e = absurd cc
 
 first_of_none : (b : Bool) (cause : Cause) (others : List Cause) → unless b cause ++ others ≡ [] → b ≡ true

@@ -12,7 +12,7 @@ use Rattle.parquet_page.specs.Plan.{plan, plan_from}
 use Rattle.parquet_page.specs.Runs.{GivesRun}
 use Rattle.parquet_page.specs.Spelling.{has_readable_levels, places_and_values}
 use Rattle.parquet_page.specs.Stretches.{BeginsOtherwise, BeginsWith}
-use Rattle.parquet_page.specs.ValidityLeft.{IsLongest, levels_causes, page_left, page_places}
+use Rattle.parquet_page.specs.ValidityLeft.{IsLongest, IsLongestPart, levels_causes, page_left, page_places}
 use Rattle.parquet_page.specs.ValidityParts.{GivesPart, word_places, word_steps}
 use Rattle.parquet_page.specs.declared.level_runs.LevelRuns.{LevelRuns}
 use Rattle.parquet_page.specs.declared.run.Run.{Run}
@@ -119,6 +119,10 @@ kept-word limit word old new split some most = (
 pub part-at : (limit : ℕ) (old new : LevelRuns) (page : DataContent) (body : Body) (result : Option ValidityPart) → body_parts page.type.repetition page.header page.body ≡ Some body → GivesPart limit (plan None (places old body.definition)) (plan None (places new body.definition)) result
     → GivesPart limit (plan None (unwrap_or (page_left old page) [])) (plan None (unwrap_or (page_left new page) [])) result
 part-at limit old new page body result e gives = rw e gives
+
+pub longest-at : (limit : ℕ) (new : LevelRuns) (page : DataContent) (body : Body) (result : Option ValidityPart) → body_parts page.type.repetition page.header page.body ≡ Some body → IsLongestPart limit result (plan None (places new body.definition))
+    → IsLongestPart limit result (plan None (unwrap_or (page_left new page) []))
+longest-at limit new page body result e longest = rw e longest
 
 -- how many rows are left, by the levels of a page
 pub left-len : (runs : LevelRuns) (page : DataContent) (n : ℕ) → ((levels : List ℕ) → IsSome (places_left runs levels) → n ≡ length (unwrap_or (places_left runs levels) [])) → IsSome (page_left runs page) → n ≡ length (plan None (unwrap_or (page_left runs page) []))

@@ -1,13 +1,15 @@
 -- Places as the bits of a word.
-use Rattle.std.proofs.Common.{◌≡◌, ℕ, zero, suc, ◌+◌, ◌-◌, ◌*◌, ◌/◌, ◌%◌, ◌^◌, ◌<◌, ◌≤◌, cond, Bool, List, ◌∷◌, ◌++◌, take, map, refl, sym, ap, ◌∙◌, inl, inr, arith}
+use Rattle.std.proofs.Common.{◌≡◌, ℕ, zero, suc, ◌+◌, ◌-◌, ◌*◌, ◌/◌, ◌%◌, ◌^◌, ◌<◌, ◌≤◌, cond, Bool, true, false, List, [], ◌∷◌, ◌++◌, length, take, map, refl, sym, ap, ◌∙◌, inl, inr, arith}
 use Rattle.std.specs.Prelude.{◌==◌, replicate}
 use Rattle.std.specs.Int.Count.{ones}
 use Rattle.std.proofs.Math.Pow.{mod-mod-pow}
 use Rattle.std.proofs.lemmas.Bool.{cases_lt}
-use Rattle.std.proofs.lemmas.List.Sums.{sum_by-cons}
+use Rattle.std.proofs.lemmas.List.{length-append, length-replicate}
+use Rattle.std.proofs.lemmas.List.Folds.{sum_by-replicate}
+use Rattle.std.proofs.lemmas.List.Sums.{count_by-le-length, sum_by-append, sum_by-cons}
 use Rattle.std.proofs.lemmas.Nat.{field_of, ones_cat, shr-shr, shr_below}
 use Rattle.columns_core.specs.Bits.{low_bits}
-use Rattle.columns_core.proofs.BitLemmas.{low_bits-add}
+use Rattle.columns_core.proofs.BitLemmas.{length-low_bits, low_bits-add}
 use Rattle.parquet_base.specs.Bytes.{little_endian}
 use Rattle.parquet_encoding.specs.Bits.{bits_at, packed}
 use Rattle.parquet_encoding.proofs.BitsLemmas.{take-packed}
@@ -91,3 +93,39 @@ bits_begin bits rows same wide is most equal ends =
 -- fewer bits are left behind some
 pub bits_behind : (bits rows same : ℕ) → bits < 2 ^ rows → same ≤ rows → bits / 2 ^ same < 2 ^ (rows - same)
 bits_behind bits rows same few most = let all : rows ≡ rows - same + same = omega arith in shr_below bits (rows - same) same (rw all at few)
+
+-- ---- rows of both kinds
+
+-- how much a place adds to the count
+abbrev one : Bool → ℕ
+one present = cond present 1 0
+
+both_kinds : (kind : Bool) (same : ℕ) (behind : List Bool) → BeginsOtherwise kind behind → 0 < length behind → 0 < same
+    → (0 < same * one kind + present_count behind) × (same * one kind + present_count behind < same + length behind)
+both_kinds kind same [] other more some = absurd (omega arith)
+both_kinds true same (true ∷ places) other more some = absurd (other refl)
+both_kinds false same (false ∷ places) other more some = absurd (other refl)
+both_kinds true same (false ∷ places) other more some =
+    let counted = sum_by-cons one false places in
+    let most = count_by-le-length (λ present. present) places in
+    (omega (arith, counted, most), omega (arith, counted, most))
+both_kinds false same (true ∷ places) other more some =
+    let counted = sum_by-cons one true places in
+    let most = count_by-le-length (λ present. present) places in
+    (omega (arith, counted, most), omega (arith, counted, most))
+
+begins_both : (kind : Bool) (rows same : ℕ) (places behind : List Bool) → BeginsWith rows kind same places behind → length places ≡ rows → 0 < same → same < rows → (0 < present_count places) × (present_count places < rows)
+begins_both kind rows same places behind begins all some fewer =
+    let counted : present_count places ≡ same * one kind + present_count behind =
+    ap present_count begins.split ∙ sum_by-append one (replicate same kind) behind ∙ ap (λ n. n + present_count behind) (sum_by-replicate one same kind) in
+    let size : length places ≡ same + length behind = ap length begins.split ∙ length-append (replicate same kind) behind ∙ ap (λ n. n + length behind) (length-replicate same kind) in
+    elim begins.longest [
+      | inl full ↦ absurd (omega (arith, full, fewer))
+      | inr other ↦ let both = both_kinds kind same behind other (omega (arith, size, all, fewer)) some in (omega (arith, both.0, counted), omega (arith, both.1, counted, size, all))
+    ]
+
+-- bits of which only some are those of the lowest
+pub word_has_both : (bits rows same wide : ℕ) → wide ≡ bits → 0 < same → same < rows → ((k : ℕ) → k < same → wide / 2 ^ k % 2 ≡ wide % 2) → (same < rows → wide / 2 ^ same % 2 ≡ wide % 2 → ⊥)
+    → (0 < present_count (low_bits bits rows)) × (present_count (low_bits bits rows) < rows)
+word_has_both bits rows same wide is some fewer equal ends =
+    begins_both (wide % 2 == 1) rows same (low_bits bits rows) (low_bits (wide / 2 ^ same) (rows - same)) (bits_begin bits rows same wide is (omega (arith, fewer)) equal ends) (length-low_bits bits rows) some fewer

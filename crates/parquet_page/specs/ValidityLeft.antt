@@ -9,10 +9,13 @@ use Rattle.parquet_page.specs.Stretches.{BeginsOtherwise}
 use Rattle.parquet_page.specs.Plan.{Keep, KeepNull, Pass, Step, plan}
 use Rattle.parquet_page.specs.Runs.{run_rows}
 use Rattle.parquet_page.specs.Spelling.{has_readable_levels, places_and_values}
+use Rattle.parquet_page.specs.ValidityParts.{HasBothKinds}
 use Rattle.parquet_page.specs.declared.level_runs.LevelRuns.{LevelRuns}
 use Rattle.parquet_page.specs.declared.run.Run.{Run}
 use Rattle.parquet_page.specs.declared.run.Run.TheVariants.{Present, Null, Passed}
 use Rattle.parquet_page.specs.declared.validity.OptionalPageValidity.{OptionalPageValidity}
+use Rattle.parquet_page.specs.declared.validity_part.ValidityPart.{ValidityPart}
+use Rattle.parquet_page.specs.declared.validity_part.ValidityPart.TheVariants.{Run as OfRun, Word as OfWord}
 
 -- which places of a page have a value
 abbrev pub page_places : DataContent → Option (List Bool)
@@ -45,3 +48,9 @@ step_of (Passed values) = Pass
 abbrev pub IsLongest : ℕ → Option Run → List Step → Type 0
 IsLongest limit None behind = Unit {0}
 IsLongest limit (Some run) behind = (run_rows run ≡ limit) ⊎ BeginsOtherwise (step_of run) behind
+
+-- A run is as long as it can be, and a word has rows of both kinds.
+abbrev pub IsLongestPart : ℕ → Option ValidityPart → List Step → Type 0
+IsLongestPart limit None behind = Unit {0}
+IsLongestPart limit (Some (OfRun run)) behind = IsLongest limit (Some run) behind
+IsLongestPart limit (Some (OfWord word)) behind = HasBothKinds word

@@ -1,6 +1,7 @@
 -- Rows of a page in parts: runs, and words of bits.
 use Rattle.std.specs.Prelude.{◌≡◌, ℕ, ◌<◌, ◌≤◌, Bool, List, [], ◌++◌, Option, Some, None}
 use Rattle.columns_core.specs.Bits.{low_bits}
+use Rattle.parquet_page.specs.Levels.{present_count}
 use Rattle.parquet_page.specs.Plan.{Step, plan}
 use Rattle.parquet_page.specs.Runs.{expand, run_length, run_rows}
 use Rattle.parquet_page.specs.declared.validity_part.ValidityPart.{ValidityPart}
@@ -10,6 +11,10 @@ use Rattle.parquet_page.specs.declared.validity_part.ValidityWord.{ValidityWord}
 -- which rows of a word have a value
 abbrev pub word_places : ValidityWord → List Bool
 word_places word = low_bits word.bits word.rows
+
+-- some of its rows have a value, and some are null
+abbrev pub HasBothKinds : ValidityWord → Type 0
+HasBothKinds word = (0 < present_count (word_places word)) × (present_count (word_places word) < word.rows)
 
 -- all of its rows are given
 abbrev pub word_steps : ValidityWord → List Step

@@ -8,7 +8,7 @@ ghost use Rattle.parquet_encoding.specs.HybridRun.{IsIn, count_of, run_values};
 ghost use Rattle.parquet_encoding.specs.PackedRun.{LiesIn, packed_values};
 ghost use Rattle.parquet_page.specs.Levels.{presence, present_count, top_level as top_level_of};
 ghost use Rattle.parquet_page.specs.Stretches.{BeginsOtherwise, BeginsWith};
-ghost use Rattle.parquet_page.specs.ValidityParts.{word_places};
+ghost use Rattle.parquet_page.specs.ValidityParts.{HasBothKinds, word_places};
 
 use crate::validity_part::{ValidityWord, equal_bits};
 use columns_core::{Error, Part};
@@ -78,6 +78,7 @@ fn packed_word(run: &PackedRun, bytes: &[u8]) -> Option<ValidityWord>
     requires lies { LiesIn bytes.now run.now }
     ensures some { IfSome result (λ word. 0 < word.rows) }
     ensures within { IfSome result (λ word. word.rows ≤ run.now.count) }
+    ensures both { IfSome result HasBothKinds }
     ensures places { IfSome result (λ word. word_places word ≡ map (λ level. level == 1) (take word.rows (packed_values run.now bytes.now))) }
 {
     if run.width != 1 {
@@ -307,6 +308,7 @@ impl LevelRuns {
         requires spelled { IsSome (places_left self.old levels.now) }
         requires some { 0 < limit }
         ensures word { IfSome result (λ word. (places self.old levels.now ≡ word_places word ++ places self.new levels.now) × (0 < word.rows) × (word.rows ≤ limit)) }
+        ensures both { IfSome result HasBothKinds }
         ensures kept { IfNone result (self.new ≡ self.old) }
         ensures spelled { IsSome (places_left self.new levels.now) }
     {

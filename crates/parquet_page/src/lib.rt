@@ -16,8 +16,6 @@ mod run;
 mod selection;
 mod slice_filtered;
 mod source;
-#[cfg(test)]
-mod tests;
 mod validity;
 mod validity_part;
 

@@ -58,7 +58,7 @@ pub struct OptionalPageValidity {
 }
 
 impl OptionalPageValidity {
-    ghost use Rattle.parquet_page.specs.ValidityLeft.{IsLongest, optional_left, optional_steps};
+    ghost use Rattle.parquet_page.specs.ValidityLeft.{IsLongest, IsLongestPart, optional_left, optional_steps};
 
     /// Before the first row.
     pub fn try_new(page: &DataPage<'_>) -> Result<Self, Error>
@@ -86,12 +86,13 @@ impl OptionalPageValidity {
         Some(kept_run(present, rows))
     }
 
-    /// The next rows in one part, at most `limit`: the bits of packed levels, or a run. Which of the two comes and how long it is, is not
-    /// promised. The page is that of `try_new`.
+    /// The next rows in one part, at most `limit`: a run as long as it can be, or the bits of at most 32 packed levels that are not all the same. The
+    /// page is that of `try_new`.
     pub fn next_part(&mut self, page: &DataPage<'_>, limit: usize) -> Option<ValidityPart>
         requires page { IsSome (optional_left self.old (data_content page.now)) }
         requires limit { 0 < limit }
         ensures part { GivesPart limit (optional_steps self.old (data_content page.now)) (optional_steps self.new (data_content page.now)) result }
+        ensures longest { IsLongestPart limit result (optional_steps self.new (data_content page.now)) }
         ensures page { IsSome (optional_left self.new (data_content page.now)) }
     {
         let Ok((_, levels, _)) = split_buffer(page) else {

@@ -39,7 +39,7 @@ use Rattle.parquet_scan.proofs.CauseLemmas.{then_next}
 use Rattle.parquet_scan.proofs.PageLemmas.{HasWrongItem, IsOver, IsRefused, dictionary_first, first_given, first_wrong, items_many, pair_rule, some_cause}
 use Rattle.page_decoding.proofs.RowLemmas.{one_of-left, one_of-right}
 use Rattle.flat_values.proofs.OutcomeLemmas.{cells_in-given}
-use Rattle.parquet_page.proofs.SliceLemmas.{range-split}
+use Rattle.parquet_base.proofs.RangeLemmas.{range-split}
 
 -- ---- rows, one after another
 

@@ -9,7 +9,7 @@ use Rattle.parquet_base.proofs.EndLemmas.{IsEnd_drop}
 use Rattle.parquet_base.specs.Varint.{varint_within, varint, zigzag}
 use Rattle.parquet_thrift.specs.Front.{IsAtFront, ReadsFront, SpellsOnce}
 use Rattle.parquet_thrift.specs.Numbers.{signed, signed_byte, raw, bytes_of_length}
-use Rattle.parquet_thrift.specs.Values.{Value, truth, number, double, binary, list, map, struct, Values, no_values, values, Fields, no_fields, fields, Context, in_struct, in_list, Header, header_of, id_after, is_kind, field_header, list_header, list_header_of, list_start, map_header, map_header_of, elements, entries, field_or_end, fields_within, fields_of, list_truth, truth_at, value_with, value_within, value, depth, keep, no_deeper}
+use Rattle.parquet_thrift.specs.Values.{Value, truth, number, double, binary, list, map, struct, Values, no_values, values, Fields, no_fields, fields, Context, in_struct, in_list, Header, header_of, id_after, is_kind, field_header, list_header, list_header_of, list_start, map_header, map_header_of, elements, entries, field_or_end, fields_within, fields_of, list_truth, truth_at, value_with, value_within, value, depth, keep}
 use Rattle.parquet_thrift.proofs.Lengths.{NeverGrows}
 use Rattle.parquet_thrift.proofs.FieldLemmas.{fields_of-next}
 use Rattle.parquet_thrift.proofs.ValueLemmas.{value-takes, value-next, value-list}
@@ -318,9 +318,6 @@ keep-front most read least bytes (Some x) p = by_depth (nat_le (depth x.0) most)
     by_depth : (b : Bool) → nat_le (depth x.0) most ≡ b → FrontOf least (λ bs. keep depth most (read bs)) bytes (cond b (Some x) None)
     by_depth false e = tt
     by_depth true e = front-through least read (keep depth most) bytes x x.0 (λ rest. rw e refl) p
-
-pub no_deeper-front : (most : ℕ) (context : Context) (kind : ℕ) → ReadsFront (least context) (no_deeper most context kind)
-no_deeper-front most context kind bytes = keep-front most (value context kind) (least context) bytes (value context kind bytes) (value-front context kind bytes)
 
 -- ---- what follows from it
 

@@ -46,6 +46,3 @@ pub const MAP: u8 = 11;
 
 /// The kind of a struct.
 pub const STRUCT: u8 = 12;
-
-#[cfg(test)]
-mod tests;

@@ -1,3 +1,6 @@
 pub mod Appended
+mod Examples
+pub mod HexLemmas
 pub mod NumberLemmas
 pub mod RowLemmas
+pub mod TextLemmas

@@ -1,18 +1,9 @@
 -- Rows one after another.
-use Rattle.std.proofs.Common.{◌≡◌, ℕ, zero, suc, ◌+◌, List, ◌∷◌, ◌++◌, sym, ◌∙◌, ap, arith, append_assoc}
+use Rattle.std.proofs.Common.{◌≡◌, ℕ, ◌+◌, List, ◌++◌, sym, ◌∙◌, ap, arith, append_assoc}
 use Rattle.std.specs.List.{flat_map, range_with_len}
 use Rattle.std.proofs.lemmas.List.{append-nil}
 use Rattle.std.proofs.lemmas.List.Concat.{flat_map-append}
-
-range-split : (from n m : ℕ) → range_with_len from (n + m) ≡ range_with_len from n ++ range_with_len (from + n) m
-range-split from zero m =
-    let none : zero + m ≡ m = omega arith in
-    let here : from ≡ from + zero = omega arith in
-    ap (range_with_len from) none ∙ ap (λ at. range_with_len at m) here
-range-split from (suc n) m =
-    let more : suc n + m ≡ suc (n + m) = omega arith in
-    let there : from + 1 + n ≡ from + suc n = omega arith in
-    ap (range_with_len from) more ∙ ap (λ rest. from ∷ rest) (range-split (from + 1) n m ∙ ap (λ at. range_with_len (from + 1) n ++ range_with_len at m) there)
+use Rattle.parquet_base.proofs.RangeLemmas.{range-split}
 
 -- the lines of the rows before, and then those of so many more
 pub rows_written : (f : ℕ → List ℕ) (old before now : List ℕ) (n count : ℕ)

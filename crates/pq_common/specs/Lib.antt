@@ -1,7 +1,6 @@
 pub mod CellText
 pub mod Endings
 pub mod Memory
-pub mod Numbers
 pub mod Rows
 pub mod Spelled
 pub mod Written

@@ -1,5 +1,5 @@
 -- Sinks in memory: what they were given, and which of their calls fail.
-use Rattle.std.specs.Prelude.{ℕ, ◌+◌, ◌-◌, ◌^◌, min, Bool, ◌&&◌, ◌==◌, nat_lt, List, ◌++◌, length, take}
+use Rattle.std.specs.Prelude.{ℕ, ◌+◌, ◌-◌, ◌^◌, min, Bool, ◌&&◌, ◌||◌, ◌==◌, nat_lt, List, [], ◌++◌, length, take}
 use Rattle.std.specs.List.{list_any}
 
 -- what it was given, how much it can take in all, and how often it could take nothing
@@ -7,6 +7,9 @@ pub record Memory : Type 0 where
   pub bytes : List ℕ
   pub capacity : ℕ
   pub faults : ℕ
+
+abbrev pub empty_memory : ℕ → Memory
+empty_memory capacity = record { bytes = []; capacity = capacity; faults = 0 }
 
 abbrev pub room : Memory → ℕ
 room memory = memory.capacity - length memory.bytes
@@ -26,8 +29,8 @@ with_fault memory = record memory { faults = one_more memory.faults }
 abbrev pub is_full_for : Memory → List ℕ → Bool
 is_full_for memory piece = room memory == 0 && nat_lt 0 (length piece)
 
--- A sink some of whose calls fail: how many calls there were, and the numbers of those that fail. The first call
--- has the number 1.
+-- A sink some of whose calls fail: how many calls there were, and the numbers of those that fail. The first
+-- call has the number 1.
 pub record Failing : Type 0 where
   pub memory : Memory
   pub calls : ℕ
@@ -36,6 +39,10 @@ pub record Failing : Type 0 where
 -- the next call is one that fails
 abbrev pub fails_next : Failing → Bool
 fails_next sink = list_any (λ call. call == one_more sink.calls) sink.failing
+
+-- it fails, or there is no room
+abbrev pub refuses_next : Failing → List ℕ → Bool
+refuses_next sink piece = fails_next sink || is_full_for sink.memory piece
 
 -- the sink after one more call, which left the memory so
 abbrev pub after_call : Failing → Memory → Failing

@@ -1,13 +1,12 @@
 //! Cells as text.
 ghost use Rattle.std.specs.Prelude.{◌≡◌, ◌++◌, codes, flat_map, IfErr, OnOk};
-ghost use Rattle.std.specs.Fmt.{signed_decimal};
 ghost use Rattle.columns_core.specs.Array.{column_of};
 ghost use Rattle.columns_core.specs.Causes.{IsWantOfMemory};
-ghost use Rattle.pq_common.specs.CellText.{cell_text, hexadecimal, quoted_byte};
+ghost use Rattle.pq_common.specs.CellText.{cell_text, days_text, hexadecimal, quoted, quoted_byte};
 ghost use Rattle.pq_common.specs.Rows.{cell_at};
 
 use crate::column::push_number;
-use crate::number::push_signed;
+use crate::digits::push_signed;
 use columns_core::{Array, Cell, Error};
 use std::alloc::{AllocError, Global};
 
@@ -45,12 +44,13 @@ fn push_cell_text(text: &mut Vec<u8>, cell: &Cell) -> Result<(), AllocError>
         Cell::DaysMs(days, milliseconds) => push_days(text, *days, *milliseconds),
         Cell::Text(name) => push_quoted(text, name.as_str().as_bytes()),
         Cell::Bytes(bytes) => push_bytes(text, bytes.as_slice()),
+        // No cell of a flat column is a list.
         Cell::Cells(_) => Ok(()),
     }
 }
 
 fn push_days(text: &mut Vec<u8>, days: i32, milliseconds: i32) -> Result<(), AllocError>
-    ensures { OnOk result (text.new.items ≡ text.old.items ++ signed_decimal days ++ codes "/" ++ signed_decimal milliseconds) }
+    ensures { OnOk result (text.new.items ≡ text.old.items ++ days_text days milliseconds) }
 {
     push_signed(text, days as i128)?;
     text.push(b'/')?;
@@ -59,7 +59,7 @@ fn push_days(text: &mut Vec<u8>, days: i32, milliseconds: i32) -> Result<(), All
 
 /// Writes a text in quotes at the end.
 fn push_quoted(text: &mut Vec<u8>, bytes: &[u8]) -> Result<(), AllocError>
-    ensures { OnOk result (text.new.items ≡ text.old.items ++ codes "\"" ++ flat_map quoted_byte bytes.now ++ codes "\"") }
+    ensures { OnOk result (text.new.items ≡ text.old.items ++ quoted bytes.now) }
 {
     text.push(b'"')?;
     push_escaped(text, bytes)?;

@@ -1,14 +1,9 @@
-//! A column of numbers as text. Its bytes are written from the last to the first, as the digits of a number come.
-ghost use Rattle.std.specs.Prelude.{◌≡◌, ◌+◌, ◌-◌, ◌*◌, ◌<◌, ◌≤◌, [], ◌∷◌, ◌++◌, codes, drop, flat_map, length, map, slice_get, OnOk};
-ghost use Rattle.std.specs.List.{range_with_len};
-ghost use Rattle.std.specs.Option.{option_map_or};
+//! A column of numbers as text. Its bytes are written from the last to the first, as digits come.
+ghost use Rattle.std.specs.Prelude.{◌≡◌, ◌+◌, ◌-◌, ◌*◌, ◌<◌, ◌≤◌, ◌++◌, codes, drop, length, OnOk};
 ghost use Rattle.columns_core.specs.Array.{column_of};
-ghost use Rattle.columns_core.specs.Column.{cell_of};
-ghost use Rattle.columns_core.specs.declared.cell.Cell.{Int};
-ghost use Rattle.pq_common.specs.CellText.{cell_text};
-ghost use Rattle.pq_common.specs.Rows.{row_line};
+ghost use Rattle.pq_common.specs.Rows.{cell_at, line_of, lines_of};
 
-use crate::number::write_i32;
+use crate::digits::write_i32;
 use columns_core::{Array, PrimitiveArray};
 use std::alloc::AllocError;
 
@@ -23,7 +18,7 @@ const BLOCK_BYTES: usize = 4096;
 
 /// Writes the lines of all rows at the end, a block at a time.
 pub fn push_lines(text: &mut Vec<u8>, array: &PrimitiveArray<i32>) -> Result<(), AllocError>
-    ensures { OnOk result (text.new.items ≡ text.old.items ++ flat_map (row_line (column_of (Array.Int32 array.now) ∷ [])) (range_with_len 0 (length array.now.items))) }
+    ensures { OnOk result (text.new.items ≡ text.old.items ++ lines_of (column_of (Array.Int32 array.now)) 0 (length array.now.items)) }
 {
     let mut block = [0; BLOCK_BYTES];
     let mut row = 0;
@@ -41,7 +36,7 @@ fn write_lines(block: &mut [u8], array: &PrimitiveArray<i32>, from: usize, to: u
     requires room { 12 * (to - from) ≤ length block.old }
     requires within { (from ≤ to) × (to ≤ length array.now.items) }
     ensures start { result ≤ length block.old }
-    ensures written { drop result block.new ≡ flat_map (row_line (column_of (Array.Int32 array.now) ∷ [])) (range_with_len from (to - from)) }
+    ensures written { drop result block.new ≡ lines_of (column_of (Array.Int32 array.now)) from (to - from) }
 {
     let mut start = block.len();
     for row in (from..to).rev() {
@@ -55,7 +50,7 @@ fn write_line(block: &mut [u8], end: usize, array: &PrimitiveArray<i32>, row: us
     requires room { (12 ≤ end) × (end ≤ length block.old) }
     requires within { row < length array.now.items }
     ensures start { (result ≤ end) × (end ≤ result + 12) }
-    ensures written { drop result block.new ≡ row_line (column_of (Array.Int32 array.now) ∷ []) row ++ drop end block.old }
+    ensures written { drop result block.new ≡ line_of (column_of (Array.Int32 array.now)) row ++ drop end block.old }
 {
     block[end - 1] = b'\n';
     write_number(block, end - 1, array, row)
@@ -66,7 +61,7 @@ fn write_number(block: &mut [u8], end: usize, array: &PrimitiveArray<i32>, row: 
     requires room { (11 ≤ end) × (end ≤ length block.old) }
     requires within { row < length array.now.items }
     ensures start { (result ≤ end) × (end ≤ result + 11) }
-    ensures written { drop result block.new ≡ option_map_or cell_text (slice_get (map (cell_of Int) array.now.items) row) [] ++ drop end block.old }
+    ensures written { drop result block.new ≡ cell_at row (column_of (Array.Int32 array.now)) ++ drop end block.old }
 {
     match array.get(row) {
         None => write_null(block, end),
@@ -90,7 +85,7 @@ pub(crate) fn push_number(
     array: &PrimitiveArray<i32>,
     row: usize,
 ) -> Result<(), AllocError>
-    ensures { OnOk result (text.new.items ≡ text.old.items ++ option_map_or cell_text (slice_get (map (cell_of Int) array.now.items) row) []) }
+    ensures { OnOk result (text.new.items ≡ text.old.items ++ cell_at row (column_of (Array.Int32 array.now))) }
 {
     // A row behind the last has no cell.
     if row >= array.len() {

@@ -3,12 +3,18 @@
 
 mod cells;
 mod column;
-mod number;
+mod digits;
+mod numbers;
 mod sink;
 mod status;
+mod types;
+mod values;
 
 pub use cells::push_cell;
 pub use column::push_lines;
-pub use number::{push_unsigned, signed_number};
+pub use digits::push_unsigned;
+pub use numbers::{count, signed_number};
 pub use sink::{FailingSink, MemorySink, Sink, StdSink, write_all};
 pub use status::{Status, status_text};
+pub use types::data_type;
+pub use values::value;

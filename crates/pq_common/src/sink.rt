@@ -1,8 +1,8 @@
-//! Where the program's text goes.
-ghost use Rattle.std.specs.Prelude.{◌≡◌, ◌+◌, ◌-◌, ◌<◌, ◌≤◌, ℕ, List, Option, Some, None, [], length, take, true, IsTrue, IsFalse, IfOk, IfErr, OnOk, OnErr, MatchResult};
+//! Where a tool's text goes.
+ghost use Rattle.std.specs.Prelude.{◌≡◌, ◌+◌, ◌-◌, ◌<◌, ◌≤◌, ℕ, List, Option, Some, None, length, take, true, IsTrue, IsFalse, IfOk, IfErr, OnOk, OnErr, MatchResult};
 ghost use Rattle.parquet_base.specs.Failures.{CountsFailures};
 ghost use Rattle.parquet_meta.specs.Source.{counted as counted_by};
-ghost use Rattle.pq_common.specs.Memory.{after_call, fails_next, is_full_for, with_fault, with_piece};
+ghost use Rattle.pq_common.specs.Memory.{after_call, empty_memory, is_full_for, refuses_next, with_fault, with_piece};
 ghost use Rattle.pq_common.specs.Written.{IsAppended, IsFrontAppended};
 
 use columns_core::Error;
@@ -15,16 +15,18 @@ pub trait Sink {
     /// What it was given, where it tells.
     ghost written: { Self → Option (List ℕ) };
 
-    /// How often a call has failed. It never falls.
+    /// How often a call has failed. It never falls, and a call that takes a piece leaves it as it was.
     ghost faults: { Self → ℕ };
 
     /// Takes a front of the piece, and says how long.
     fn write(&mut self, piece: &[u8]) -> Result<usize, Failed>
         ensures at_most { IfOk result (λ n. n ≤ length piece.now) }
         ensures some { IfOk result (λ n. 0 < length piece.now → 0 < n) }
-        ensures taken { IfOk result (λ n. IsAppended (written self.old) (written self.new) (take n piece.now)) }
+        ensures taken { IfOk result (λ n.
+            IsAppended (written self.old) (written self.new) (take n piece.now)) }
         ensures refused { OnErr result (written self.new ≡ written self.old) }
-        ensures counted { CountsFailures (faults self.old) (faults self.new) result };
+        ensures counted { CountsFailures (faults self.old) (faults self.new) result }
+        ensures quiet { OnOk result (faults self.new ≡ faults self.old) };
 }
 
 /// Writes all of a text, in as many pieces as the sink takes it.
@@ -32,6 +34,7 @@ pub fn write_all<K: Sink>(out: &mut K, text: &[u8]) -> Result<(), Failed>
     ensures ok { OnOk result (IsAppended (K.written out.old) (K.written out.new) text.now) }
     ensures err { OnErr result (IsFrontAppended (K.written out.old) (K.written out.new) text.now) }
     ensures counted { CountsFailures (K.faults out.old) (K.faults out.new) result }
+    ensures quiet { OnOk result (K.faults out.new ≡ K.faults out.old) }
 {
     let mut at = 0;
     while at < text.len() {
@@ -54,7 +57,11 @@ impl Model for MemorySink {
 
     ghost Value = { Memory };
 
-    ghost view = { λ sink. record { bytes = take sink.length sink.buffer.items; capacity = vec_len sink.buffer; faults = sink.faults } };
+    ghost view = { λ sink. record {
+      bytes = take sink.length sink.buffer.items;
+      capacity = vec_len sink.buffer;
+      faults = sink.faults;
+    } };
 
     ghost invariant = { λ sink. sink.length ≤ vec_len sink.buffer };
 }
@@ -64,7 +71,7 @@ impl MemorySink {
 
     /// An empty sink with the memory for so many bytes.
     pub fn new(alloc: Global, capacity: usize) -> Result<Self, Error>
-        ensures empty { IfOk result (λ sink. sink ≡ record { bytes = []; capacity = capacity; faults = 0 }) }
+        ensures empty { IfOk result (λ sink. sink ≡ empty_memory capacity) }
         ensures memory { IfErr result IsWantOfMemory }
     {
         match vec![in alloc; 0u8; capacity] {
@@ -77,6 +84,7 @@ impl MemorySink {
         }
     }
 
+    /// What it was given.
     pub fn bytes(&self) -> &[u8]
         ensures { result.now ≡ self.now.bytes }
     {
@@ -99,12 +107,16 @@ impl Sink for MemorySink {
     fn write(&mut self, piece: &[u8]) -> Result<usize, Failed>
         ensures at_most { IfOk result (λ n. n ≤ length piece.now) }
         ensures some { IfOk result (λ n. 0 < length piece.now → 0 < n) }
-        ensures taken { IfOk result (λ n. IsAppended (Some self.old.bytes) (Some self.new.bytes) (take n piece.now)) }
+        ensures taken { IfOk result (λ n.
+            IsAppended (Some self.old.bytes) (Some self.new.bytes) (take n piece.now)) }
         ensures refused { OnErr result (Some self.new.bytes ≡ Some self.old.bytes) }
         ensures counted { CountsFailures self.old.faults self.new.faults result }
+        ensures quiet { OnOk result (self.new.faults ≡ self.old.faults) }
 
         // It takes as much as there is room for, and fails exactly where there is none.
-        ensures exact { MatchResult result (λ n. self.new ≡ with_piece self.old piece.now) (λ _. self.new ≡ with_fault self.old) }
+        ensures exact { MatchResult result
+            (λ n. self.new ≡ with_piece self.old piece.now)
+            (λ _. self.new ≡ with_fault self.old) }
         ensures ok { OnOk result (IsFalse (is_full_for self.old piece.now)) }
         ensures err { OnErr result (IsTrue (is_full_for self.old piece.now)) }
     {
@@ -133,15 +145,20 @@ impl Model for FailingSink {
 
     ghost Value = { Failing };
 
-    ghost view = { λ sink. record { memory = sink.memory; calls = sink.calls; failing = sink.failing.items } };
+    ghost view = { λ sink. record {
+      memory = sink.memory;
+      calls = sink.calls;
+      failing = sink.failing.items;
+    } };
 }
 
 impl FailingSink {
     ghost use Rattle.columns_core.specs.Causes.{IsWantOfMemory};
 
-    /// An empty sink with the memory for so many bytes. The calls with these numbers fail, the first call being 1.
+    /// An empty sink with the memory for so many bytes. The calls with these numbers fail; the first call is 1.
     pub fn new(alloc: Global, capacity: usize, failing: Vec<u64>) -> Result<Self, Error>
-        ensures empty { IfOk result (λ sink. sink ≡ record { memory = record { bytes = []; capacity = capacity; faults = 0 }; calls = 0; failing = failing.items }) }
+        ensures empty { IfOk result (λ sink.
+            sink ≡ record { memory = empty_memory capacity; calls = 0; failing = failing.items }) }
         ensures memory { IfErr result IsWantOfMemory }
     {
         let memory = MemorySink::new(alloc, capacity)?;
@@ -152,6 +169,7 @@ impl FailingSink {
         })
     }
 
+    /// What it was given.
     pub fn bytes(&self) -> &[u8]
         ensures { result.now ≡ self.now.memory.bytes }
     {
@@ -167,16 +185,19 @@ impl Sink for FailingSink {
     fn write(&mut self, piece: &[u8]) -> Result<usize, Failed>
         ensures at_most { IfOk result (λ n. n ≤ length piece.now) }
         ensures some { IfOk result (λ n. 0 < length piece.now → 0 < n) }
-        ensures taken { IfOk result (λ n. IsAppended (Some self.old.memory.bytes) (Some self.new.memory.bytes) (take n piece.now)) }
+        ensures taken { IfOk result (λ n.
+            IsAppended (Some self.old.memory.bytes) (Some self.new.memory.bytes) (take n piece.now)) }
         ensures refused { OnErr result (Some self.new.memory.bytes ≡ Some self.old.memory.bytes) }
         ensures counted { CountsFailures self.old.memory.faults self.new.memory.faults result }
+        ensures quiet { OnOk result (self.new.memory.faults ≡ self.old.memory.faults) }
 
-        // A call fails exactly where its number is listed or there is no room, and takes as much as there is room for otherwise.
+        // A call fails exactly where its number is listed or there is no room. Else it takes as much as there is
+        // room for.
         ensures exact { MatchResult result
             (λ n. self.new ≡ after_call self.old (with_piece self.old.memory piece.now))
             (λ _. self.new ≡ after_call self.old (with_fault self.old.memory)) }
-        ensures ok { OnOk result (IsFalse (fails_next self.old) × IsFalse (is_full_for self.old.memory piece.now)) }
-        ensures err { OnErr result (IsFalse (fails_next self.old) → IsTrue (is_full_for self.old.memory piece.now)) }
+        ensures ok { OnOk result (IsFalse (refuses_next self.old piece.now)) }
+        ensures err { OnErr result (IsTrue (refuses_next self.old piece.now)) }
     {
         self.calls = self.calls.saturating_add(1);
         if self.failing.contains(&self.calls) {
@@ -195,6 +216,7 @@ pub struct StdSink<R: Print + Drop> {
 }
 
 impl<R: Print + Drop> StdSink<R> {
+    /// Standard output, with no fault so far.
     pub fn new(rt: R) -> Self
         ensures { result.faults ≡ 0 }
     {
@@ -211,6 +233,7 @@ impl<R: Print + Drop> Sink for StdSink<R> {
         ensures at_most { IfOk result (λ n. n ≤ length piece.now) }
         ensures some { IfOk result (λ n. 0 < length piece.now → 0 < n) }
         ensures counted { CountsFailures self.old.faults self.new.faults result }
+        ensures quiet { OnOk result (self.new.faults ≡ self.old.faults) }
 
         // A failure is counted once.
         ensures exact { self.new.faults ≡ counted_by self.old.faults result }

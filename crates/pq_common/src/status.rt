@@ -2,18 +2,28 @@
 ghost use Rattle.std.specs.Prelude.{◌≡◌};
 ghost use Rattle.pq_common.specs.Endings.{number_of, text_for};
 
-/// One for each way.
+/// One for each ending.
 #[derive(Clone, Copy, Debug, PartialEq, Eq)]
 pub enum Status {
+    /// The report was written.
     Done,
+    /// The words spell no request.
     Words,
+    /// The request does not fit the file.
     Argument,
+    /// A part of the request or of the file is not carried.
     NotCarried,
+    /// A part of the file that was looked at is damaged.
     Damaged,
+    /// A text is not UTF-8, or a key is past its dictionary.
     NotValid,
+    /// A value does not fit its type.
     Range,
+    /// A read failed.
     Reading,
+    /// A write failed.
     Writing,
+    /// There was not enough memory.
     Memory,
 }
 

@@ -5,10 +5,11 @@ ghost use Rattle.std.specs.Prelude.{◌≡◌, ◌<◌};
 
 use parquet_base::Steps;
 use parquet_meta::FileSource;
-pub use pq_common::{FailingSink, MemorySink, Sink, Status, StdSink, status_text, write_all};
-pub use scan_program::run;
+use pq_common::{Status, StdSink, status_text};
+use scan_program::run;
 use std::alloc::{AllocError, Global};
 use std::env;
+use std::io::ErrorKind;
 use std::marker::Brand;
 use std::process::ExitCode;
 use std::sync::ledger::{Blank, Ledger};
@@ -24,19 +25,27 @@ fn main(rt: HostRuntime) -> ExitCode {
 
 fn status_of_process(rt: &HostRuntime) -> Status {
     match words_of(rt) {
-        Some(words) => scan_file::<Brand>(rt, &words, Blank::new(1)),
-        None => Status::Memory,
+        Ok(words) => scan_file::<Brand>(rt, &words, Blank::new(1)),
+        Err(status) => status,
     }
 }
 
-/// The words behind the program's name.
-fn words_of(rt: &HostRuntime) -> Option<Vec<String>> {
-    let args = env::args(rt).ok()?;
-    let mut words: Vec<String> = args.collect(rt.alloc()).ok()?;
-    if !words.is_empty() {
-        words.remove(0);
+/// The words behind the program's name, or how the run ends without them.
+fn words_of(rt: &HostRuntime) -> Result<Vec<String>, Status> {
+    match env::args(rt) {
+        Ok(args) => args.skip(1).collect(rt.alloc()).map_err(|_| Status::Memory),
+        Err(error) => Err(status_without_words(error.kind())),
     }
-    Some(words)
+}
+
+/// A word that is not UTF-8 is a faulty command line. It is told apart from want of memory, and from words that the
+/// system does not hand out.
+fn status_without_words(kind: ErrorKind) -> Status {
+    match kind {
+        ErrorKind::InvalidData => Status::Words,
+        ErrorKind::OutOfMemory => Status::Memory,
+        _ => Status::Reading,
+    }
 }
 
 fn scan_file<L: Ledger>(rt: &HostRuntime, words: &[String], blank: Blank) -> Status

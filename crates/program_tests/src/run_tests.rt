@@ -1,11 +1,9 @@
 ghost use Rattle.std.specs.Prelude.{◌≡◌, ◌<◌, Some};
 
-use columns_core::{DataType, Error, Field, IntervalUnit, Name, Part, Schema, Seq, TimeUnit};
 use parquet_base::Steps;
 use parquet_meta::{Failed, FailingSource, FileSource, MemorySource, Source};
-use parquet_scan::{Bound, Scalar, Scan, scan_where};
 use pq_common::{FailingSink, MemorySink, Sink, Status, status_text};
-use scan_program::{report, run};
+use scan_program::run;
 use std::alloc::{AllocError, Global};
 use std::marker::Brand;
 use std::sync::ledger::{Blank, Ledger};
@@ -302,7 +300,7 @@ fn scan_bytes<K: Sink>(
 }
 
 fn text_of(alloc: Global, text: &[&str], bytes: &[u8]) -> Result<Vec<u8>, Fail> {
-    let mut out = MemorySink::new(alloc, 200)?;
+    let mut out = MemorySink::new(alloc, 400)?;
     let status = scan_bytes(alloc, text, bytes, &mut out)?;
     let mut found = Vec::new(alloc);
     found.push(status.number())?;
@@ -324,27 +322,103 @@ fn rows_of_groups_that_count(rt: HostRuntime) -> Result<(), Fail> {
     Ok(())
 }
 
+/// How a run on the first file ends that is asked by these words behind `x`, with one space between each two of them, and what it writes.
+fn answer_to(alloc: Global, line: &str) -> Result<Vec<u8>, Fail> {
+    let mut words = vec![in alloc; "x"]?;
+    for word in line.split(' ') {
+        words.push(word)?;
+    }
+    text_of(alloc, &words, &F1)
+}
+
 #[test]
 fn words_that_spell_no_command(rt: HostRuntime) -> Result<(), Fail> {
     let none = text_of(rt.alloc(), &[], &F1)?;
     assert_eq!(rt; none.as_slice(), [2u8].as_slice());
-    let value = text_of(rt.alloc(), &["x", "a:Int32", "a>=x"], &F1)?;
-    assert_eq!(rt; value.as_slice(), [2u8].as_slice());
-    let data_type = text_of(rt.alloc(), &["x", "a:Float32"], &F1)?;
-    assert_eq!(rt; data_type.as_slice(), [2u8].as_slice());
-    let field = text_of(rt.alloc(), &["x", "b>=1", "a:Int32"], &F1)?;
-    assert_eq!(rt; field.as_slice(), [2u8].as_slice());
+    let lines = [
+        "a:Int32 --chunk",
+        "a:Int32 --chunk --",
+        "a:Int32 --chunk=",
+        "a:Int32 --chunk=+5",
+        "a:Int32 --chunk 18446744073709551616",
+        "a:Int32 --limit -1",
+        "a:Int32 --summary --summary",
+        "a:Int32 --summary=true",
+        "a:Int32 --limit 5 --limit 6",
+        "a:Int32 -x",
+        "a:Int32 -",
+        "--help",
+        "a:Float32",
+        ":Int32",
+        "a",
+        "a:Int32 a>=x",
+        "a:Int32 a>=1 a>=2",
+        "a:Int32 a>=2147483648",
+        "b>=1 a:Int32",
+    ];
+    for line in lines {
+        let refused = answer_to(rt.alloc(), line)?;
+        assert_eq!(rt; refused.as_slice(), [Status::Words.number()].as_slice());
+    }
     Ok(())
 }
 
 #[test]
-fn requests_and_files_that_are_refused(rt: HostRuntime) -> Result<(), Fail> {
-    let nothing = text_of(rt.alloc(), &["x"], &F1)?;
-    assert_eq!(rt; nothing.as_slice(), [3u8].as_slice());
-    let unknown = text_of(rt.alloc(), &["x", "b:Int32"], &F1)?;
-    assert_eq!(rt; unknown.as_slice(), [3u8].as_slice());
+fn requests_that_are_refused(rt: HostRuntime) -> Result<(), Fail> {
+    let lines = [
+        ("--summary", Status::Argument),
+        ("b:Int32", Status::Argument),
+        ("a:Int32 a:Int32", Status::Argument),
+        ("a:Int32 --chunk 0", Status::Argument),
+        ("a:Utf8", Status::NotCarried),
+        (
+            "a:Decimal(38,0) a>=-170141183460469231731687303715884105728",
+            Status::NotCarried,
+        ),
+        (
+            "a:Decimal(38,0) a<=170141183460469231731687303715884105727",
+            Status::NotCarried,
+        ),
+    ];
+    for (line, status) in lines.iter() {
+        let refused = answer_to(rt.alloc(), line)?;
+        assert_eq!(rt; refused.as_slice(), [status.number()].as_slice());
+    }
+    let empty = text_of(rt.alloc(), &["x", "a:Utf8"], &F0)?;
+    assert_eq!(rt; empty.as_slice(), [Status::NotCarried.number()].as_slice());
     let short = text_of(rt.alloc(), &["x", "a:Int32"], &F0[..11])?;
-    assert_eq!(rt; short.as_slice(), [5u8].as_slice());
+    assert_eq!(rt; short.as_slice(), [Status::Damaged.number()].as_slice());
+    let compressed = changed(rt.alloc(), &F1, &[(83, 0x02)])?;
+    let codec = text_of(rt.alloc(), &["x", "a:Int32"], &compressed)?;
+    assert_eq!(rt; codec.as_slice(), [Status::NotCarried.number()].as_slice());
+    Ok(())
+}
+
+#[test]
+fn words_in_other_places(rt: HostRuntime) -> Result<(), Fail> {
+    let rows = b"\x00group 0 5 0+5\nchunk 5\n10\n12\n15\n18\n20\n".as_slice();
+    for line in [
+        "-- a:Int32",
+        "a>=12 a:Int32 -- a<=18",
+        "a:Int32 a>=-2147483648 a<=2147483647",
+    ] {
+        let found = answer_to(rt.alloc(), line)?;
+        assert_eq!(rt; found.as_slice(), rows);
+    }
+    Ok(())
+}
+
+#[test]
+fn numbers_in_place_of_rows(rt: HostRuntime) -> Result<(), Fail> {
+    let lines = [
+        ("a>=1", b"\x00group 0 9 0+9\nrows 9\npages 3\n".as_slice()),
+        ("a>=4", b"\x00group 0 9 3+6\nrows 6\npages 2\n".as_slice()),
+        ("a>=13", b"\x00group 0 9 -\nrows 0\npages 0\n".as_slice()),
+    ];
+    for (bound, text) in lines.iter() {
+        let found = text_of(rt.alloc(), &["x", "a:Int32", bound, "--summary"], &F2)?;
+        assert_eq!(rt; found.as_slice(), *text);
+    }
     Ok(())
 }
 
@@ -443,57 +517,19 @@ fn columns_whose_pages_end_at_different_rows(rt: HostRuntime) -> Result<(), Fail
     Ok(())
 }
 
-fn field_of(alloc: Global, name: &str, data_type: DataType) -> Result<Field, AllocError> {
-    Ok(Field {
-        name: Name::new(String::from_str(alloc, name)?),
-        data_type,
-        is_nullable: true,
-    })
-}
-
-fn scan_counted<L: Ledger>(
-    alloc: Global,
-    schema: &Schema,
-    bounds: &[Bound],
-    blank: Blank,
-) -> Result<Scan, Error>
-    requires name { blank.name ≡ L.name }
-    requires parts { blank.parts ≡ L.parts }
-    requires whole { 0 < blank.parts }
-{
-    let mut source = MemorySource::new(Vec::from_slice(alloc, &PAIRS)?);
-    let mut steps = Steps::<L>::new(blank);
-    scan_where(alloc, &mut source, schema, bounds, None, None, &mut steps)
-}
-
-/// What is printed of a column that is read as a type, whole or behind the column `a` from the row 4 on.
-fn text_of_pair(
-    alloc: Global,
-    name: &str,
-    data_type: &DataType,
-    located: bool,
-) -> Result<Vec<u8>, Error> {
-    let mut fields = Vec::new(alloc);
-    let mut bounds = Vec::new(alloc);
+/// What is printed of a column that an item asks for, whole or behind the column `a` from the row 4 on.
+fn text_of_pair(alloc: Global, item: &str, located: bool) -> Result<Vec<u8>, Fail> {
     if located {
-        fields.push(field_of(alloc, "a", DataType::Int32)?)?;
-        bounds.push(Bound {
-            field: Name::new(String::from_str(alloc, "a")?),
-            low: Some(Scalar::Int(4)),
-            high: None,
-        })?;
+        text_of(alloc, &["x", "a:Int32", item, "a>=4"], &PAIRS)
+    } else {
+        text_of(alloc, &["x", item], &PAIRS)
     }
-    fields.push(field_of(alloc, name, data_type.try_clone(alloc)?)?)?;
-    let schema = Schema {
-        fields: Seq::new(fields),
-    };
-    let scan = scan_counted::<Brand>(alloc, &schema, &bounds, Blank::new(1))?;
-    report(alloc, false, &scan)
 }
 
 /// The lines of all 8 rows, or of those from the row 4 on behind their numbers.
 fn lines_of(alloc: Global, cells: &str, located: bool) -> Result<Vec<u8>, AllocError> {
     let mut text = Vec::new(alloc);
+    text.push(Status::Done.number())?;
     if !located {
         text.extend_from_slice(b"group 0 8 0+8\nchunk 8\n")?;
         for byte in cells.as_bytes() {
@@ -520,10 +556,10 @@ fn lines_of(alloc: Global, cells: &str, located: bool) -> Result<Vec<u8>, AllocE
     Ok(text)
 }
 
-/// Whether a column that is read as a type has these cells, whole and by locations.
-fn has_cells(alloc: Global, name: &str, data_type: DataType, cells: &str) -> Result<bool, Error> {
-    let whole = text_of_pair(alloc, name, &data_type, false)?;
-    let located = text_of_pair(alloc, name, &data_type, true)?;
+/// Whether the column that an item asks for has these cells, whole and by locations.
+fn has_cells(alloc: Global, item: &str, cells: &str) -> Result<bool, Fail> {
+    let whole = text_of_pair(alloc, item, false)?;
+    let located = text_of_pair(alloc, item, true)?;
     Ok(
         whole.as_slice() == lines_of(alloc, cells, false)?.as_slice()
             && located.as_slice() == lines_of(alloc, cells, true)?.as_slice(),
@@ -532,140 +568,118 @@ fn has_cells(alloc: Global, name: &str, data_type: DataType, cells: &str) -> Res
 
 #[test]
 fn truth_values_and_fixed_bytes(rt: HostRuntime) -> Result<(), Fail> {
-    let alloc = rt.alloc();
-    let truths = "null true false true null false true true";
-    assert!(rt; has_cells(alloc, "truth", DataType::Boolean, truths)?);
-    let bytes = "0x0001 null 0xff85 null null 0x8000 0x0102 0x7fff";
-    assert!(rt; has_cells(alloc, "fixed", DataType::FixedSizeBinary(2), bytes)?);
-    let decimals = "1 null -123 null null -32768 258 32767";
-    assert!(rt; has_cells(alloc, "fixed", DataType::Decimal(4, 0), decimals)?);
-    let entries = "0x0102 0xffff 0x0102 0x0102 0x0102 0x0102 0xffff 0x0102";
-    assert!(rt; has_cells(alloc, "fixed_coded", DataType::FixedSizeBinary(2), entries)?);
-    let coded = "258 -1 258 258 258 258 -1 258";
-    assert!(rt; has_cells(alloc, "fixed_coded", DataType::Decimal(4, 0), coded)?);
-    let months = "0 1 14 2 0 -1 0 7";
-    assert!(rt;
-        has_cells(
-            alloc,
-            "interval",
-            DataType::Interval(IntervalUnit::YearMonth),
-            months
-        )?
-    );
-    let days = "3/1000 0/0 -1/2 5/6 3/1000 0/0 0/0 8/9";
-    assert!(rt;
-        has_cells(
-            alloc,
-            "interval",
-            DataType::Interval(IntervalUnit::DayTime),
-            days
-        )?
-    );
+    let columns = [
+        ("truth:Boolean", "null true false true null false true true"),
+        (
+            "fixed:FixedSizeBinary(2)",
+            "0x0001 null 0xff85 null null 0x8000 0x0102 0x7fff",
+        ),
+        (
+            "fixed:Decimal(4,0)",
+            "1 null -123 null null -32768 258 32767",
+        ),
+        (
+            "fixed_coded:FixedSizeBinary(2)",
+            "0x0102 0xffff 0x0102 0x0102 0x0102 0x0102 0xffff 0x0102",
+        ),
+        ("fixed_coded:Decimal(4,0)", "258 -1 258 258 258 258 -1 258"),
+        ("interval:Interval(YearMonth)", "0 1 14 2 0 -1 0 7"),
+        (
+            "interval:Interval(DayTime)",
+            "3/1000 0/0 -1/2 5/6 3/1000 0/0 0/0 8/9",
+        ),
+        ("name:Null", "null null null null null null null null"),
+    ];
+    for (item, cells) in columns.iter() {
+        assert!(rt; has_cells(rt.alloc(), item, cells)?);
+    }
     Ok(())
 }
 
 #[test]
 fn numbers_of_32_bits(rt: HostRuntime) -> Result<(), Fail> {
-    let alloc = rt.alloc();
-    let plain = "null 10 20 25 null 30 40 -1";
-    assert!(rt; has_cells(alloc, "number", DataType::Int32, plain)?);
-    assert!(rt; has_cells(alloc, "number", DataType::Int8, plain)?);
-    assert!(rt; has_cells(alloc, "number", DataType::Int16, plain)?);
-    assert!(rt; has_cells(alloc, "number", DataType::Date32, plain)?);
-    assert!(rt;
-        has_cells(
-            alloc,
-            "number",
-            DataType::Time32(TimeUnit::Millisecond),
-            plain
-        )?
-    );
-    assert!(rt; has_cells(alloc, "number", DataType::Decimal(9, 2), plain)?);
-    let byte = "null 10 20 25 null 30 40 255";
-    assert!(rt; has_cells(alloc, "number", DataType::UInt8, byte)?);
-    let half = "null 10 20 25 null 30 40 65535";
-    assert!(rt; has_cells(alloc, "number", DataType::UInt16, half)?);
-    let word = "null 10 20 25 null 30 40 4294967295";
-    assert!(rt; has_cells(alloc, "number", DataType::UInt32, word)?);
-    let dates = "null 864000000 1728000000 2160000000 null 2592000000 3456000000 -86400000";
-    assert!(rt; has_cells(alloc, "number", DataType::Date64, dates)?);
-    // All places of the first page are null.
-    let keys = "null null null 10 null 300 -1 10";
-    assert!(rt; has_cells(alloc, "coded", DataType::Int32, keys)?);
-    let low = "null null null 10 null 44 255 10";
-    assert!(rt; has_cells(alloc, "coded", DataType::UInt8, low)?);
-    let days = "null null null 864000000 null 25920000000 -86400000 864000000";
-    assert!(rt; has_cells(alloc, "coded", DataType::Date64, days)?);
-    let deltas = "7 6 5 4 1000 -3 0 2147483647";
-    assert!(rt; has_cells(alloc, "delta", DataType::Int32, deltas)?);
-    let narrow = "7 6 5 4 -24 -3 0 -1";
-    assert!(rt; has_cells(alloc, "delta", DataType::Int8, narrow)?);
+    // In "coded" all places of the first page are null.
+    let columns = [
+        ("number:Int32", "null 10 20 25 null 30 40 -1"),
+        ("number:Int8", "null 10 20 25 null 30 40 -1"),
+        ("number:Int16", "null 10 20 25 null 30 40 -1"),
+        ("number:Date32", "null 10 20 25 null 30 40 -1"),
+        ("number:Time32(ms)", "null 10 20 25 null 30 40 -1"),
+        ("number:Decimal(9,2)", "null 10 20 25 null 30 40 -1"),
+        ("number:UInt8", "null 10 20 25 null 30 40 255"),
+        ("number:UInt16", "null 10 20 25 null 30 40 65535"),
+        ("number:UInt32", "null 10 20 25 null 30 40 4294967295"),
+        (
+            "number:Date64",
+            "null 864000000 1728000000 2160000000 null 2592000000 3456000000 -86400000",
+        ),
+        ("coded:Int32", "null null null 10 null 300 -1 10"),
+        ("coded:UInt8", "null null null 10 null 44 255 10"),
+        (
+            "coded:Date64",
+            "null null null 864000000 null 25920000000 -86400000 864000000",
+        ),
+        ("delta:Int32", "7 6 5 4 1000 -3 0 2147483647"),
+        ("delta:Int8", "7 6 5 4 -24 -3 0 -1"),
+    ];
+    for (item, cells) in columns.iter() {
+        assert!(rt; has_cells(rt.alloc(), item, cells)?);
+    }
     Ok(())
 }
 
 #[test]
 fn numbers_of_64_bits(rt: HostRuntime) -> Result<(), Fail> {
-    let alloc = rt.alloc();
-    let plain = "null 1999 -1999 0 null 86400000 1 2";
-    let word = "null 1999 4294965297 0 null 86400000 1 2";
-    let long = "null 1999 18446744073709549617 0 null 86400000 1 2";
     let columns = [
-        ("time", DataType::Int64, plain),
-        ("time", DataType::Date64, plain),
-        ("time", DataType::Time64(TimeUnit::Microsecond), plain),
-        ("time", DataType::Duration(TimeUnit::Second), plain),
-        ("time", DataType::Decimal(18, 0), plain),
-        ("time", DataType::UInt32, word),
-        ("time", DataType::UInt64, long),
-        ("long_coded", DataType::Int64, "5 -1 5 5 5 -1 -1 5"),
+        ("time:Int64", "null 1999 -1999 0 null 86400000 1 2"),
+        ("time:Date64", "null 1999 -1999 0 null 86400000 1 2"),
+        ("time:Time64(us)", "null 1999 -1999 0 null 86400000 1 2"),
+        ("time:Duration(s)", "null 1999 -1999 0 null 86400000 1 2"),
+        ("time:Decimal(18,0)", "null 1999 -1999 0 null 86400000 1 2"),
+        ("time:UInt32", "null 1999 4294965297 0 null 86400000 1 2"),
         (
-            "long_delta",
-            DataType::Int64,
-            "1 null 3 null 9000000000 2 null -4",
+            "time:UInt64",
+            "null 1999 18446744073709549617 0 null 86400000 1 2",
         ),
+        ("long_coded:Int64", "5 -1 5 5 5 -1 -1 5"),
+        ("long_delta:Int64", "1 null 3 null 9000000000 2 null -4"),
     ];
-    for (name, data_type, cells) in columns.iter() {
-        assert!(rt; has_cells(alloc, name, data_type.try_clone(alloc)?, cells)?);
+    for (item, cells) in columns.iter() {
+        assert!(rt; has_cells(rt.alloc(), item, cells)?);
     }
     Ok(())
 }
 
 #[test]
 fn times_in_other_units(rt: HostRuntime) -> Result<(), Fail> {
-    let alloc = rt.alloc();
     // The column "time" has milliseconds, and "old" the day and its nanoseconds.
     let columns = [
-        ("time", TimeUnit::Second, "null 1 -1 0 null 86400 0 0"),
+        ("time:Timestamp(s)", "null 1 -1 0 null 86400 0 0"),
         (
-            "time",
-            TimeUnit::Nanosecond,
+            "time:Timestamp(ns)",
             "null 1999000000 -1999000000 0 null 86400000000000 1000000 2000000",
         ),
-        ("old", TimeUnit::Second, "86400 0 0 2 2 86400 86400 86400"),
+        ("old:Timestamp(s)", "86400 0 0 2 2 86400 86400 86400"),
         (
-            "old",
-            TimeUnit::Nanosecond,
+            "old:Timestamp(ns)",
             "86400000000000 -1 1 2000000000 2000000000 86400000000000 86400000000000 86400000000000",
         ),
     ];
-    for (name, unit, cells) in columns {
-        assert!(rt; has_cells(alloc, name, DataType::Timestamp(unit, None), cells)?);
+    for (item, cells) in columns.iter() {
+        assert!(rt; has_cells(rt.alloc(), item, cells)?);
     }
     Ok(())
 }
 
 #[test]
-fn columns_as_nulls_and_pairs_that_are_not_carried(rt: HostRuntime) -> Result<(), Fail> {
-    let alloc = rt.alloc();
-    let nulls = "null null null null null null null null";
-    assert!(rt; has_cells(alloc, "name", DataType::Null, nulls)?);
-    assert!(rt; has_cells(alloc, "truth", DataType::Null, nulls)?);
-    let refused = Err(Error::NotYetImplemented(Part::Schema));
-    assert_eq!(rt; has_cells(alloc, "name", DataType::Utf8, nulls), refused);
-    let wide: Result<bool, Error> = has_cells(alloc, "delta", DataType::Int64, nulls);
-    assert_eq!(rt; wide, Err(Error::NotYetImplemented(Part::Schema)));
-    let sized: Result<bool, Error> = has_cells(alloc, "fixed", DataType::FixedSizeBinary(3), nulls);
-    assert_eq!(rt; sized, Err(Error::NotYetImplemented(Part::Schema)));
+fn pairs_that_are_not_carried(rt: HostRuntime) -> Result<(), Fail> {
+    for item in ["name:Utf8", "delta:Int64", "fixed:FixedSizeBinary(3)"] {
+        let refused = text_of(rt.alloc(), &["x", item], &PAIRS)?;
+        assert_eq!(rt;
+            refused.as_slice(),
+            [Status::NotCarried.number()].as_slice()
+        );
+    }
     Ok(())
 }
 
@@ -699,7 +713,8 @@ fn reads_that_fail_one_after_another(rt: HostRuntime) -> Result<(), Fail> {
         let mut out = MemorySink::new(alloc, 100)?;
         let failing = vec![in alloc; call]?;
         let mut source = FailingSource::new(Vec::from_slice(alloc, &F1)?, failing);
-        let status = run_on(alloc, &["x", "a:Int32"], &mut source, &mut out)?;
+        let words = ["x", "a:Int32", "a>=12", "a<=18"];
+        let status = run_on(alloc, &words, &mut source, &mut out)?;
         done = status == Status::Done;
         if done {
             assert_eq!(rt; out.bytes(), F1_ROWS);

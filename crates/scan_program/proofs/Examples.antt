@@ -8,7 +8,6 @@ use Rattle.columns_core.specs.declared.data_type.DataType as type
 use Rattle.parquet_scan.specs.declared.bound.Scalar.TheVariants as scalar
 use Rattle.parquet_base.specs.Intervals.{interval}
 use Rattle.pq_common.specs.CellText.{cell_text}
-use Rattle.scan_program.specs.NotBuilt.{built_command}
 use Rattle.scan_program.specs.Report.{report}
 use Rattle.scan_program.specs.Words.{spelled_command}
 
@@ -59,24 +58,3 @@ five_rows = refl
 no_rows : report true ((5, []) ∷ (3, interval 0 1 ∷ interval 2 1 ∷ []) ∷ []) [] 0 0 ≡ codes "group 0 5 -\ngroup 1 3 0+1 2+1\nrows 0\npages 0\n"
 unfolding digits
 no_rows = refl
-
--- ---- words that are not read yet
-
-other_type : built_command (codes "x" ∷ codes "a:Utf8" ∷ []) ≡ None
-other_type = refl
-
-option : built_command (codes "x" ∷ codes "a:Int32" ∷ codes "--summary" ∷ []) ≡ None
-option = refl
-
-one_bound : built_command (codes "x" ∷ codes "a:Int32" ∷ codes "a<=18" ∷ [])
-    ≡ Some (record {
-      request = record {
-        fields = record { name = codes "a"; data_type = type.Int32; is_nullable = true } ∷ [];
-        bounds = record { field = codes "a"; low = None; high = Some (scalar.Int (pos 18)) } ∷ [];
-        chunk_size = None;
-        limit = None;
-      };
-      summary = false;
-    })
-unfolding type.out-DataType denote.Hole.Carrier.out
-one_bound = refl

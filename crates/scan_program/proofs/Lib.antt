@@ -1,6 +1,12 @@
 pub mod Examples
 pub mod ItemLemmas
 pub mod Joined
+pub mod Lexed
+pub mod Parses
 pub mod ReportLemmas
+pub mod SaidCommand
+pub mod SaidRows
+pub mod SaidWords
 pub mod ScanLemmas
 pub mod SplitLemmas
+pub mod Walked

@@ -1,7 +1,10 @@
 //! `run`, which does all that the program `pqscan` does: it reads the words of a command line, scans and writes the report.
 #![tactic(auto)]
 
+mod bounds;
 mod command;
+mod items;
+mod parse;
 mod program;
 mod text;
 

@@ -1,6 +1,7 @@
 //! The program's text, written straight into one buffer.
 ghost use Rattle.std.specs.Prelude.{◌≡◌, ◌++◌, map, codes, flat_map, [], ◌∷◌, IfErr, IfOk, OnOk};
 ghost use Rattle.std.specs.List.{enumerate_from, join_by, range_with_len};
+ghost use Rattle.columns_core.specs.Array.{column_of};
 ghost use Rattle.columns_core.specs.Causes.{IsWantOfMemory};
 ghost use Rattle.parquet_scan.specs.Cells.{columns_of};
 ghost use Rattle.parquet_scan.specs.Scan.{kept_of};
@@ -63,7 +64,8 @@ fn push_group(
 
 /// Writes the cells of a row at the end, with tabs between them.
 fn push_cells(alloc: Global, text: &mut Vec<u8>, arrays: &[Array], row: usize) -> Result<(), Error>
-    ensures cells { OnOk result (text.new.items ≡ text.old.items ++ join_by (cell_at row) (9 ∷ []) (map column_of arrays.now)) }
+    ensures cells { OnOk result (text.new.items ≡ text.old.items ++ join_by (cell_at row) (9 ∷ []) (map
+        column_of arrays.now)) }
     ensures memory { IfErr result IsWantOfMemory }
 {
     match arrays.split_first() {
@@ -107,7 +109,8 @@ fn push_chunk(alloc: Global, text: &mut Vec<u8>, chunk: &Chunk) -> Result<(), Er
 }
 
 fn push_rows(alloc: Global, text: &mut Vec<u8>, arrays: &[Array], rows: usize) -> Result<(), Error>
-    ensures lines { OnOk result (text.new.items ≡ text.old.items ++ flat_map (row_line (map column_of arrays.now)) (range_with_len 0 rows)) }
+    ensures lines { OnOk result (text.new.items ≡ text.old.items ++ flat_map (row_line (map column_of
+        arrays.now)) (range_with_len 0 rows)) }
     ensures memory { IfErr result IsWantOfMemory }
 {
     for row in 0..rows {
@@ -119,7 +122,8 @@ fn push_rows(alloc: Global, text: &mut Vec<u8>, arrays: &[Array], rows: usize) -
 /// The whole text of a scan.
 pub fn report(alloc: Global, summary: bool, scan: &Scan) -> Result<Vec<u8>, Error>
     ensures memory { IfErr result IsWantOfMemory }
-    ensures text { IfOk result (λ text. text.items ≡ report_by summary (map kept_of scan.now.kept) (map columns_of scan.now.chunks) scan.now.rows scan.now.pages) }
+    ensures text { IfOk result (λ text. text.items ≡ report_by summary (map kept_of scan.now.kept) (map
+        columns_of scan.now.chunks) scan.now.rows scan.now.pages) }
 {
     let mut text = Vec::new(alloc);
     push_groups(&mut text, scan.kept.as_slice())?;
@@ -132,7 +136,8 @@ pub fn report(alloc: Global, summary: bool, scan: &Scan) -> Result<Vec<u8>, Erro
 }
 
 fn push_groups(text: &mut Vec<u8>, kept: &[GroupKept]) -> Result<(), AllocError>
-    ensures { OnOk result (text.new.items ≡ text.old.items ++ flat_map group_line (enumerate_from 0 (map kept_of kept.now))) }
+    ensures { OnOk result (text.new.items ≡ text.old.items ++ flat_map group_line (enumerate_from 0 (map
+        kept_of kept.now))) }
 {
     for i in 0..kept.len() {
         push_kept(text, i, &kept[i])?;
@@ -158,7 +163,8 @@ fn push_summary(text: &mut Vec<u8>, rows: usize, pages: usize) -> Result<(), All
 }
 
 fn push_chunks(alloc: Global, text: &mut Vec<u8>, chunks: &[Chunk]) -> Result<(), Error>
-    ensures lines { OnOk result (text.new.items ≡ text.old.items ++ flat_map chunk_lines (map columns_of chunks.now)) }
+    ensures lines { OnOk result (text.new.items ≡ text.old.items ++ flat_map chunk_lines (map columns_of
+        chunks.now)) }
     ensures memory { IfErr result IsWantOfMemory }
 {
     for chunk in chunks {

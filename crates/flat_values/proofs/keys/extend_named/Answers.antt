@@ -1,6 +1,6 @@
 use Rattle.std.proofs.Common.{List, ◌∙◌, ap, append-nil, map, refl, subst, sym, Some}
 use Rattle.columns_core.specs.declared.error.Error.TheVariants as errors
-use Rattle.columns_core.specs.declared.error.Part.TheVariants.{Values}
+use Rattle.columns_core.specs.declared.error.Part.TheVariants.{Dictionary}
 use Rattle.page_decoding.specs.Outcome.{Given, Outcome}
 use Rattle.flat_values.specs.Added.{Adds}
 use Rattle.flat_values.specs.Outcomes.{entry_outcome}
@@ -9,7 +9,7 @@ use Rattle.flat_values.proofs.keys.extend_named.Goals as goal
 
 pub returns-then-slice_has_past-clause-cause : goal.returns-then-slice_has_past-clause-cause
 returns-then-slice_has_past-clause-cause g c =
-    past_refused g.T.NativeType.cell c.args.entries.now c.args.keys.now (errors.OutOfSpec Values) refl (sym c.slice_has_past.ensures ∙ c.if-slice_has_past.true)
+    past_refused g.T.NativeType.cell c.args.entries.now c.args.keys.now (errors.OutOfSpec Dictionary) refl (sym c.slice_has_past.ensures ∙ c.if-slice_has_past.true)
 
 pub returns-in_default-clause-added : goal.returns-in_default-clause-added
 returns-in_default-clause-added g c =

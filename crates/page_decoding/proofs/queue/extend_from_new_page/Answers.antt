@@ -1,4 +1,4 @@
-use Rattle.std.proofs.Common.{◌∙◌, map}
+use Rattle.std.proofs.Common.{◌∙◌, map, arith}
 use Rattle.std.specs.Option.{option_copied}
 use Rattle.parquet_page.specs.Content.{data_content}
 use Rattle.page_decoding.specs.Queue.{joined}
@@ -17,6 +17,7 @@ loop-wanted-preserved g c =
       wanted = turn.wanted_now;
       rows = turn.rows ∙ before.rows;
       remaining = turn.remaining_now ∙ before.remaining;
+      fewer = omega (arith, before.fewer);
       cut = c.in_ok-taken.ensures.cut;
       own = c.in_ok-taken.ensures.own;
       causes = λ error cause. before.causes error (turn.causes error cause);

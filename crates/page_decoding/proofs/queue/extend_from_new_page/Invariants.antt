@@ -1,4 +1,4 @@
-use Rattle.std.proofs.Common.{◌≡◌, ◌-◌, min, ◌++◌, length, take, map}
+use Rattle.std.proofs.Common.{◌≡◌, ◌-◌, ◌≤◌, min, ◌++◌, length, take, map}
 use Rattle.std.specs.Prelude.{All}
 use Rattle.std.specs.Option.{option_copied}
 use Rattle.columns_core.specs.declared.error.Error.{Error}
@@ -16,6 +16,7 @@ invariant-loop-wanted g l =
       wanted : l.wanted ≡ min (length (left l.state)) l.remaining;
       rows : map Given (joined (map shown l.items.items)) ++ take l.remaining (left l.state) ≡ map Given (joined (map shown l.initial.items.items)) ++ take l.initial.remaining (left l.initial.state);
       remaining : l.remaining - length (left l.state) ≡ l.initial.remaining - length (left l.initial.state);
+      fewer : l.remaining ≤ l.initial.remaining;
       cut : IsCut l.chunk_size (map shown l.items.items);
       own : All (g.D.Decoder.is_own l.decoder) l.items.items;
       causes : (error : Error) → IsCausedBy (take l.remaining (left l.state)) error → IsCausedBy (take l.initial.remaining (left l.initial.state)) error;

@@ -2,7 +2,7 @@ use Rattle.std.proofs.Common.{inl, inr, refl, subst}
 use Rattle.std.specs.Prelude.{List, ℕ}
 use Rattle.scan_program.specs.Program.{command_in}
 use Rattle.pq_common.specs.Written.{IsAppended, IsFrontAppended}
-use Rattle.scan_program.proofs.ScanLemmas.{always, no_command, of_report, of_text, passed_up}
+use Rattle.scan_program.proofs.ScanLemmas.{always, no_command, of_report, passed_up}
 use Rattle.scan_program.proofs.program.run.Goals as goal
 
 pub returns-in-Err-clause-complete : goal.returns-in-Err-clause-complete
@@ -15,9 +15,8 @@ returns-in-Ok-write_all-clause-no_words g c = no_command (command_in c.args.word
 pub returns-in-Ok-write_all-clause-done : goal.returns-in-Ok-write_all-clause-done
 returns-in-Ok-write_all-clause-done g c same =
     let written = g.K.Sink.written in
-    passed_up (command_in c.args.words.now) (g.S.Source.told c.args.source.now) _ _ c.in-Ok.ensures.text
-    (λ command bytes reported. of_text command bytes _ c.in-Ok.text.items (IsAppended (written c.args.out.now) (written c.write_all.new.out))
-    (subst (λ (text : List ℕ). IsAppended (written c.args.out.now) (written c.write_all.new.out) text) c.deref.ensures.value c.in-Ok-write_all.ensures.ok) reported)
+    of_report (command_in c.args.words.now) (g.S.Source.told c.args.source.now) _ c.in-Ok.text.items (IsAppended (written c.args.out.now) (written c.write_all.new.out))
+    (subst (λ (text : List ℕ). IsAppended (written c.args.out.now) (written c.write_all.new.out) text) c.deref.ensures.value c.in-Ok-write_all.ensures.ok) c.in-Ok.ensures.text
 
 pub returns-in-Ok-write_all-clause-complete : goal.returns-in-Ok-write_all-clause-complete
 returns-in-Ok-write_all-clause-complete g c = always (command_in c.args.words.now) (g.S.Source.told c.args.source.now) _ (λ command bytes legal valid reads writes. inl refl)
@@ -28,22 +27,9 @@ returns-clause-no_words g c = no_command (command_in c.args.words.now) _ c.in-Ok
 pub returns-clause-front : goal.returns-clause-front
 returns-clause-front g c same =
     let written = g.K.Sink.written in
-    passed_up (command_in c.args.words.now) (g.S.Source.told c.args.source.now) _ _ c.in-Ok.ensures.text
-    (λ command bytes reported. of_text command bytes _ c.in-Ok.text.items (IsFrontAppended (written c.args.out.now) (written c.write_all.new.out))
-    (subst (λ (text : List ℕ). IsFrontAppended (written c.args.out.now) (written c.write_all.new.out) text) c.deref.ensures.value c.in-Err-write_all.ensures.err) reported)
+    of_report (command_in c.args.words.now) (g.S.Source.told c.args.source.now) _ c.in-Ok.text.items (IsFrontAppended (written c.args.out.now) (written c.write_all.new.out))
+    (subst (λ (text : List ℕ). IsFrontAppended (written c.args.out.now) (written c.write_all.new.out) text) c.deref.ensures.value c.in-Err-write_all.ensures.err) c.in-Ok.ensures.text
 
 pub returns-clause-complete : goal.returns-clause-complete
 returns-clause-complete g c =
     always (command_in c.args.words.now) (g.S.Source.told c.args.source.now) _ (λ command bytes legal valid reads writes. absurd (writes (c.in-Err-write_all.ensures.counted.failed refl)))
-
-pub returns-in-Ok-write_all-clause-scanned : goal.returns-in-Ok-write_all-clause-scanned
-returns-in-Ok-write_all-clause-scanned g c same =
-    let written = g.K.Sink.written in
-    of_report (command_in c.args.words.now) _ c.in-Ok.text.items (IsAppended (written c.args.out.now) (written c.write_all.new.out))
-    (subst (λ (text : List ℕ). IsAppended (written c.args.out.now) (written c.write_all.new.out) text) c.deref.ensures.value c.in-Ok-write_all.ensures.ok) c.in-Ok.ensures.report
-
-pub returns-clause-scanned_front : goal.returns-clause-scanned_front
-returns-clause-scanned_front g c same =
-    let written = g.K.Sink.written in
-    of_report (command_in c.args.words.now) _ c.in-Ok.text.items (IsFrontAppended (written c.args.out.now) (written c.write_all.new.out))
-    (subst (λ (text : List ℕ). IsFrontAppended (written c.args.out.now) (written c.write_all.new.out) text) c.deref.ensures.value c.in-Err-write_all.ensures.err) c.in-Ok.ensures.report

@@ -3,7 +3,7 @@ use Rattle.parquet_page.specs.Content.{data_content}
 use Rattle.parquet_page.specs.SliceLeft.{GivesRun as SliceGives}
 use Rattle.parquet_page.specs.ValidityParts.{part_rows}
 use Rattle.page_decoding.specs.FilteredLeft.{places_left}
-use Rattle.page_decoding.proofs.PlaceLemmas.{none-left, part-of}
+use Rattle.page_decoding.proofs.PlaceLemmas.{none-left, part-of, whole-of}
 use Rattle.page_decoding.proofs.WalkLemmas.{slice-given}
 use Rattle.page_decoding.proofs.filtered_validity.FilteredOptionalPageValidity.take_part.Goals as goal
 
@@ -39,3 +39,8 @@ returns-clause-given c =
     let own = part-of c.args.limit (places_left c.args.self.now.places page) (places_left c.next_part.new.self page) part c.in_ok-part.ensures.part in
     let G : ℕ → Type 0 = λ n. SliceGives n c.args.rows.now c.args.self.now.rows c.next.new.self c.next.result in
     slice-given (part_rows part) c.args.rows.now c.args.self.now.rows c.next.new.self c.next.result (subst G c.rows-given.ensures c.next.ensures.run) own.some (omega (arith, own.most, c.requires.most))
+
+pub returns-clause-whole : goal.returns-clause-whole
+returns-clause-whole c =
+    let page = data_content c.args.page.now in
+    whole-of c.args.limit page c.args.self.now.places c.next_part.new.self c.in_ok-part.part c.in_ok-part.ensures.part c.in_ok-part.ensures.longest

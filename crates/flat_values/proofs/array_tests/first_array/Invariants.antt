@@ -1,4 +1,0 @@
-use Rattle.flat_values.proofs.array_tests.first_array.Given as goal
-
-abbrev pub ghosts-first_counted : goal.ghosts-first_counted
-ghosts-first_counted g a = record { name = a.blank.name; parts = a.blank.parts }

@@ -1,6 +1,0 @@
-use Rattle.std.specs.Prelude.{IsSome}
-use Rattle.parquet_encoding.specs.HybridLeft.{hybrid_left}
-use Rattle.parquet_encoding.proofs.tests.compare.Given as goal
-
-abbrev pub invariant-loop-i : goal.invariant-loop-i
-invariant-loop-i g l = IsSome (hybrid_left l.one l.bytes)
