@@ -11,7 +11,7 @@ use Rattle.parquet_plain.specs.Bodies.{number_bytes, bit, number_of_bits, groups
 use Rattle.parquet_sample.specs.Rows.{are_present}
 use Rattle.parquet_sample.specs.Sample.{is_absent}
 
-range_split : (from n m : ℕ) → range_with_len from (n + m) ≡ range_with_len from n ++ range_with_len (from + n) m
+pub range_split : (from n m : ℕ) → range_with_len from (n + m) ≡ range_with_len from n ++ range_with_len (from + n) m
 range_split from zero m =
     let none : zero + m ≡ m = omega arith in
     let here : from ≡ from + zero = omega arith in

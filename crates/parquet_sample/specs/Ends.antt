@@ -1,10 +1,13 @@
 -- The least and the greatest of items, an item at a time.
 use Rattle.std.specs.Prelude.{ℕ, pos, Bool, List, [], ◌∷◌, Option, Some, None}
 use Rattle.parquet_meta.specs.declared.metadata.PhysicalType.{PhysicalType}
-use Rattle.parquet_page.specs.Stored.{Stored, Number}
+use Rattle.parquet_page.specs.Stored.{Stored, Number, Octets}
 use Rattle.parquet_plain.specs.Columns.{end_bytes, first_of, last_of}
 use Rattle.parquet_plain.specs.Orders.{numbers_at_most}
 use Rattle.parquet_plain.specs.declared.ends.Ends.{Ends}
+use Rattle.parquet_sample.specs.Sample.{name_text}
+use Rattle.parquet_sample.specs.declared.column.SampleColumn.{SampleColumn}
+use Rattle.parquet_sample.specs.declared.column.SampleColumn.TheVariants.{Id, Qty, Name}
 use Rattle.parquet_sample.specs.declared.number_ends.NumberEnds.{NumberEnds}
 
 -- none, or the least and the greatest
@@ -30,3 +33,13 @@ ends_by type (Some bounds) = Some (record { least = end_bytes type bounds.0; gre
 abbrev pub number_bounds : Option NumberEnds → Bounds
 number_bounds None = None
 number_bounds (Some ends) = Some (Number (pos ends.least), Number (pos ends.greatest))
+
+-- the item of a number
+abbrev pub end_item : SampleColumn → ℕ → Stored
+end_item Id n = Number (pos n)
+end_item Qty n = Number (pos n)
+end_item Name n = Octets (name_text n)
+
+abbrev pub bounds_of : SampleColumn → Option NumberEnds → Bounds
+bounds_of column None = None
+bounds_of column (Some ends) = Some (end_item column ends.least, end_item column ends.greatest)

@@ -3,9 +3,16 @@
 
 mod body;
 mod cell;
+mod chunk;
 mod column;
+mod ends;
+mod file;
+mod group;
 mod levels;
 mod number_ends;
 mod page_body;
+mod parts;
+mod schema;
 
 pub use cell::sample_cell;
+pub use file::sample_file;

@@ -2,11 +2,14 @@
 
 ghost use Rattle.std.specs.Prelude.{◌≡◌, ◌<◌, ◌+◌, ◌^◌, [], ◌∷◌, pos, None};
 ghost use Rattle.parquet_plain.specs.Bodies.{present};
-ghost use Rattle.parquet_sample.specs.Ends.{number_bounds, numbers_after};
-ghost use Rattle.parquet_sample.specs.Sample.{qty_item};
-ghost use Rattle.parquet_sample.specs.Writing.{items_from};
-ghost use Rattle.parquet_sample.specs.declared.column.SampleColumn.TheVariants.{Id, Qty};
-ghost use Rattle.parquet_page.specs.Stored.{Number};
+ghost use Rattle.parquet_sample.specs.Ends.{bounds_after, bounds_of, number_bounds, numbers_after};
+ghost use Rattle.parquet_sample.specs.Sample.{name_text, qty_item, texts_at_most};
+ghost use Rattle.parquet_sample.specs.Writing.{items_from, written_of};
+ghost use Rattle.parquet_sample.specs.declared.column.SampleColumn.TheVariants.{Id, Qty, Name};
+ghost use Rattle.parquet_page.specs.Stored.{Number, Octets};
+
+use crate::column::SampleColumn;
+use itoa::Buffer;
 
 /// The least and the greatest of numbers.
 #[derive(Clone, Copy)]
@@ -41,7 +44,7 @@ fn with_qty(ends: Option<NumberEnds>, n: u64) -> Option<NumberEnds>
     with_number(ends, n % 1000)
 }
 
-pub(crate) fn id_ends(first: u64, rows: u32) -> Option<NumberEnds>
+fn id_ends(first: u64, rows: u32) -> Option<NumberEnds>
     requires fits { first + rows < 2 ^ 63 }
     ensures { number_bounds result ≡ numbers_after None (present (items_from Id first rows)) }
 {
@@ -52,7 +55,7 @@ pub(crate) fn id_ends(first: u64, rows: u32) -> Option<NumberEnds>
     ends
 }
 
-pub(crate) fn qty_ends(first: u64, rows: u32) -> Option<NumberEnds>
+fn qty_ends(first: u64, rows: u32) -> Option<NumberEnds>
     requires fits { first + rows < 2 ^ 63 }
     ensures { number_bounds result ≡ numbers_after None (present (items_from Qty first rows)) }
 {
@@ -61,4 +64,52 @@ pub(crate) fn qty_ends(first: u64, rows: u32) -> Option<NumberEnds>
         ends = with_qty(ends, n);
     }
     ends
+}
+
+/// Whether the name of a number comes no later than that of another.
+fn is_at_most(first: u64, second: u64) -> bool
+    ensures { result ≡ texts_at_most (Octets (name_text first)) (Octets (name_text second)) }
+{
+    let mut buffer = Buffer::new();
+    let mut other = Buffer::new();
+    buffer.format(first).as_bytes().cmp(other.format(second).as_bytes()).is_le()
+}
+
+/// One name more, by its number.
+fn with_name(ends: Option<NumberEnds>, n: u64) -> Option<NumberEnds>
+    ensures { bounds_of Name result ≡ bounds_after texts_at_most (bounds_of Name ends) (Octets (name_text n) ∷ []) }
+{
+    match ends {
+        None => Some(NumberEnds {
+            least: n,
+            greatest: n,
+        }),
+        Some(ends) => Some(NumberEnds {
+            least: if is_at_most(ends.least, n) { ends.least } else { n },
+            greatest: if is_at_most(ends.greatest, n) { n } else { ends.greatest },
+        }),
+    }
+}
+
+fn name_ends(first: u64, rows: u32) -> Option<NumberEnds>
+    requires fits { first + rows < 2 ^ 63 }
+    ensures { bounds_of Name result ≡ bounds_after texts_at_most None (present (items_from Name first rows)) }
+{
+    let mut ends = None;
+    for n in first..first + u64::from(rows) {
+        ends = with_name(ends, n);
+    }
+    ends
+}
+
+/// The numbers of the least and the greatest item of so many rows.
+pub(crate) fn number_ends(column: SampleColumn, first: u64, rows: u32) -> Option<NumberEnds>
+    requires fits { first + rows < 2 ^ 63 }
+    ensures { bounds_of column result ≡ bounds_after (written_of column).at_most None (present (items_from column first rows)) }
+{
+    match column {
+        SampleColumn::Id => id_ends(first, rows),
+        SampleColumn::Qty => qty_ends(first, rows),
+        SampleColumn::Name => name_ends(first, rows),
+    }
 }
