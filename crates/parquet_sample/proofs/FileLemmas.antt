@@ -9,7 +9,7 @@ use Rattle.parquet_meta.specs.declared.metadata.ColumnChunkMetaData.{ColumnChunk
 use Rattle.parquet_meta.specs.declared.metadata.ColumnDescriptor.{ColumnDescriptor}
 use Rattle.parquet_meta.specs.declared.metadata.FileMetaData.{FileMetaData}
 use Rattle.parquet_meta.specs.declared.metadata.RowGroupMetaData.{RowGroupMetaData}
-use Rattle.parquet_plain.specs.Columns.{Rows, written_chunks, written_file, written_group}
+use Rattle.parquet_plain.specs.Columns.{written_chunks, written_file, written_group}
 use Rattle.parquet_plain.specs.Description.{PlainChunk, PlainFile, PlainGroup, descriptor_of}
 use Rattle.parquet_plain.specs.File.{Starts, all_locations_bytes, behind, behind_all, chunks_of, columns_at, data_bytes, first_starts, groups_at, indexes_bytes, magic, meta_data_of_plain, plain_file, tail_bytes}
 use Rattle.parquet_plain.specs.Structs.{footer_bytes}

@@ -1,9 +1,9 @@
 -- Chunks behind chunks, and groups of them.
 use Rattle.std.proofs.Common.{◌≡◌, ℕ, ◌+◌, ◌-◌, ◌<◌, ◌≤◌, List, [], ◌∷◌, ◌++◌, Some, refl, sym, ap, ◌∙◌, arith, min, length, map, append_assoc, append-nil, length-append, subst}
-use Rattle.std.specs.List.{flat_map, range_with_len}
+use Rattle.std.specs.List.{range_with_len}
 use Rattle.std.proofs.lemmas.List.Concat.{flat_map-append}
 use Rattle.parquet_base.specs.Pieces.{cut}
-use Rattle.parquet_plain.specs.Columns.{Rows, written_group}
+use Rattle.parquet_plain.specs.Columns.{written_group}
 use Rattle.parquet_plain.specs.Description.{PlainChunk, PlainGroup, chunk_bytes}
 use Rattle.parquet_plain.specs.File.{Starts, all_locations_bytes, behind, behind_all, chunk_index_bytes, chunk_locations_bytes, chunks_of, data_bytes, indexes_bytes}
 use Rattle.parquet_sample.specs.Parts.{Adds, group_facts, group_of, groups_facts, groups_of, starts_of}

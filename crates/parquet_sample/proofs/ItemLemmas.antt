@@ -1,16 +1,14 @@
 -- The bodies of rows are those of their items.
-use Rattle.std.proofs.Common.{◌≡◌, ℕ, ◌+◌, ◌%◌, ◌==◌, pos, Bool, true, false, cond, not, List, [], ◌∷◌, ◌++◌, refl, sym, ap, ◌∙◌, arith, length, map}
-use Rattle.std.specs.Prelude.{is_some, Option, Some, None, filter_map}
+use Rattle.std.proofs.Common.{◌≡◌, ℕ, pos, Bool, true, false, cond, not, List, [], ◌∷◌, ◌++◌, refl, ap, ◌∙◌, length, map}
+use Rattle.std.specs.Prelude.{is_some, Some, None}
 use Rattle.std.specs.Int.{w32, w64, cast_unsigned, to_le_bytes}
 use Rattle.std.specs.List.{flat_map, range_with_len}
-use Rattle.parquet_meta.specs.declared.metadata.PhysicalType.TheVariants as types
-use Rattle.parquet_meta.specs.declared.metadata.Repetition.TheVariants.{Required, Optional}
-use Rattle.parquet_page.specs.Stored.{Stored, Number, Octets}
-use Rattle.parquet_plain.specs.Bodies.{body_bytes, level_bytes, number_bytes, number_octets, octets_of, present, values_bytes, with_length}
+use Rattle.parquet_page.specs.Stored.{Number}
+use Rattle.parquet_plain.specs.Bodies.{body_bytes, level_bytes, number_octets, octets_of, present, values_bytes, with_length}
 use Rattle.parquet_plain.proofs.BodyLemmas.{eight-bytes, four-bytes}
 use Rattle.parquet_sample.specs.Rows.{are_present, id_bytes, qty_bytes, text_bytes}
 use Rattle.parquet_sample.specs.Sample.{id_item, is_absent, name_text, qty_item, quantity, name_item}
-use Rattle.parquet_sample.specs.Writing.{body_from, item_of, items_from, qty_body, written_of}
+use Rattle.parquet_sample.specs.Writing.{body_from, items_from, written_of}
 use Rattle.parquet_sample.specs.declared.column.SampleColumn.{SampleColumn}
 use Rattle.parquet_sample.specs.declared.column.SampleColumn.TheVariants.{Id, Qty, Name}
 

@@ -1,6 +1,6 @@
 -- How many of so many rows are null.
-use Rattle.std.proofs.Common.{◌≡◌, pos, ℕ, ◌+◌, ◌-◌, ◌≤◌, Bool, true, false, cond, List, [], ◌∷◌, ◌++◌, Option, Some, None, refl, sym, ap, ◌∙◌, arith, length, map, length-append}
-use Rattle.std.specs.Prelude.{count_by, is_none}
+use Rattle.std.proofs.Common.{◌≡◌, pos, ℕ, ◌+◌, ◌-◌, ◌≤◌, Bool, true, false, cond, List, [], ◌∷◌, Option, Some, None, refl, sym, ap, ◌∙◌, arith, length, map, length-append}
+use Rattle.std.specs.Prelude.{is_none}
 use Rattle.std.specs.List.{filter, range_with_len}
 use Rattle.std.proofs.lemmas.List.Sums.{count_by-le-length, length-filter}
 use Rattle.std.proofs.lemmas.List.FromFn.{filter_of_map_range_with_len_more, length-map-range_with_len}

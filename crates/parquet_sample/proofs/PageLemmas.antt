@@ -141,8 +141,7 @@ pub paging_ends : (column : SampleColumn) (old : List ℕ) (first rows : ℕ) (o
     (out ≡ old ++ chunk_bytes (chunk_of column first rows)) × (facts ≡ pages_told (length old) 0 (chunk_of column first rows).pages)
 paging_ends column old first rows out facts row done is =
     let none = none-left column first rows row done in
-    let all = all-pages column first rows in
-    (
+    let all = all-pages column first rows in (
       sym (append-nil out) ∙ ap (λ (pages : List PlainPage). out ++ flat_map page_bytes pages) none ∙ is.same ∙ ap (λ (pages : List PlainPage). old ++ flat_map page_bytes pages) all,
       sym (append-nil facts) ∙ ap (λ (pages : List PlainPage). facts ++ pages_told (length out) row pages) none ∙ is.told ∙ ap (pages_told (length old) 0) all,
     )

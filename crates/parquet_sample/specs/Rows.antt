@@ -1,8 +1,7 @@
 -- The bytes of a row of the sample in the pages of each column.
-use Rattle.std.specs.Prelude.{ℕ, ◌+◌, List, [], ◌∷◌, ◌++◌, length, not, map, Bool, if◌then◌else◌}
+use Rattle.std.specs.Prelude.{ℕ, List, [], ◌++◌, length, not, map, Bool, if◌then◌else◌}
 use Rattle.std.specs.Int.{w32, w64, to_le_bytes}
 use Rattle.std.specs.List.{range_with_len}
-use Rattle.parquet_plain.specs.Bodies.{number_of_bits}
 use Rattle.parquet_sample.specs.Sample.{is_absent, name_text, quantity}
 
 abbrev pub id_bytes : ℕ → List ℕ

@@ -9,7 +9,9 @@ use crate::column::{SampleColumn, page_rows};
 use crate::ends::{null_count, stored_ends};
 use crate::page_body::write_body;
 use crate::parts::{Parts, Room};
-use parquet_write::{ChunkFacts, PageFacts, to_measure, write_column_index, write_offset_index, write_page};
+use parquet_write::{
+    ChunkFacts, PageFacts, to_measure, write_column_index, write_offset_index, write_page,
+};
 use std::alloc::{AllocError, Global};
 use std::cmp::min;
 
@@ -84,7 +86,14 @@ pub(crate) fn write_chunk(
     let start = parts.chunks.len();
     let index = parts.indexes.len();
     let locations = parts.locations.len();
-    let pages = write_pages(alloc, &mut parts.chunks, &mut parts.room, column, first, rows)?;
+    let pages = write_pages(
+        alloc,
+        &mut parts.chunks,
+        &mut parts.room,
+        column,
+        first,
+        rows,
+    )?;
     write_column_index(&mut parts.indexes, &pages)?;
     write_offset_index(&mut parts.locations, &pages)?;
     let index_size = to_measure(parts.indexes.len() - index)?;

@@ -48,7 +48,12 @@ fn end_of(alloc: Global, column: SampleColumn, number: u64) -> Result<Seq<u8>, A
 }
 
 /// The ends of the items of so many rows.
-pub(crate) fn stored_ends(alloc: Global, column: SampleColumn, first: u64, rows: u32) -> Result<Option<Ends>, AllocError>
+pub(crate) fn stored_ends(
+    alloc: Global,
+    column: SampleColumn,
+    first: u64,
+    rows: u32,
+) -> Result<Option<Ends>, AllocError>
     requires fits { first + rows < 2 ^ 63 }
     ensures { let to = written_of column in IfOk result (λ ends. ends ≡ ends_of to.column.type.physical_type to.at_most (present (items_from column first rows))) }
 {

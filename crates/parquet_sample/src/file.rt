@@ -42,7 +42,12 @@ fn write_file(alloc: Global, first: u64, rows: u32) -> Result<Vec<u8>, AllocErro
     let columns = schema(alloc)?;
     let mut parts = new_parts(alloc)?;
     let groups = write_groups(alloc, &mut parts, first, rows)?;
-    let Parts { chunks: mut out, indexes, locations, room: _room } = parts;
+    let Parts {
+        chunks: mut out,
+        indexes,
+        locations,
+        room: _room,
+    } = parts;
     let indexes_base = out.len() as u64;
     out.extend_from_slice(&indexes)?;
     let locations_base = out.len() as u64;

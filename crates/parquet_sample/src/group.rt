@@ -15,7 +15,12 @@ use std::cmp::min;
 const GROUP_ROWS: u32 = 20000;
 
 /// A chunk for each column, and what is told of the group.
-fn write_group(alloc: Global, parts: &mut Parts, first: u64, rows: u32) -> Result<GroupFacts, AllocError>
+fn write_group(
+    alloc: Global,
+    parts: &mut Parts,
+    first: u64,
+    rows: u32,
+) -> Result<GroupFacts, AllocError>
     requires few { rows < 2 ^ 31 }
     requires fits { first + rows < 2 ^ 63 }
     ensures adds { IfOk result (λ _. Adds parts.old parts.new (group_of first rows).chunks) }

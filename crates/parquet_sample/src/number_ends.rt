@@ -72,7 +72,11 @@ fn is_at_most(first: u64, second: u64) -> bool
 {
     let mut buffer = Buffer::new();
     let mut other = Buffer::new();
-    buffer.format(first).as_bytes().cmp(other.format(second).as_bytes()).is_le()
+    buffer
+        .format(first)
+        .as_bytes()
+        .cmp(other.format(second).as_bytes())
+        .is_le()
 }
 
 /// One name more, by its number.
@@ -85,8 +89,16 @@ fn with_name(ends: Option<NumberEnds>, n: u64) -> Option<NumberEnds>
             greatest: n,
         }),
         Some(ends) => Some(NumberEnds {
-            least: if is_at_most(ends.least, n) { ends.least } else { n },
-            greatest: if is_at_most(ends.greatest, n) { n } else { ends.greatest },
+            least: if is_at_most(ends.least, n) {
+                ends.least
+            } else {
+                n
+            },
+            greatest: if is_at_most(ends.greatest, n) {
+                n
+            } else {
+                ends.greatest
+            },
         }),
     }
 }

@@ -1,4 +1,4 @@
-use Rattle.std.proofs.Common.{ℕ, List, ◌++◌, ap, ◌∙◌, arith}
+use Rattle.std.proofs.Common.{arith}
 use Rattle.parquet_sample.specs.Rows.{text_bytes}
 use Rattle.parquet_sample.proofs.RangeLemmas.{rows_begin, rows_end, rows_go_on}
 use Rattle.parquet_sample.proofs.body.write_names.Goals as goal

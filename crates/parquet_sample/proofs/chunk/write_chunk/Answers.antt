@@ -1,4 +1,4 @@
-use Rattle.std.proofs.Common.{◌≡◌, ℕ, List, [], ◌+◌, ◌-◌, ◌++◌, ◌∷◌, map, Option, sym, ap, ◌∙◌, arith, append-nil, length, length-append}
+use Rattle.std.proofs.Common.{◌≡◌, ℕ, List, ◌-◌, ◌++◌, map, Option, sym, ap, ◌∙◌, arith, append-nil, length, length-append}
 use Rattle.parquet_plain.specs.Columns.{written_chunk}
 use Rattle.parquet_plain.specs.Description.{PlainChunk, chunk_bytes, rows_of_chunk}
 use Rattle.parquet_plain.specs.File.{all_locations_bytes, chunk_index_bytes, chunk_locations_bytes}

@@ -1,4 +1,4 @@
-use Rattle.std.proofs.Common.{◌≡◌, ℕ, List, [], ◌+◌, ◌-◌, ◌++◌, ◌∷◌, min, sym, subst, ap, ◌∙◌, length}
+use Rattle.std.proofs.Common.{◌≡◌, ℕ, List, ◌+◌, ◌-◌, ◌++◌, min, sym, subst, ap, ◌∙◌, length}
 use Rattle.std.specs.Ordering.{nat_cmp, ord_min}
 use Rattle.parquet_plain.specs.Description.{page_bytes}
 use Rattle.parquet_sample.specs.Parts.{page_of, page_told}

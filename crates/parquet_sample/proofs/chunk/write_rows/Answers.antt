@@ -1,4 +1,4 @@
-use Rattle.std.proofs.Common.{◌≡◌, ℕ, List, [], ◌++◌, Option, refl, sym, ap, ◌∙◌, arith, length, length-append}
+use Rattle.std.proofs.Common.{◌≡◌, ℕ, List, ◌++◌, Option, sym, ap, ◌∙◌, arith, length, length-append}
 use Rattle.parquet_plain.specs.Description.{PlainPage, page_bytes}
 use Rattle.parquet_plain.specs.Columns.{written_page}
 use Rattle.parquet_plain.specs.Structs.{page_header_bytes}
@@ -9,7 +9,6 @@ use Rattle.parquet_sample.proofs.PageLemmas.{page-is}
 use Rattle.parquet_write.specs.declared.facts.PageFacts.{PageFacts}
 use Rattle.parquet_sample.proofs.chunk.write_rows.Goals as goal
 
--- the body is that of the rows
 pub returns-clause-written : goal.returns-clause-written
 returns-clause-written c =
     let body : c.deref.result.now ≡ body_from c.args.column c.args.first c.args.rows =

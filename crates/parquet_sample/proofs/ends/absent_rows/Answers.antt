@@ -1,6 +1,5 @@
-use Rattle.std.proofs.Common.{◌≡◌, ℕ, ◌==◌, arith, true, false, refl, ap}
+use Rattle.std.proofs.Common.{◌≡◌, ℕ, ◌==◌, arith, true, false, ap}
 use Rattle.std.proofs.lemmas.Bool.Decides.{nat_tests}
-use Rattle.parquet_sample.specs.Sample.{is_absent}
 use Rattle.parquet_sample.proofs.NullLemmas.{nulls_begin, nulls_end, nulls_go_on}
 use Rattle.parquet_sample.proofs.ends.absent_rows.Goals as goal
 use Rattle.parquet_sample.proofs.ends.absent_rows.Goals.{then-n-eq0, else-n-eq0}

@@ -1,4 +1,4 @@
-use Rattle.std.proofs.Common.{◌≡◌, ap, sym, ◌∙◌}
+use Rattle.std.proofs.Common.{ap, sym, ◌∙◌}
 use Rattle.std.specs.List.{range_with_len}
 use Rattle.parquet_plain.specs.Columns.{nulls_of}
 use Rattle.parquet_sample.specs.Writing.{items_from}

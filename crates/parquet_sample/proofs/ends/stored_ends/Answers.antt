@@ -1,10 +1,8 @@
-use Rattle.std.proofs.Common.{◌≡◌, ℕ, List, Option, Some, None, sym, ap, ◌∙◌}
+use Rattle.std.proofs.Common.{ℕ, List, Option, Some, sym, ap, ◌∙◌}
 use Rattle.parquet_meta.specs.declared.metadata.PhysicalType.{PhysicalType}
-use Rattle.parquet_page.specs.Stored.{Stored}
 use Rattle.parquet_plain.specs.Bodies.{present}
-use Rattle.parquet_plain.specs.Columns.{end_bytes, ends_of}
-use Rattle.parquet_plain.specs.declared.ends.Ends.{Ends}
-use Rattle.parquet_sample.specs.Ends.{Bounds, bounds_after, bounds_of, end_item, ends_by}
+use Rattle.parquet_plain.specs.Columns.{end_bytes}
+use Rattle.parquet_sample.specs.Ends.{bounds_of, end_item, ends_by}
 use Rattle.parquet_sample.specs.Writing.{items_from, written_of}
 use Rattle.parquet_sample.specs.declared.number_ends.NumberEnds.{NumberEnds}
 use Rattle.parquet_sample.proofs.BoundLemmas.{ends-are}

@@ -1,6 +1,5 @@
 use Rattle.std.proofs.Common.{◌≡◌, ℕ, List, ◌+◌, ◌++◌, ap, ◌∙◌, arith, length, length-append}
-use Rattle.parquet_meta.specs.declared.metadata.ColumnDescriptor.{ColumnDescriptor}
-use Rattle.parquet_sample.specs.Parts.{groups_facts, groups_of, sample_descriptors, starts_of}
+use Rattle.parquet_sample.specs.Parts.{starts_of}
 use Rattle.parquet_sample.specs.declared.parts.Parts.{Parts}
 use Rattle.parquet_sample.proofs.FileLemmas.{have_columns, sample-is}
 use Rattle.parquet_write.specs.declared.facts.Bases.{Bases}

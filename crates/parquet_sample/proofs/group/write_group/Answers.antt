@@ -6,7 +6,6 @@ use Rattle.parquet_plain.specs.Description.{PlainChunk}
 use Rattle.parquet_plain.specs.File.{Starts, behind}
 use Rattle.parquet_sample.specs.Parts.{chunk_of, starts_of}
 use Rattle.parquet_sample.specs.declared.column.SampleColumn.TheVariants.{Id, Qty, Name}
-use Rattle.parquet_sample.specs.declared.parts.Parts.{Parts}
 use Rattle.parquet_sample.proofs.GroupLemmas.{adds_more, starts-behind}
 use Rattle.parquet_write.specs.Told.{facts_of}
 use Rattle.parquet_write.specs.declared.facts.ChunkFacts.{ChunkFacts}

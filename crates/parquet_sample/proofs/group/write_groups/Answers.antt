@@ -1,5 +1,4 @@
 use Rattle.std.proofs.Common.{◌≡◌, ℕ, List, ◌+◌, ◌-◌, min, sym, subst, ap, ◌∙◌}
-use Rattle.std.specs.Ordering.{nat_cmp, ord_min}
 use Rattle.parquet_sample.specs.Parts.{Adds, group_facts, group_of, starts_of}
 use Rattle.parquet_sample.specs.Sample.{group_rows}
 use Rattle.parquet_sample.proofs.LevelLemmas.{least_of}

@@ -1,7 +1,7 @@
 use Rattle.std.proofs.Common.{arith, ℕ, ◌+◌, not, ap, ◌∙◌}
 use Rattle.parquet_plain.specs.Bodies.{bit}
 use Rattle.parquet_sample.specs.Sample.{is_absent}
-use Rattle.parquet_sample.proofs.LevelLemmas.{byte_small, levels_begin, levels_end, levels_go_on}
+use Rattle.parquet_sample.proofs.LevelLemmas.{levels_begin, levels_end, levels_go_on}
 use Rattle.parquet_sample.proofs.levels.level_byte.Goals as goal
 
 pub loop-left-init : goal.loop-left-init
