@@ -6,7 +6,7 @@ use Rattle.parquet_meta.specs.declared.metadata.PhysicalType.{PhysicalType}
 use Rattle.parquet_page.specs.Stored.{Stored}
 use Rattle.parquet_plain.specs.Bodies.{present}
 use Rattle.parquet_plain.specs.Columns.{ends_of, first_of, greatest, last_of, least}
-use Rattle.parquet_sample.specs.Ends.{Bounds, bounds_after, ends_by, with_item}
+use Rattle.parquet_sample.specs.Ends.{Bounds, bounds_after, stored_bounds, with_item}
 use Rattle.parquet_sample.proofs.RangeLemmas.{range_more}
 
 bounds-some : (at_most : Stored → Stored → Bool) (low high : Stored) (items : List Stored) → bounds_after at_most (Some (low, high)) items ≡ Some (least at_most low items, greatest at_most high items)
@@ -14,9 +14,9 @@ bounds-some at_most low high [] = refl
 bounds-some at_most low high (item ∷ items) = bounds-some at_most (first_of at_most low item) (last_of at_most high item) items
 
 -- the ends of items are those of their bounds
-pub ends-are : (type : PhysicalType) (at_most : Stored → Stored → Bool) (items : List Stored) → ends_by type (bounds_after at_most None items) ≡ ends_of type at_most items
+pub ends-are : (type : PhysicalType) (at_most : Stored → Stored → Bool) (items : List Stored) → stored_bounds type (bounds_after at_most None items) ≡ ends_of type at_most items
 ends-are type at_most [] = refl
-ends-are type at_most (item ∷ items) = ap (ends_by type) (bounds-some at_most item item items)
+ends-are type at_most (item ∷ items) = ap (stored_bounds type) (bounds-some at_most item item items)
 
 bounds-append : (at_most : Stored → Stored → Bool) (bounds : Bounds) (xs ys : List Stored) → bounds_after at_most bounds (xs ++ ys) ≡ bounds_after at_most (bounds_after at_most bounds xs) ys
 bounds-append at_most bounds [] ys = refl

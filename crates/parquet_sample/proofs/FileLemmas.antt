@@ -13,7 +13,7 @@ use Rattle.parquet_plain.specs.Columns.{written_chunks, written_file, written_gr
 use Rattle.parquet_plain.specs.Description.{PlainChunk, PlainFile, PlainGroup, descriptor_of}
 use Rattle.parquet_plain.specs.File.{Starts, all_locations_bytes, behind, behind_all, chunks_of, columns_at, data_bytes, first_starts, groups_at, indexes_bytes, magic, meta_data_of_plain, plain_file, tail_bytes}
 use Rattle.parquet_plain.specs.Structs.{footer_bytes}
-use Rattle.parquet_sample.specs.Parts.{Adds, BeginsFile, group_facts, groups_facts, groups_of, sample_descriptors, starts_of}
+use Rattle.parquet_sample.specs.Parts.{AddsChunks, BeginsFile, group_facts, groups_facts, sample_groups, sample_descriptors, starts_of}
 use Rattle.parquet_sample.specs.Sample.{group_rows, rows_of_numbers, sample, sample_columns}
 use Rattle.parquet_sample.specs.declared.parts.Parts.{Parts}
 use Rattle.parquet_sample.proofs.GroupLemmas.{starts_alike}
@@ -78,24 +78,24 @@ three_columns at (piece ∷ pieces) =
     let others : List PlainGroup = map (written_group sample_columns) (map rows_of_numbers pieces) in
     All-cons {X = GroupFacts} (HasColumns 3) (group_facts at group) (groups_facts (behind_all at group.chunks) others) refl (three_columns (behind_all at group.chunks) pieces)
 
-pub have_columns : (at : Starts) (first rows : ℕ) (columns : List ColumnDescriptor) (groups : List GroupFacts) → columns ≡ sample_descriptors → groups ≡ groups_facts at (groups_of first rows) →
+pub have_columns : (at : Starts) (first rows : ℕ) (columns : List ColumnDescriptor) (groups : List GroupFacts) → columns ≡ sample_descriptors → groups ≡ groups_facts at (sample_groups first rows) →
     All (HasColumns (length columns)) groups
 have_columns at first rows columns groups own told =
     subst (λ (gs : List GroupFacts). All (HasColumns (length columns)) gs) (sym told)
-    (subst (λ (n : ℕ). All (HasColumns n) (groups_facts at (groups_of first rows))) (sym (ap length own)) (three_columns at (cut (Some group_rows) (range_with_len first rows))))
+    (subst (λ (n : ℕ). All (HasColumns n) (groups_facts at (sample_groups first rows))) (sym (ap length own)) (three_columns at (cut (Some group_rows) (range_with_len first rows))))
 
 regrouped : (m d i l t : List ℕ) → (((m ++ d) ++ i) ++ l) ++ t ≡ (m ++ (d ++ (i ++ l))) ++ t
 regrouped m d i l t = simp append_assoc
 
 -- the parts, one behind another, and the end of the file are the sample
 pub sample-is : (first rows : ℕ) (parts now : Parts) (bases : Bases) (columns : List ColumnDescriptor) (groups : List GroupFacts) (front : List ℕ) → BeginsFile parts →
-    Adds parts now (chunks_of (groups_of first rows)) → groups ≡ groups_facts (starts_of parts) (groups_of first rows) → columns ≡ sample_descriptors →
+    AddsChunks parts now (chunks_of (sample_groups first rows)) → groups ≡ groups_facts (starts_of parts) (sample_groups first rows) → columns ≡ sample_descriptors →
     bases.indexes ≡ length now.chunks.items → bases.locations ≡ length now.chunks.items + length now.indexes.items →
     front ≡ (now.chunks.items ++ now.indexes.items) ++ now.locations.items → front ++ end_of_file_bytes columns bases groups ≡ sample rows first
 unfolding sample plain_file written_file
 sample-is first rows parts now bases columns groups front begins adds told own indexes locations whole =
     let file : PlainFile = written_file sample_columns (map rows_of_numbers (cut (Some group_rows) (range_with_len first rows))) in
-    let chunks : List PlainChunk = chunks_of (groups_of first rows) in
+    let chunks : List PlainChunk = chunks_of (sample_groups first rows) in
     let d : List ℕ = data_bytes chunks in
     let i : List ℕ = indexes_bytes chunks in
     let l : List ℕ = all_locations_bytes 4 chunks in
@@ -107,7 +107,7 @@ sample-is first rows parts now bases columns groups front begins adds told own i
     let long : length now.chunks.items ≡ 4 + length d = ap length pages_are ∙ length-append magic d in
     let tail : end_of_file_bytes columns bases groups ≡ tail_bytes (footer_bytes (meta_data_of_plain file)) =
     ap (λ (cs : List ColumnDescriptor). end_of_file_bytes cs bases groups) own
-    ∙ ap (end_of_file_bytes sample_descriptors bases) (told ∙ ap (λ (s : Starts). groups_facts s (groups_of first rows)) at)
+    ∙ ap (end_of_file_bytes sample_descriptors bases) (told ∙ ap (λ (s : Starts). groups_facts s (sample_groups first rows)) at)
     ∙ ap (λ (m : FileMetaData). tail_bytes (footer_bytes m)) (file-told file bases (indexes ∙ long) (omega (arith, locations, long, ap length indexes_are))) in
     ap (λ (bs : List ℕ). bs ++ end_of_file_bytes columns bases groups) whole
     ∙ ap (λ (bs : List ℕ). ((bs ++ now.indexes.items) ++ now.locations.items) ++ end_of_file_bytes columns bases groups) pages_are

@@ -62,12 +62,6 @@ levels_go_on first rows byte left now level some e own is =
       small = rw (more, power) (omega (arith, is.small, own, low));
     }
 
-pub byte_small : (first rows byte left : ℕ) → rows ≤ 8 → IsLevels first rows byte left → byte < 256
-byte_small first rows byte left few is =
-    let le : rows - left ≤ 8 = omega arith in
-    let most : 2 ^ (rows - left) ≤ 2 ^ 8 = pow-le-pow_right {n = 2} (omega arith) le in
-    omega (arith, most, is.small)
-
 pub levels_end : (first rows byte left : ℕ) → left ≤ 0 → IsLevels first rows byte left → byte ≡ number_of_bits (are_present first rows)
 levels_end first rows byte left done is =
     let none : first + left ≡ first = omega arith in

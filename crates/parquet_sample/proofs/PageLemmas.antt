@@ -14,8 +14,8 @@ use Rattle.parquet_plain.specs.Columns.{Written, written_chunk, written_page}
 use Rattle.parquet_plain.specs.Description.{PlainPage, chunk_bytes, greatest_of, index_of_chunk, least_of, locations_from, page_bytes, rows_of_chunk}
 use Rattle.parquet_plain.specs.Structs.{page_header_bytes}
 use Rattle.parquet_plain.proofs.PieceLemmas.{cut-sum}
-use Rattle.parquet_sample.specs.Parts.{chunk_of, page_of, page_told, pages_told}
-use Rattle.parquet_sample.specs.Writing.{body_from, item_of, items_from, written_of}
+use Rattle.parquet_sample.specs.Parts.{sample_chunk, sample_page, page_told, pages_told}
+use Rattle.parquet_sample.specs.Writing.{body_from, sample_item, items_from, written_of}
 use Rattle.parquet_sample.specs.declared.column.SampleColumn.{SampleColumn}
 use Rattle.parquet_sample.specs.declared.column.SampleColumn.TheVariants.{Id, Qty, Name}
 use Rattle.parquet_sample.proofs.ItemLemmas.{body-is}
@@ -78,22 +78,22 @@ some_rows Id = omega arith
 some_rows Qty = omega arith
 some_rows Name = omega arith
 
-pub rows_of_page : (column : SampleColumn) (first rows : ℕ) → (page_of column first rows).rows ≡ rows
+pub rows_of_page : (column : SampleColumn) (first rows : ℕ) → (sample_page column first rows).rows ≡ rows
 unfolding written_page
-rows_of_page column first rows = length-map-range_with_len (item_of column) first rows
+rows_of_page column first rows = length-map-range_with_len (sample_item column) first rows
 
-pub page-is : (column : SampleColumn) (first rows : ℕ) → page_bytes (page_of column first rows) ≡ page_header_bytes rows (length (body_from column first rows)) ++ body_from column first rows
+pub page-is : (column : SampleColumn) (first rows : ℕ) → page_bytes (sample_page column first rows) ≡ page_header_bytes rows (length (body_from column first rows)) ++ body_from column first rows
 unfolding written_page page_bytes
 page-is column first rows =
     let items : List (Option Stored) = items_from column first rows in
-    ap (λ (n : ℕ). page_header_bytes n (length (body_bytes (written_of column).column.type.physical_type (written_of column).column.type.repetition items)) ++ body_bytes (written_of column).column.type.physical_type (written_of column).column.type.repetition items) (length-map-range_with_len (item_of column) first rows)
+    ap (λ (n : ℕ). page_header_bytes n (length (body_bytes (written_of column).column.type.physical_type (written_of column).column.type.repetition items)) ++ body_bytes (written_of column).column.type.physical_type (written_of column).column.type.repetition items) (length-map-range_with_len (sample_item column) first rows)
     ∙ ap (λ (bs : List ℕ). page_header_bytes rows (length bs) ++ bs) (body-is column first rows)
 
 -- the pages of the rows that are left
 abbrev pub pages_left : SampleColumn → ℕ → ℕ → ℕ → List PlainPage
 pages_left column first rows row = map (written_page (written_of column)) (cut (Some (written_of column).page_rows) (items_from column (first + row) (rows - row)))
 
-all-pages : (column : SampleColumn) (first rows : ℕ) → pages_left column first rows 0 ≡ (chunk_of column first rows).pages
+all-pages : (column : SampleColumn) (first rows : ℕ) → pages_left column first rows 0 ≡ (sample_chunk column first rows).pages
 unfolding written_chunk
 all-pages column first rows =
     let from : first + 0 ≡ first = omega arith in
@@ -112,15 +112,15 @@ paging_begins column old first rows = record { within = omega arith; same = refl
 
 pub paging_goes_on : (column : SampleColumn) (old : List ℕ) (first rows : ℕ) (out : List ℕ) (facts : List PageFacts) (row count : ℕ) (then : List ℕ) (fact : PageFacts) →
     IsPaging column old first rows out facts row → row < rows → count ≡ min (written_of column).page_rows (rows - row) →
-    then ≡ out ++ page_bytes (page_of column (first + row) count) → fact ≡ page_told (length out) row (page_of column (first + row) count) →
+    then ≡ out ++ page_bytes (sample_page column (first + row) count) → fact ≡ page_told (length out) row (sample_page column (first + row) count) →
     IsPaging column old first rows then (facts ++ fact ∷ []) (row + count)
 paging_goes_on column old first rows out facts row count then fact is lt e written own =
-    let page : PlainPage = page_of column (first + row) count in
+    let page : PlainPage = sample_page column (first + row) count in
     let left : List PlainPage = pages_left column first rows (row + count) in
     let many : page.rows ≡ count = rows_of_page column (first + row) count in
     let end : length then ≡ length out + length (page_bytes page) = ap length written ∙ length-append out (page_bytes page) in
     let all : pages_left column first rows row ≡ page ∷ left =
-    ap (map (written_page (written_of column))) (next_piece (item_of column) (written_of column).page_rows first rows row count (some_rows column) lt e) in
+    ap (map (written_page (written_of column))) (next_piece (sample_item column) (written_of column).page_rows first rows row count (some_rows column) lt e) in
     record {
       within = omega (arith, e);
       same = ap (λ (bs : List ℕ). bs ++ flat_map page_bytes left) written ∙ append_assoc out (page_bytes page) (flat_map page_bytes left)
@@ -138,7 +138,7 @@ none-left column first rows row done =
     ap (λ (n : ℕ). map (written_page (written_of column)) (cut (Some (written_of column).page_rows) (items_from column (first + row) n))) none
 
 pub paging_ends : (column : SampleColumn) (old : List ℕ) (first rows : ℕ) (out : List ℕ) (facts : List PageFacts) (row : ℕ) → rows ≤ row → IsPaging column old first rows out facts row →
-    (out ≡ old ++ chunk_bytes (chunk_of column first rows)) × (facts ≡ pages_told (length old) 0 (chunk_of column first rows).pages)
+    (out ≡ old ++ chunk_bytes (sample_chunk column first rows)) × (facts ≡ pages_told (length old) 0 (sample_chunk column first rows).pages)
 paging_ends column old first rows out facts row done is =
     let none = none-left column first rows row done in
     let all = all-pages column first rows in (
@@ -155,9 +155,9 @@ map-told {X = X} f g same start row (page ∷ pages) =
     ap (λ (x : X). x ∷ map f (pages_told (start + length (page_bytes page)) (row + page.rows) pages)) (same start row page)
     ∙ ap (λ (xs : List X). g page ∷ xs) (map-told f g same (start + length (page_bytes page)) (row + page.rows) pages)
 
-pub index-told : (column : SampleColumn) (first rows start : ℕ) → index_told (pages_told start 0 (chunk_of column first rows).pages) ≡ index_of_chunk (chunk_of column first rows)
+pub index-told : (column : SampleColumn) (first rows start : ℕ) → index_told (pages_told start 0 (sample_chunk column first rows).pages) ≡ index_of_chunk (sample_chunk column first rows)
 index-told column first rows start =
-    let pages : List PlainPage = (chunk_of column first rows).pages in
+    let pages : List PlainPage = (sample_chunk column first rows).pages in
     let facts : List PageFacts = pages_told start 0 pages in
     let nulls = map-told is_null_page (λ (page : PlainPage). is_none page.ends) (λ s r p. refl) start 0 pages in
     let least = map-told least_told (λ (page : PlainPage). least_of page.ends) (λ s r p. refl) start 0 pages in
@@ -178,9 +178,9 @@ rows-of to [] = refl
 rows-of to (items ∷ parts) =
     omega (arith, rows-of to parts, sum_by-cons (λ (page : PlainPage). page.rows) (written_page to items) (map (written_page to) parts), sum_by-cons {X = List (Option Stored)} length items parts)
 
-pub rows_of_chunk-is : (column : SampleColumn) (first rows : ℕ) → rows_of_chunk (chunk_of column first rows) ≡ rows
+pub rows_of_chunk-is : (column : SampleColumn) (first rows : ℕ) → rows_of_chunk (sample_chunk column first rows) ≡ rows
 unfolding written_chunk
 rows_of_chunk-is column first rows =
     rows-of (written_of column) (cut (Some (written_of column).page_rows) (items_from column first rows))
     ∙ cut-sum (written_of column).page_rows (items_from column first rows) (some_rows column)
-    ∙ length-map-range_with_len (item_of column) first rows
+    ∙ length-map-range_with_len (sample_item column) first rows

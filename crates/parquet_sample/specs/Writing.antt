@@ -15,14 +15,14 @@ written_of Id = id_column
 written_of Qty = qty_column
 written_of Name = name_column
 
-abbrev pub item_of : SampleColumn → ℕ → Option Stored
-item_of Id n = id_item n
-item_of Qty n = qty_item n
-item_of Name n = name_item n
+abbrev pub sample_item : SampleColumn → ℕ → Option Stored
+sample_item Id n = id_item n
+sample_item Qty n = qty_item n
+sample_item Name n = name_item n
 
 -- the items of rows from one on
 abbrev pub items_from : SampleColumn → ℕ → ℕ → List (Option Stored)
-items_from column first rows = map (item_of column) (range_with_len first rows)
+items_from column first rows = map (sample_item column) (range_with_len first rows)
 
 abbrev pub qty_body : ℕ → ℕ → List ℕ
 qty_body first rows =

@@ -1,8 +1,9 @@
 //! The pages of a chunk, and its indexes.
 
+ghost use Rattle.compact_write.specs.Calls.{Writes};
 ghost use Rattle.std.specs.Prelude.{◌≡◌, ◌<◌, ◌+◌, ◌^◌, ◌++◌, [], ◌∷◌, length, IfOk};
 ghost use Rattle.parquet_plain.specs.Description.{chunk_bytes, page_bytes};
-ghost use Rattle.parquet_sample.specs.Parts.{Adds, chunk_of, page_of, page_told, pages_told, starts_of};
+ghost use Rattle.parquet_sample.specs.Parts.{AddsChunks, sample_chunk, sample_page, page_told, pages_told, starts_of, page_facts, pages_facts, chunk_facts};
 ghost use Rattle.parquet_write.specs.Told.{facts_of};
 
 use crate::column::{SampleColumn, page_rows};
@@ -27,8 +28,8 @@ fn write_rows(
 ) -> Result<PageFacts, AllocError>
     requires few { rows < 2 ^ 31 }
     requires fits { first + rows < 2 ^ 63 }
-    ensures written { IfOk result (λ _. out.new.items ≡ out.old.items ++ page_bytes (page_of column first rows)) }
-    ensures told { IfOk result (λ page. page ≡ page_told (length out.old.items) row (page_of column first rows)) }
+    ensures written { Writes (page_bytes (sample_page column first rows)) out.old result out.new }
+    ensures told { IfOk result (λ told. told ≡ page_facts column first rows (length out.old.items) row) }
 {
     let start = out.len();
     room.body.clear();
@@ -56,8 +57,8 @@ fn write_pages(
 ) -> Result<Vec<PageFacts>, AllocError>
     requires few { rows < 2 ^ 31 }
     requires fits { first + rows < 2 ^ 63 }
-    ensures written { IfOk result (λ _. out.new.items ≡ out.old.items ++ chunk_bytes (chunk_of column first rows)) }
-    ensures told { IfOk result (λ pages. pages.items ≡ pages_told (length out.old.items) 0 (chunk_of column first rows).pages) }
+    ensures written { Writes (chunk_bytes (sample_chunk column first rows)) out.old result out.new }
+    ensures told { IfOk result (λ told. told.items ≡ pages_facts column first rows (length out.old.items)) }
 {
     let mut pages = Vec::new(alloc);
     let mut row = 0;
@@ -80,8 +81,8 @@ pub(crate) fn write_chunk(
 ) -> Result<ChunkFacts, AllocError>
     requires few { rows < 2 ^ 31 }
     requires fits { first + rows < 2 ^ 63 }
-    ensures adds { IfOk result (λ _. Adds parts.old parts.new (chunk_of column first rows ∷ [])) }
-    ensures told { IfOk result (λ chunk. chunk ≡ facts_of (starts_of parts.old) (chunk_of column first rows)) }
+    ensures adds { IfOk result (λ _. AddsChunks parts.old parts.new (sample_chunk column first rows ∷ [])) }
+    ensures told { IfOk result (λ told. told ≡ chunk_facts parts.old column first rows) }
 {
     let start = parts.chunks.len();
     let index = parts.indexes.len();

@@ -4,7 +4,7 @@ ghost use Rattle.std.specs.Prelude.{◌≡◌, ◌<◌, ◌+◌, ◌^◌, IfOk};
 ghost use Rattle.compact_write.specs.Calls.{Writes};
 ghost use Rattle.parquet_plain.specs.Bodies.{present};
 ghost use Rattle.parquet_plain.specs.Columns.{end_bytes, ends_of, nulls_of};
-ghost use Rattle.parquet_sample.specs.Ends.{end_item};
+ghost use Rattle.parquet_sample.specs.Ends.{end_item, end_octets, row_ends};
 ghost use Rattle.parquet_sample.specs.Sample.{name_text};
 ghost use Rattle.parquet_sample.specs.Writing.{items_from, written_of};
 ghost use Rattle.parquet_sample.specs.declared.column.SampleColumn.TheVariants.{Qty};
@@ -19,7 +19,7 @@ use std::alloc::{AllocError, Global};
 
 /// An item as an end, by its number.
 fn write_end_of(bytes: &mut Vec<u8>, column: SampleColumn, number: u64) -> Result<(), AllocError>
-    ensures written { Writes (end_bytes (written_of column).column.type.physical_type (end_item column number)) bytes.old result bytes.new }
+    ensures written { Writes (end_octets column number) bytes.old result bytes.new }
 {
     match column {
         SampleColumn::Id => {
@@ -40,7 +40,7 @@ fn write_end_of(bytes: &mut Vec<u8>, column: SampleColumn, number: u64) -> Resul
 }
 
 fn end_of(alloc: Global, column: SampleColumn, number: u64) -> Result<Seq<u8>, AllocError>
-    ensures { IfOk result (λ bytes. bytes ≡ end_bytes (written_of column).column.type.physical_type (end_item column number)) }
+    ensures { IfOk result (λ bytes. bytes ≡ end_octets column number) }
 {
     let mut bytes = Vec::new(alloc);
     write_end_of(&mut bytes, column, number)?;
@@ -55,7 +55,7 @@ pub(crate) fn stored_ends(
     rows: u32,
 ) -> Result<Option<Ends>, AllocError>
     requires fits { first + rows < 2 ^ 63 }
-    ensures { let to = written_of column in IfOk result (λ ends. ends ≡ ends_of to.column.type.physical_type to.at_most (present (items_from column first rows))) }
+    ensures { IfOk result (λ ends. ends ≡ row_ends column first rows) }
 {
     match number_ends(column, first, rows) {
         None => Ok(None),

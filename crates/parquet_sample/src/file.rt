@@ -68,7 +68,8 @@ fn write_file(alloc: Global, first: u64, rows: u32) -> Result<Vec<u8>, AllocErro
 pub fn sample_file(alloc: Global, rows: u32, seed: u32) -> Result<Vec<u8>, Error>
     ensures written { IfOk result (λ bytes. bytes.items ≡ sample rows seed) }
     ensures few { IfOk result (λ _. rows ≤ most_rows) }
-    ensures refusal { IfErr result (λ e. e ≡ (if nat_lt most_rows rows then InvalidArgumentError Request else OutOfMemory)) }
+    ensures refusal { most_rows < rows → IfErr result (λ e. e ≡ InvalidArgumentError Request) }
+    ensures memory { rows ≤ most_rows → IfErr result (λ e. e ≡ OutOfMemory) }
 {
     if rows > MOST_ROWS {
         return Err(Error::InvalidArgumentError(Part::Request));

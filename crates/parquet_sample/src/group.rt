@@ -2,7 +2,7 @@
 
 ghost use Rattle.std.specs.Prelude.{◌≡◌, ◌≤◌, ◌<◌, ◌+◌, ◌^◌, IfOk};
 ghost use Rattle.parquet_plain.specs.File.{chunks_of};
-ghost use Rattle.parquet_sample.specs.Parts.{Adds, group_facts, group_of, groups_facts, groups_of, starts_of};
+ghost use Rattle.parquet_sample.specs.Parts.{AddsChunks, group_facts, sample_group, groups_facts, sample_groups, starts_of, sample_facts};
 
 use crate::chunk::write_chunk;
 use crate::column::SampleColumn;
@@ -23,8 +23,8 @@ fn write_group(
 ) -> Result<GroupFacts, AllocError>
     requires few { rows < 2 ^ 31 }
     requires fits { first + rows < 2 ^ 63 }
-    ensures adds { IfOk result (λ _. Adds parts.old parts.new (group_of first rows).chunks) }
-    ensures told { IfOk result (λ group. group ≡ group_facts (starts_of parts.old) (group_of first rows)) }
+    ensures adds { IfOk result (λ _. AddsChunks parts.old parts.new (sample_group first rows).chunks) }
+    ensures told { IfOk result (λ group. group ≡ group_facts (starts_of parts.old) (sample_group first rows)) }
 {
     let id = write_chunk(alloc, parts, SampleColumn::Id, first, rows)?;
     let qty = write_chunk(alloc, parts, SampleColumn::Qty, first, rows)?;
@@ -48,8 +48,8 @@ pub(crate) fn write_groups(
 ) -> Result<Vec<GroupFacts>, AllocError>
     requires few { rows < 2 ^ 31 }
     requires fits { first + rows < 2 ^ 63 }
-    ensures adds { IfOk result (λ _. Adds parts.old parts.new (chunks_of (groups_of first rows))) }
-    ensures told { IfOk result (λ groups. groups.items ≡ groups_facts (starts_of parts.old) (groups_of first rows)) }
+    ensures adds { IfOk result (λ _. AddsChunks parts.old parts.new (chunks_of (sample_groups first rows))) }
+    ensures told { IfOk result (λ told. told.items ≡ sample_facts parts.old first rows) }
 {
     let mut groups = Vec::new(alloc);
     let mut row = 0;

@@ -2,7 +2,7 @@
 
 ghost use Rattle.std.specs.Prelude.{◌≡◌, ◌<◌, ◌+◌, ◌^◌, [], ◌∷◌, pos, None};
 ghost use Rattle.parquet_plain.specs.Bodies.{present};
-ghost use Rattle.parquet_sample.specs.Ends.{bounds_after, bounds_of, number_bounds, numbers_after};
+ghost use Rattle.parquet_sample.specs.Ends.{bounds_after, bounds_at, number_bounds, numbers_after, names_after, row_bounds};
 ghost use Rattle.parquet_sample.specs.Sample.{name_text, qty_item, texts_at_most};
 ghost use Rattle.parquet_sample.specs.Writing.{items_from, written_of};
 ghost use Rattle.parquet_sample.specs.declared.column.SampleColumn.TheVariants.{Id, Qty, Name};
@@ -81,7 +81,7 @@ fn is_at_most(first: u64, second: u64) -> bool
 
 /// One name more, by its number.
 fn with_name(ends: Option<NumberEnds>, n: u64) -> Option<NumberEnds>
-    ensures { bounds_of Name result ≡ bounds_after texts_at_most (bounds_of Name ends) (Octets (name_text n) ∷ []) }
+    ensures { bounds_at Name result ≡ names_after (bounds_at Name ends) (Octets (name_text n) ∷ []) }
 {
     match ends {
         None => Some(NumberEnds {
@@ -105,7 +105,7 @@ fn with_name(ends: Option<NumberEnds>, n: u64) -> Option<NumberEnds>
 
 fn name_ends(first: u64, rows: u32) -> Option<NumberEnds>
     requires fits { first + rows < 2 ^ 63 }
-    ensures { bounds_of Name result ≡ bounds_after texts_at_most None (present (items_from Name first rows)) }
+    ensures { bounds_at Name result ≡ names_after None (present (items_from Name first rows)) }
 {
     let mut ends = None;
     for n in first..first + u64::from(rows) {
@@ -117,7 +117,7 @@ fn name_ends(first: u64, rows: u32) -> Option<NumberEnds>
 /// The numbers of the least and the greatest item of so many rows.
 pub(crate) fn number_ends(column: SampleColumn, first: u64, rows: u32) -> Option<NumberEnds>
     requires fits { first + rows < 2 ^ 63 }
-    ensures { bounds_of column result ≡ bounds_after (written_of column).at_most None (present (items_from column first rows)) }
+    ensures { bounds_at column result ≡ row_bounds column first rows }
 {
     match column {
         SampleColumn::Id => id_ends(first, rows),

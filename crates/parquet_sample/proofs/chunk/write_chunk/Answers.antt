@@ -4,7 +4,7 @@ use Rattle.parquet_plain.specs.Description.{PlainChunk, chunk_bytes, rows_of_chu
 use Rattle.parquet_plain.specs.File.{all_locations_bytes, chunk_index_bytes, chunk_locations_bytes}
 use Rattle.parquet_plain.specs.Structs.{column_index_bytes, offset_index_bytes}
 use Rattle.parquet_plain.specs.declared.ends.Ends.{Ends}
-use Rattle.parquet_sample.specs.Parts.{chunk_of}
+use Rattle.parquet_sample.specs.Parts.{sample_chunk}
 use Rattle.parquet_sample.proofs.PageLemmas.{index-told, locations-told, rows_of_chunk-is}
 use Rattle.parquet_write.specs.Told.{index_told, location_told}
 use Rattle.parquet_write.specs.declared.facts.ChunkFacts.{ChunkFacts}
@@ -14,7 +14,7 @@ use Rattle.parquet_sample.proofs.chunk.write_chunk.Goals as goal
 pub returns-clause-adds : goal.returns-clause-adds
 unfolding all_locations_bytes
 returns-clause-adds c =
-    let chunk : PlainChunk = chunk_of c.args.column c.args.first c.args.rows in
+    let chunk : PlainChunk = sample_chunk c.args.column c.args.first c.args.rows in
     let start : ℕ = length c.args.parts.now.chunks.items in
     record {
       pages = c.in_ok-pages.ensures.written ∙ ap (λ (bs : List ℕ). c.args.parts.now.chunks.items ++ bs) (sym (append-nil (chunk_bytes chunk)));
@@ -38,7 +38,7 @@ told_alike a b d e f g h i j = cc
 pub returns-clause-told : goal.returns-clause-told
 unfolding written_chunk
 returns-clause-told c =
-    let chunk : PlainChunk = chunk_of c.args.column c.args.first c.args.rows in
+    let chunk : PlainChunk = sample_chunk c.args.column c.args.first c.args.rows in
     let out : List ℕ = c.args.parts.now.chunks.items in
     let indexes : List ℕ = c.args.parts.now.indexes.items in
     let places : List ℕ = c.args.parts.now.locations.items in

@@ -3,7 +3,7 @@ use Rattle.parquet_plain.specs.Description.{PlainPage, page_bytes}
 use Rattle.parquet_plain.specs.Columns.{written_page}
 use Rattle.parquet_plain.specs.Structs.{page_header_bytes}
 use Rattle.parquet_plain.specs.declared.ends.Ends.{Ends}
-use Rattle.parquet_sample.specs.Parts.{page_of}
+use Rattle.parquet_sample.specs.Parts.{sample_page}
 use Rattle.parquet_sample.specs.Writing.{body_from}
 use Rattle.parquet_sample.proofs.PageLemmas.{page-is}
 use Rattle.parquet_write.specs.declared.facts.PageFacts.{PageFacts}
@@ -21,7 +21,7 @@ unfolding written_page
 returns-clause-told c =
     let body : c.deref.result.now ≡ body_from c.args.column c.args.first c.args.rows =
     c.deref.ensures.value ∙ c.in_ok-write_body.ensures.written ∙ ap (λ (bs : List ℕ). bs ++ body_from c.args.column c.args.first c.args.rows) c.clear.ensures.items in
-    let page : PlainPage = page_of c.args.column c.args.first c.args.rows in
+    let page : PlainPage = sample_page c.args.column c.args.first c.args.rows in
     let out : List ℕ = c.args.out.now.items in
     let whole : c.write_page.new.out.items ≡ out ++ page_bytes page =
     c.in_ok-write_page.ensures.written ∙ ap (λ (bs : List ℕ). out ++ (page_header_bytes c.args.rows (length bs) ++ bs)) body

@@ -4,7 +4,7 @@ use Rattle.std.proofs.lemmas.List.FromFn.{length-range_with_len}
 use Rattle.parquet_plain.specs.Columns.{written_chunks}
 use Rattle.parquet_plain.specs.Description.{PlainChunk}
 use Rattle.parquet_plain.specs.File.{Starts, behind}
-use Rattle.parquet_sample.specs.Parts.{chunk_of, starts_of}
+use Rattle.parquet_sample.specs.Parts.{sample_chunk, starts_of}
 use Rattle.parquet_sample.specs.declared.column.SampleColumn.TheVariants.{Id, Qty, Name}
 use Rattle.parquet_sample.proofs.GroupLemmas.{adds_more, starts-behind}
 use Rattle.parquet_write.specs.Told.{facts_of}
@@ -15,9 +15,9 @@ use Rattle.parquet_sample.proofs.group.write_group.Goals as goal
 pub returns-clause-adds : goal.returns-clause-adds
 unfolding written_chunks
 returns-clause-adds c =
-    let a : PlainChunk = chunk_of Id c.args.first c.args.rows in
-    let b : PlainChunk = chunk_of Qty c.args.first c.args.rows in
-    let d : PlainChunk = chunk_of Name c.args.first c.args.rows in
+    let a : PlainChunk = sample_chunk Id c.args.first c.args.rows in
+    let b : PlainChunk = sample_chunk Qty c.args.first c.args.rows in
+    let d : PlainChunk = sample_chunk Name c.args.first c.args.rows in
     let two = adds_more c.args.parts.now c.write_chunk.new.parts c.write_chunk-2.new.parts (a ∷ []) (b ∷ []) c.in_ok-id.ensures.adds c.in_ok-qty.ensures.adds in
     adds_more c.args.parts.now c.write_chunk-2.new.parts c.write_chunk-3.new.parts (a ∷ b ∷ []) (d ∷ []) two c.in_ok-name.ensures.adds
 
@@ -27,9 +27,9 @@ three xs ys zs us a b d none one two all = all ∙ ap (λ (cs : List ChunkFacts)
 pub returns-clause-told : goal.returns-clause-told
 unfolding written_chunks
 returns-clause-told c =
-    let a : PlainChunk = chunk_of Id c.args.first c.args.rows in
-    let b : PlainChunk = chunk_of Qty c.args.first c.args.rows in
-    let d : PlainChunk = chunk_of Name c.args.first c.args.rows in
+    let a : PlainChunk = sample_chunk Id c.args.first c.args.rows in
+    let b : PlainChunk = sample_chunk Qty c.args.first c.args.rows in
+    let d : PlainChunk = sample_chunk Name c.args.first c.args.rows in
     let at : Starts = starts_of c.args.parts.now in
     let second : starts_of c.write_chunk.new.parts ≡ behind at a = starts-behind c.args.parts.now c.write_chunk.new.parts (a ∷ []) c.in_ok-id.ensures.adds in
     let third : starts_of c.write_chunk-2.new.parts ≡ behind (behind at a) b =
