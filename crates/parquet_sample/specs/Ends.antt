@@ -32,10 +32,6 @@ abbrev pub stored_bounds : PhysicalType → Bounds → Option Ends
 stored_bounds type None = None
 stored_bounds type (Some bounds) = Some (record { least = end_bytes type bounds.0; greatest = end_bytes type bounds.1 })
 
-abbrev pub number_bounds : Option NumberEnds → Bounds
-number_bounds None = None
-number_bounds (Some ends) = Some (Number (pos ends.least), Number (pos ends.greatest))
-
 -- the item of a number
 abbrev pub end_item : SampleColumn → ℕ → Stored
 end_item Id n = Number (pos n)

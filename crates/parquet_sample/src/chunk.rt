@@ -1,10 +1,9 @@
 //! The pages of a chunk, and its indexes.
 
 ghost use Rattle.compact_write.specs.Calls.{Writes};
-ghost use Rattle.std.specs.Prelude.{◌≡◌, ◌<◌, ◌+◌, ◌^◌, ◌++◌, [], ◌∷◌, length, IfOk};
+ghost use Rattle.std.specs.Prelude.{◌≡◌, ◌<◌, ◌+◌, ◌^◌, [], ◌∷◌, length, IfOk};
 ghost use Rattle.parquet_plain.specs.Description.{chunk_bytes, page_bytes};
-ghost use Rattle.parquet_sample.specs.Parts.{AddsChunks, sample_chunk, sample_page, page_told, pages_told, starts_of, page_facts, pages_facts, chunk_facts};
-ghost use Rattle.parquet_write.specs.Told.{facts_of};
+ghost use Rattle.parquet_sample.specs.Parts.{AddsChunks, sample_chunk, sample_page, page_facts, pages_facts, chunk_facts};
 
 use crate::column::{SampleColumn, page_rows};
 use crate::ends::{null_count, stored_ends};

@@ -2,11 +2,9 @@
 
 ghost use Rattle.std.specs.Prelude.{◌≡◌, ◌<◌, ◌+◌, ◌^◌, IfOk};
 ghost use Rattle.compact_write.specs.Calls.{Writes};
-ghost use Rattle.parquet_plain.specs.Bodies.{present};
-ghost use Rattle.parquet_plain.specs.Columns.{end_bytes, ends_of, nulls_of};
-ghost use Rattle.parquet_sample.specs.Ends.{end_item, end_octets, row_ends};
-ghost use Rattle.parquet_sample.specs.Sample.{name_text};
-ghost use Rattle.parquet_sample.specs.Writing.{items_from, written_of};
+ghost use Rattle.parquet_plain.specs.Columns.{nulls_of};
+ghost use Rattle.parquet_sample.specs.Ends.{end_octets, row_ends};
+ghost use Rattle.parquet_sample.specs.Writing.{items_from};
 ghost use Rattle.parquet_sample.specs.declared.column.SampleColumn.TheVariants.{Qty};
 
 use crate::column::SampleColumn;

@@ -1,8 +1,8 @@
 //! Groups of chunks.
 
-ghost use Rattle.std.specs.Prelude.{◌≡◌, ◌≤◌, ◌<◌, ◌+◌, ◌^◌, IfOk};
+ghost use Rattle.std.specs.Prelude.{◌≡◌, ◌<◌, ◌+◌, ◌^◌, IfOk};
 ghost use Rattle.parquet_plain.specs.File.{chunks_of};
-ghost use Rattle.parquet_sample.specs.Parts.{AddsChunks, group_facts, sample_group, groups_facts, sample_groups, starts_of, sample_facts};
+ghost use Rattle.parquet_sample.specs.Parts.{AddsChunks, group_facts, sample_group, sample_groups, starts_of, sample_facts};
 
 use crate::chunk::write_chunk;
 use crate::column::SampleColumn;
@@ -24,7 +24,7 @@ fn write_group(
     requires few { rows < 2 ^ 31 }
     requires fits { first + rows < 2 ^ 63 }
     ensures adds { IfOk result (λ _. AddsChunks parts.old parts.new (sample_group first rows).chunks) }
-    ensures told { IfOk result (λ group. group ≡ group_facts (starts_of parts.old) (sample_group first rows)) }
+    ensures told { IfOk result (λ told. told ≡ group_facts (starts_of parts.old) (sample_group first rows)) }
 {
     let id = write_chunk(alloc, parts, SampleColumn::Id, first, rows)?;
     let qty = write_chunk(alloc, parts, SampleColumn::Qty, first, rows)?;

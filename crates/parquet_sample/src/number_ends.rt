@@ -2,9 +2,9 @@
 
 ghost use Rattle.std.specs.Prelude.{◌≡◌, ◌<◌, ◌+◌, ◌^◌, [], ◌∷◌, pos, None};
 ghost use Rattle.parquet_plain.specs.Bodies.{present};
-ghost use Rattle.parquet_sample.specs.Ends.{bounds_after, bounds_at, number_bounds, numbers_after, names_after, row_bounds};
+ghost use Rattle.parquet_sample.specs.Ends.{bounds_at, numbers_after, names_after, row_bounds};
 ghost use Rattle.parquet_sample.specs.Sample.{name_text, qty_item, texts_at_most};
-ghost use Rattle.parquet_sample.specs.Writing.{items_from, written_of};
+ghost use Rattle.parquet_sample.specs.Writing.{items_from};
 ghost use Rattle.parquet_sample.specs.declared.column.SampleColumn.TheVariants.{Id, Qty, Name};
 ghost use Rattle.parquet_page.specs.Stored.{Number, Octets};
 
@@ -20,7 +20,7 @@ pub(crate) struct NumberEnds {
 
 /// One number more.
 fn with_number(ends: Option<NumberEnds>, number: u64) -> Option<NumberEnds>
-    ensures { number_bounds result ≡ numbers_after (number_bounds ends) (Number (pos number) ∷ []) }
+    ensures { bounds_at Id result ≡ numbers_after (bounds_at Id ends) (Number (pos number) ∷ []) }
 {
     match ends {
         None => Some(NumberEnds {
@@ -36,7 +36,7 @@ fn with_number(ends: Option<NumberEnds>, number: u64) -> Option<NumberEnds>
 
 /// The quantity of one row more, where there is one.
 fn with_qty(ends: Option<NumberEnds>, n: u64) -> Option<NumberEnds>
-    ensures { number_bounds result ≡ numbers_after (number_bounds ends) (present (qty_item n ∷ [])) }
+    ensures { bounds_at Qty result ≡ numbers_after (bounds_at Qty ends) (present (qty_item n ∷ [])) }
 {
     if n % 5 == 0 {
         return ends;
@@ -46,7 +46,7 @@ fn with_qty(ends: Option<NumberEnds>, n: u64) -> Option<NumberEnds>
 
 fn id_ends(first: u64, rows: u32) -> Option<NumberEnds>
     requires fits { first + rows < 2 ^ 63 }
-    ensures { number_bounds result ≡ numbers_after None (present (items_from Id first rows)) }
+    ensures { bounds_at Id result ≡ numbers_after None (present (items_from Id first rows)) }
 {
     let mut ends = None;
     for n in first..first + u64::from(rows) {
@@ -57,7 +57,7 @@ fn id_ends(first: u64, rows: u32) -> Option<NumberEnds>
 
 fn qty_ends(first: u64, rows: u32) -> Option<NumberEnds>
     requires fits { first + rows < 2 ^ 63 }
-    ensures { number_bounds result ≡ numbers_after None (present (items_from Qty first rows)) }
+    ensures { bounds_at Qty result ≡ numbers_after None (present (items_from Qty first rows)) }
 {
     let mut ends = None;
     for n in first..first + u64::from(rows) {

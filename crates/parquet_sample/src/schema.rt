@@ -1,6 +1,6 @@
 //! The columns as a schema tells them.
 
-ghost use Rattle.std.specs.Prelude.{◌≡◌, [], ◌∷◌, map, IfOk};
+ghost use Rattle.std.specs.Prelude.{◌≡◌, IfOk};
 ghost use Rattle.parquet_plain.specs.Description.{descriptor_of};
 ghost use Rattle.parquet_sample.specs.Parts.{sample_descriptors};
 ghost use Rattle.parquet_sample.specs.Writing.{written_of};
