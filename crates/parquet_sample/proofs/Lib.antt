@@ -1,1 +1,9 @@
 mod Examples
+pub mod RangeLemmas
+pub mod LevelLemmas
+pub mod ItemLemmas
+pub mod BoundLemmas
+pub mod NullLemmas
+pub mod PageLemmas
+pub mod GroupLemmas
+pub mod FileLemmas

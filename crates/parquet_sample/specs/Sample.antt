@@ -78,6 +78,10 @@ rows_of_numbers numbers = record { count = length numbers; items = map id_item n
 abbrev pub group_rows : ℕ
 group_rows = 20000
 
+-- the largest sample
+abbrev pub most_rows : ℕ
+most_rows = 2000000
+
 -- row and seed are added
 unfoldable pub sample : ℕ → ℕ → List ℕ
 sample rows seed = plain_file (written_file sample_columns (map rows_of_numbers (cut (Some group_rows) (range_with_len seed rows))))
