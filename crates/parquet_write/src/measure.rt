@@ -1,7 +1,7 @@
 //! Places and lengths: numbers below 2^63, as the format stores them. No vector is longer, so one above them counts
 //! as want of memory.
 
-ghost use Rattle.std.specs.Prelude.{◌≡◌, ◌<◌, ◌≤◌, ◌+◌, IfOk};
+ghost use Rattle.std.specs.Prelude.{◌≡◌, ◌<◌, ◌≤◌, ◌+◌, ◌^◌, IfOk, OnOk};
 ghost use Rattle.compact_write.specs.Calls.{Writes};
 ghost use Rattle.compact_write.specs.Written.{count_field_bytes, i64_kind, most_step};
 
@@ -30,9 +30,13 @@ pub fn sum(first: u64, second: u64) -> Result<u64, AllocError>
     first.checked_add(second).ok_or(AllocError)
 }
 
-/// A length that a header of 32 bits can tell.
+/// A length or count that a signed field of 32 bits can tell. One above it counts as want of memory.
 pub fn to_measure(length: usize) -> Result<u32, AllocError>
-    ensures { IfOk result (λ n. n ≡ length) }
+    ensures same { IfOk result (λ n. n ≡ length) }
+    ensures few { OnOk result (length < 2 ^ 31) }
 {
-    u32::try_from(length).map_err(|_| AllocError)
+    if length > i32::MAX as usize {
+        return Err(AllocError);
+    }
+    Ok(length as u32)
 }

@@ -1,6 +1,6 @@
 //! A page with its header.
 
-ghost use Rattle.std.specs.Prelude.{◌++◌, length};
+ghost use Rattle.std.specs.Prelude.{◌++◌, ◌<◌, ◌^◌, length, OnOk};
 ghost use Rattle.compact_write.specs.Calls.{Writes};
 ghost use Rattle.parquet_plain.specs.Structs.{page_header_bytes};
 
@@ -25,11 +25,13 @@ fn write_page_header(out: &mut Vec<u8>, rows: u32, size: u32) -> Result<(), Allo
     Ok(())
 }
 
-/// The body stands as it is behind a header with its length.
+/// The body stands as it is behind a header with its length. A page has fewer than 2^31 rows and bytes, as its readers ask for; more cannot be told
+/// and count as want of memory.
 pub fn write_page(out: &mut Vec<u8>, rows: u32, body: &[u8]) -> Result<(), AllocError>
     ensures written { Writes (page_header_bytes rows (length body.now) ++ body.now) out.old result out.new }
+    ensures few { OnOk result ((rows < 2 ^ 31) × (length body.now < 2 ^ 31)) }
 {
-    write_page_header(out, rows, to_measure(body.len())?)?;
+    write_page_header(out, to_measure(rows as usize)?, to_measure(body.len())?)?;
     out.extend_from_slice(body)?;
     Ok(())
 }

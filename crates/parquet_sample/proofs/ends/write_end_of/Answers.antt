@@ -16,6 +16,6 @@ returns-in_ok-extend_from_slice-in-Id c = record {
 pub returns-in_ok-extend_from_slice-in-Qty : goal.returns-in_ok-extend_from_slice-in-Qty
 returns-in_ok-extend_from_slice-in-Qty c = record {
   written = (c.in_ok-extend_from_slice-in-Qty).ensures.items
-      ∙ ap (λ (bs : List ℕ). c.args.bytes.now.items ++ bs) ((c.to_le_bytes-in-Qty).ensures ∙ ap (to_le_bytes w32) (c.in_ok-to_measure-in-Qty).ensures ∙ sym (four-bytes c.args.number))
+      ∙ ap (λ (bs : List ℕ). c.args.bytes.now.items ++ bs) ((c.to_le_bytes-in-Qty).ensures ∙ ap (to_le_bytes w32) (c.in_ok-to_measure-in-Qty).ensures.same ∙ sym (four-bytes c.args.number))
       ∙ ap (λ (column : SampleColumn). c.args.bytes.now.items ++ end_bytes (written_of column).column.type.physical_type (end_item column c.args.number)) (sym c.in-Qty.is);
 }

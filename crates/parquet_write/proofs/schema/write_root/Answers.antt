@@ -10,7 +10,7 @@ returns c = record {
     c.in_ok-write_count_field.ensures.written,
     c.in_ok-write_binary.ensures.written,
     c.in_ok-write_field_header.ensures.written,
-    c.in_ok-to_measure.ensures,
+    c.in_ok-to_measure.ensures.same,
   )
       (simp append_assoc);
 }
