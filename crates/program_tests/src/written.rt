@@ -80,18 +80,24 @@ impl FileBuilder {
     }
 
     /// The whole file.
-    pub(crate) fn finish(mut self) -> Result<Vec<u8>, AllocError> {
-        let footer = self.file.bytes.len();
-        self.file.schema(self.column)?;
-        self.file.long(1, self.rows)?;
-        self.file.list(1, self.count, STRUCT)?;
-        self.file.raw(&self.groups.bytes)?;
-        self.file.end()?;
-        let size = self.file.bytes.len().saturating_sub(footer);
-        self.file
-            .raw(&[(size % 256) as u8, (size / 256 % 256) as u8, 0, 0])?;
-        self.file.raw(MAGIC)?;
-        Ok(self.file.bytes)
+    pub(crate) fn finish(self) -> Result<Vec<u8>, AllocError> {
+        let FileBuilder {
+            column,
+            mut file,
+            groups,
+            count,
+            rows,
+        } = self;
+        let footer = file.bytes.len();
+        file.schema(column)?;
+        file.long(1, rows)?;
+        file.list(1, count, STRUCT)?;
+        file.raw(&groups.bytes)?;
+        file.end()?;
+        let size = file.bytes.len().saturating_sub(footer);
+        file.raw(&[(size % 256) as u8, (size / 256 % 256) as u8, 0, 0])?;
+        file.raw(MAGIC)?;
+        Ok(file.into_bytes())
     }
 
     /// How many bytes a value takes.
@@ -146,6 +152,10 @@ impl Written {
         Written {
             bytes: Vec::new(alloc),
         }
+    }
+
+    fn into_bytes(self) -> Vec<u8> {
+        self.bytes
     }
 
     /// Bytes as they are.
