@@ -519,7 +519,12 @@ fn parts_that_refusals_name(rt: HostRuntime) -> Result<(), Fail> {
         refusal_of(alloc, required, chunk),
         Some(Error::OutOfSpec(Part::Dictionary))
     );
-    // A located page that ends a byte early.
+    Ok(())
+}
+
+#[test]
+fn a_located_page_that_ends_early_is_refused_by_its_location(rt: HostRuntime) -> Result<(), Fail> {
+    let alloc = rt.alloc();
     let chunk = page(
         alloc,
         4,
@@ -530,7 +535,7 @@ fn parts_that_refusals_name(rt: HostRuntime) -> Result<(), Fail> {
     let pages = located_pages(
         alloc,
         PhysicalType::Int32,
-        required,
+        Repetition::Required,
         chunk,
         &[located(0, 32, 0)],
         Interval::new(0, 4),
