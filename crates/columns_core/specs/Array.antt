@@ -2,10 +2,11 @@
 use Rattle.std.specs.Prelude.{ℕ, pos, List, map, replicate, Option}
 use Rattle.columns_core.specs.declared.data_type.DataType.{DataType}
 use Rattle.columns_core.specs.declared.data_type.DataType as type
-use Rattle.columns_core.specs.declared.cell.Cell.{Cell, Null, Bool, Int, Text, Bytes}
+use Rattle.columns_core.specs.declared.cell.Cell.{Cell, Null, Bool, Int, Text, Bytes, Cells}
 use Rattle.columns_core.specs.declared.array.Array.{Array}
 use Rattle.columns_core.specs.declared.array.Array.TheVariants as array
 use Rattle.columns_core.specs.Column.{cell_of}
+use Rattle.columns_core.specs.Keyed.{named_cells}
 use Rattle.columns_core.specs.ElementType.{days_ms_cell}
 
 abbrev natural : Option ℕ → Cell
@@ -30,6 +31,9 @@ data_type_of (array.Binary column) = column.data_type
 data_type_of (array.LargeBinary column) = column.data_type
 data_type_of (array.FixedSizeBinary column) = column.data_type
 data_type_of (array.Dictionary column) = column.data_type
+data_type_of (array.List column) = column.data_type
+data_type_of (array.Struct column) = column.data_type
+data_type_of (array.Map column) = column.data_type
 
 abbrev pub cells : Array → List Cell
 cells (array.Null count) = replicate count Null
@@ -49,7 +53,10 @@ cells (array.LargeUtf8 column) = map (cell_of Text) column.items
 cells (array.Binary column) = map (cell_of Bytes) column.items
 cells (array.LargeBinary column) = map (cell_of Bytes) column.items
 cells (array.FixedSizeBinary column) = map (cell_of Bytes) column.items
-cells (array.Dictionary column) = map (cell_of (λ cell. cell)) column.items
+cells (array.Dictionary column) = named_cells column
+cells (array.List column) = map (cell_of Cells) column.items
+cells (array.Struct column) = map (cell_of Cells) column.items
+cells (array.Map column) = map (cell_of Cells) column.items
 
 -- what a contract sees of an array
 abbrev pub column_of : Array → DataType × List Cell

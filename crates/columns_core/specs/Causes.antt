@@ -1,5 +1,5 @@
 -- What an error tells of: the request, the file, the source or the memory.
-use Rattle.std.specs.Prelude.{◌≡◌, ◌⊎◌, ℕ, Bool, true, false, List, [], ◌∷◌, if◌then◌else◌, Contains, Option, Some, None, Result, IfErr}
+use Rattle.std.specs.Prelude.{◌≡◌, ◌⊎◌, ℕ, Bool, true, false, List, [], ◌∷◌, if◌then◌else◌, Contains, Option, Some, None, Result, IfErr, IsTrue}
 use Rattle.columns_core.specs.declared.error.Error.{Error}
 use Rattle.columns_core.specs.declared.error.Error.TheVariants as error
 
@@ -35,6 +35,10 @@ IsWantOfMemory e = e ≡ error.OutOfMemory
 abbrev pub is_invalid_argument : Error → Bool
 is_invalid_argument (error.InvalidArgumentError part) = true
 is_invalid_argument _ = false
+
+-- they were, and they do not fit
+abbrev pub IsMisfit : Type 0 → Error → Type 0
+IsMisfit Fits error = IsTrue (is_invalid_argument error) × (Fits → ⊥)
 
 abbrev pub is_empty : List Cause → Bool
 is_empty [] = true

@@ -35,3 +35,7 @@ FitsMask values mask = ForSome mask (λ found. length found ≡ length values)
 abbrev pub cell_of : {T : Type 0} → (T → Cell) → Option T → Cell
 cell_of cell None = Null
 cell_of cell (Some value) = cell value
+
+-- of this type and these items
+abbrev pub as_column : {T : Type 0} → DataType → List (Option T) → Column T
+as_column data_type items = record { data_type = data_type; items = items }

@@ -1,5 +1,5 @@
 -- A dictionary's cells are the entries that its keys name.
-use Rattle.std.specs.Prelude.{◌-◌, ◌^◌, ℕ, ℤ, pos, negsuc, List, map, slice_get, All, Option, None, option_and_then, IsSome}
+use Rattle.std.specs.Prelude.{◌-◌, ◌^◌, ℕ, ℤ, pos, negsuc, List, map, slice_get, All, Option, None, option_map, option_and_then, IsSome}
 use Rattle.std.specs.Option.{ForSome}
 use Rattle.columns_core.specs.declared.cell.Cell.{Cell}
 
@@ -20,3 +20,7 @@ NameEntries number entries keys = All (λ key. ForSome key (λ k. IsSome (entry_
 abbrev pub place_of : ℤ → ℕ
 place_of (pos key) = key
 place_of (negsuc key) = 2 ^ 64 - 1
+
+-- keys as numbers of 64 bits
+abbrev pub key_places : {K : Type 0} → (K → ℤ) → List (Option K) → List (Option ℕ)
+key_places number keys = map (option_map (λ key. place_of (number key))) keys

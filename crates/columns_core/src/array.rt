@@ -1,14 +1,15 @@
-ghost use Rattle.std.specs.Prelude.{◌≡◌, ◌<◌, length, slice_get, map, Some, IfOk, IfErr};
+ghost use Rattle.std.specs.Prelude.{◌≡◌, ◌<◌, ◌≤◌, length, slice_get, map, Some, IfOk, IfErr};
 ghost use Rattle.columns_core.specs.Array.{data_type_of, cells};
 ghost use Rattle.columns_core.specs.Causes.{IsWantOfMemory};
 ghost use Rattle.columns_core.specs.Column.{cell_of};
-ghost use Rattle.columns_core.specs.Lent.{cell_lent};
+ghost use Rattle.columns_core.specs.Depth.{depth};
+ghost use Rattle.columns_core.specs.Lent.{cell_lent, IsThere, lent_depth};
 ghost use Rattle.columns_core.specs.declared.cell.Cell.{Bool, Bytes, Text};
 
 use crate::lent::{Lends, Lent};
 use crate::{
     BinaryArray, BooleanArray, Cell, DataType, DictionaryArray, Error, FixedSizeBinaryArray,
-    NullArray, Offset, PrimitiveArray, Utf8Array, days_ms,
+    ListArray, MapArray, NullArray, Offset, PrimitiveArray, StructArray, Utf8Array, days_ms,
 };
 use std::alloc::Global;
 
@@ -34,6 +35,9 @@ pub enum Array {
     LargeBinary(BinaryArray<i64>),
     FixedSizeBinary(FixedSizeBinaryArray),
     Dictionary(DictionaryArray),
+    List(ListArray),
+    Struct(StructArray),
+    Map(MapArray),
 }
 
 impl Array {
@@ -59,6 +63,9 @@ impl Array {
             Array::LargeBinary(array) => array.len(),
             Array::FixedSizeBinary(array) => array.len(),
             Array::Dictionary(array) => array.len(),
+            Array::List(array) => array.len(),
+            Array::Struct(array) => array.len(),
+            Array::Map(array) => array.len(),
         }
     }
 
@@ -84,6 +91,9 @@ impl Array {
             Array::LargeBinary(array) => array.data_type(),
             Array::FixedSizeBinary(array) => array.data_type(),
             Array::Dictionary(array) => array.data_type(),
+            Array::List(array) => array.data_type(),
+            Array::Struct(array) => array.data_type(),
+            Array::Map(array) => array.data_type(),
         }
     }
 
@@ -100,7 +110,9 @@ impl Array {
     #[cycle(lent)]
     pub(crate) fn lent(&self, i: usize) -> Lent<'_>
         requires { i < length (cells self.now) }
-        ensures { slice_get (cells self.now) i ≡ Some (cell_lent result) }
+        ensures cell { slice_get (cells self.now) i ≡ Some (cell_lent result) }
+        ensures there { IsThere result }
+        ensures shallow { lent_depth result ≤ depth (data_type_of self.now) }
     {
         match self {
             Array::Null(_) => Lent::Null,
@@ -121,6 +133,9 @@ impl Array {
             Array::LargeBinary(array) => lent_string(array, i),
             Array::FixedSizeBinary(array) => lent_bytes(array, i),
             Array::Dictionary(array) => array.lent(i),
+            Array::List(array) => array.lent(i),
+            Array::Struct(array) => array.lent(i),
+            Array::Map(array) => array.lent(i),
         }
     }
 
@@ -148,13 +163,18 @@ impl Array {
             Array::LargeBinary(array) => Array::LargeBinary(array.try_clone(alloc)?),
             Array::FixedSizeBinary(array) => Array::FixedSizeBinary(array.try_clone(alloc)?),
             Array::Dictionary(array) => Array::Dictionary(array.try_clone(alloc)?),
+            Array::List(array) => Array::List(array.try_clone(alloc)?),
+            Array::Struct(array) => Array::Struct(array.try_clone(alloc)?),
+            Array::Map(array) => Array::Map(array.try_clone(alloc)?),
         })
     }
 }
 
 pub(crate) fn lent_truth(array: &BooleanArray, i: usize) -> Lent<'_>
     requires { i < length array.now.items }
-    ensures { slice_get (map (cell_of Bool) array.now.items) i ≡ Some (cell_lent result) }
+    ensures cell { slice_get (map (cell_of Bool) array.now.items) i ≡ Some (cell_lent result) }
+    ensures there { IsThere result }
+    ensures flat { lent_depth result ≡ 0 }
 {
     match array.get(i) {
         None => Lent::Null,
@@ -164,7 +184,9 @@ pub(crate) fn lent_truth(array: &BooleanArray, i: usize) -> Lent<'_>
 
 pub(crate) fn lent_number<T: Lends>(array: &PrimitiveArray<T>, i: usize) -> Lent<'_>
     requires { i < length array.now.items }
-    ensures { slice_get (map (cell_of T.cell) array.now.items) i ≡ Some (cell_lent result) }
+    ensures cell { slice_get (map (cell_of T.cell) array.now.items) i ≡ Some (cell_lent result) }
+    ensures there { IsThere result }
+    ensures flat { lent_depth result ≡ 0 }
 {
     match array.get(i) {
         None => Lent::Null,
@@ -174,7 +196,9 @@ pub(crate) fn lent_number<T: Lends>(array: &PrimitiveArray<T>, i: usize) -> Lent
 
 pub(crate) fn lent_text<O: Offset>(array: &Utf8Array<O>, i: usize) -> Lent<'_>
     requires { i < length array.now.items }
-    ensures { slice_get (map (cell_of Text) array.now.items) i ≡ Some (cell_lent result) }
+    ensures cell { slice_get (map (cell_of Text) array.now.items) i ≡ Some (cell_lent result) }
+    ensures there { IsThere result }
+    ensures flat { lent_depth result ≡ 0 }
 {
     match array.get(i) {
         None => Lent::Null,
@@ -184,7 +208,9 @@ pub(crate) fn lent_text<O: Offset>(array: &Utf8Array<O>, i: usize) -> Lent<'_>
 
 pub(crate) fn lent_string<O: Offset>(array: &BinaryArray<O>, i: usize) -> Lent<'_>
     requires { i < length array.now.items }
-    ensures { slice_get (map (cell_of Bytes) array.now.items) i ≡ Some (cell_lent result) }
+    ensures cell { slice_get (map (cell_of Bytes) array.now.items) i ≡ Some (cell_lent result) }
+    ensures there { IsThere result }
+    ensures flat { lent_depth result ≡ 0 }
 {
     match array.get(i) {
         None => Lent::Null,
@@ -194,7 +220,9 @@ pub(crate) fn lent_string<O: Offset>(array: &BinaryArray<O>, i: usize) -> Lent<'
 
 pub(crate) fn lent_bytes(array: &FixedSizeBinaryArray, i: usize) -> Lent<'_>
     requires { i < length array.now.items }
-    ensures { slice_get (map (cell_of Bytes) array.now.items) i ≡ Some (cell_lent result) }
+    ensures cell { slice_get (map (cell_of Bytes) array.now.items) i ≡ Some (cell_lent result) }
+    ensures there { IsThere result }
+    ensures flat { lent_depth result ≡ 0 }
 {
     match array.get(i) {
         None => Lent::Null,

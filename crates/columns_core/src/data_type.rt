@@ -1,6 +1,5 @@
 //! The types of columns.
-use crate::{Name, Seq};
-use sqlite_items::Boxed;
+use crate::{Boxed, Name, Seq};
 
 #[derive(Clone, Copy, Debug, PartialEq, Eq)]
 pub enum TimeUnit {

@@ -1,20 +1,24 @@
 //! Arrays of keys into entries.
-ghost use Rattle.std.specs.Prelude.{◌≡◌, ◌<◌, ◌↔◌, ◌⊎◌, IsTrue, IfOk, IfErr, Some, length, slice_get, map, option_map, All};
+ghost use Rattle.std.specs.Prelude.{◌≡◌, ◌<◌, ◌≤◌, ◌↔◌, ◌⊎◌, IsTrue, IfOk, IfErr, Some, length, slice_get, map, option_map, All, pos};
 ghost use Rattle.std.specs.Option.{ForSome};
-ghost use Rattle.columns_core.specs.Causes.{IsWantOfMemory, is_invalid_argument, cause_of, OutOfSpec};
+ghost use Rattle.columns_core.specs.Causes.{IsWantOfMemory, IsMisfit, cause_of, OutOfSpec};
 ghost use Rattle.columns_core.specs.Array.{cells, data_type_of};
-ghost use Rattle.columns_core.specs.Column.{cell_of};
-ghost use Rattle.columns_core.specs.DictionaryType.{IsDictionaryOf};
-ghost use Rattle.columns_core.specs.Lent.{cell_lent};
-ghost use Rattle.columns_core.specs.Entries.{entries_named, NameEntries, place_of};
+ghost use Rattle.columns_core.specs.Column.{masked, FitsMask};
+ghost use Rattle.columns_core.specs.Depth.{depth};
+ghost use Rattle.columns_core.specs.Keyed.{named_cells, keyed_cells, keyed_column};
+ghost use Rattle.columns_core.specs.DictionaryType.{IsDictionaryOf, entry_type};
+ghost use Rattle.columns_core.specs.Entries.{NameEntries, key_places, place_of};
+ghost use Rattle.columns_core.specs.Lent.{cell_lent, IsThere, lent_depth};
 
 use crate::equal::is_same_type;
 use crate::lent::Lent;
-use crate::{Array, Boxed, DataType, DictionaryKey, Error, IntegerType, Part, PrimitiveArray};
+use crate::{
+    Array, Bitmap, Boxed, DataType, DictionaryKey, Error, IntegerType, Part, PrimitiveArray,
+};
 use std::alloc::Global;
 use std::marker::Model;
 
-/// Keys into entries, as numbers of 64 bits whatever the type of keys. Contracts see the entries that the keys name.
+/// Keys into entries, as numbers of 64 bits whatever the type of keys.
 #[cycle(array)]
 #[derive(Drop)]
 pub struct DictionaryArray {
@@ -24,25 +28,25 @@ pub struct DictionaryArray {
 }
 
 impl Model for DictionaryArray {
-    ghost use Rattle.columns_core.specs.Column.{Column, column_code};
-    ghost use Rattle.columns_core.specs.declared.cell.Cell.{Cell as CellValue};
+    ghost use Rattle.columns_core.specs.Keyed.{KeyedColumn, keyed_code};
     ghost use Rattle.columns_core.specs.contracts.cell.Cell.{the_row as cell_row};
     ghost use Rattle.columns_core.specs.contracts.data_type.DataType.{the_row as data_type_row};
 
-    ghost Value = { Column CellValue };
+    ghost Value = { KeyedColumn };
 
-    ghost coded = { column_code data_type_row.coded cell_row.coded };
+    ghost coded = { keyed_code data_type_row.coded cell_row.coded };
 
-    ghost use Rattle.std.specs.Prelude.{◌≡◌, Some, pos};
+    ghost use Rattle.std.specs.Prelude.{◌≡◌, ◌*◌, Some, pos};
     ghost use Rattle.columns_core.specs.Array.{cells, data_type_of};
-    ghost use Rattle.columns_core.specs.Entries.{entries_named, NameEntries};
-    ghost use Rattle.columns_core.specs.DictionaryType.{entry_type, depth};
+    ghost use Rattle.columns_core.specs.Entries.{NameEntries};
+    ghost use Rattle.columns_core.specs.Depth.{depth};
+    ghost use Rattle.columns_core.specs.DictionaryType.{entry_type};
 
-    ghost view = { λ array. record { data_type = array.data_type; items = entries_named pos (cells array.entries) array.keys.items } };
+    ghost view = { λ array. record { data_type = array.data_type; keys = array.keys.items; entries = cells array.entries } };
 
     ghost invariant = { λ array. (entry_type array.data_type ≡ Some (data_type_of array.entries)) × NameEntries pos (cells array.entries) array.keys.items };
 
-    ghost size = { λ column. depth column.data_type };
+    ghost size = { λ dictionary. 2 * depth dictionary.data_type };
 
     ghost use Rattle.columns_core.specs.LessDeep.{entries_are_less_deep};
 
@@ -57,20 +61,39 @@ impl DictionaryArray {
     }
 
     pub fn len(&self) -> usize
-        ensures { result ≡ length self.now.items }
+        ensures { result ≡ length self.now.keys }
     {
         self.keys.len()
+    }
+
+    /// The entries, whether a key names them or not.
+    pub fn values(&self) -> &Array
+        ensures entries { cells result.now ≡ self.now.entries }
+        ensures data_type { entry_type self.now.data_type ≡ Some (data_type_of result.now) }
+    {
+        self.entries.get()
+    }
+
+    /// The key at a place, if it is there: the place of an entry.
+    pub fn key(&self, i: usize) -> Option<u64>
+        requires { i < length self.now.keys }
+        ensures key { slice_get self.now.keys i ≡ Some result }
+        ensures within { ForSome result (λ key. key < length self.now.entries) }
+    {
+        self.keys.get(i)
     }
 
     /// The entry of the key at a place, read where it lies.
     #[cycle(lent)]
     pub(crate) fn lent(&self, i: usize) -> Lent<'_>
-        requires { i < length self.now.items }
-        ensures { slice_get (map (cell_of (λ cell. cell)) self.now.items) i ≡ Some (cell_lent result) }
+        requires { i < length self.now.keys }
+        ensures cell { slice_get (named_cells self.now) i ≡ Some (cell_lent result) }
+        ensures there { IsThere result }
+        ensures shallow { lent_depth result ≤ depth self.now.data_type }
     {
-        match self.keys.get(i) {
+        match self.key(i) {
             None => Lent::Null,
-            Some(key) => self.entries.get().lent(key as usize),
+            Some(key) => self.values().lent(key as usize),
         }
     }
 
@@ -88,16 +111,22 @@ impl DictionaryArray {
 }
 
 impl DictionaryArray {
-    /// The array of the entries that these keys name. The keys become numbers of 64 bits, whatever their type.
+    /// The array of these keys and entries. The keys become numbers of 64 bits, whatever their type.
     pub fn try_new<K: DictionaryKey>(
         alloc: Global,
         data_type: DataType,
         keys: PrimitiveArray<K>,
         values: Array,
     ) -> Result<Self, Error>
-        ensures array { IfOk result (λ array. array ≡ record { data_type = data_type; items = entries_named K.number (cells values) keys.items }) }
-        ensures ok { IfOk result (λ _. IsDictionaryOf K.key_type (data_type_of values) data_type × NameEntries K.number (cells values) keys.items) }
-        ensures err { IfErr result (λ e. IsWantOfMemory e ⊎ IsTrue (is_invalid_argument e) × (IsDictionaryOf K.key_type (data_type_of values) data_type → ⊥) ⊎ (cause_of e ≡ Some OutOfSpec) × (NameEntries K.number (cells values) keys.items → ⊥)) }
+        ensures array { IfOk result (λ array. array
+            ≡ keyed_column K.number data_type keys.items (cells values)) }
+        ensures cells { IfOk result (λ array. named_cells array
+            ≡ keyed_cells K.number (cells values) keys.items) }
+        ensures ok { IfOk result (λ _. IsDictionaryOf K.key_type (data_type_of values) data_type
+            × NameEntries K.number (cells values) keys.items) }
+        ensures err { IfErr result (λ e. IsWantOfMemory e
+            ⊎ IsMisfit (IsDictionaryOf K.key_type (data_type_of values) data_type) e
+            ⊎ (cause_of e ≡ Some OutOfSpec) × (NameEntries K.number (cells values) keys.items → ⊥)) }
     {
         if !is_dictionary_of(&data_type, K::key_type(), values.data_type()) {
             return Err(Error::InvalidArgumentError(Part::Dictionary));
@@ -106,13 +135,70 @@ impl DictionaryArray {
         if !are_below(&keys, values.len()) {
             return Err(Error::OutOfSpec(Part::Dictionary));
         }
-        let entries = Boxed::new(alloc, values)?;
+        DictionaryArray::of_places(alloc, data_type, keys, values)
+    }
+
+    /// The array of these keys, each of which names an entry, and a copy of the entries: nothing is tested.
+    pub fn of_keys<K: DictionaryKey>(
+        alloc: Global,
+        data_type: &DataType,
+        keys: &[K],
+        validity: Option<Bitmap>,
+        entries: &Array,
+    ) -> Result<Self, Error>
+        requires typed { IsDictionaryOf K.key_type (data_type_of entries.now) data_type.now }
+        requires fits { FitsMask keys.now validity }
+        requires named { NameEntries K.number (cells entries.now) (masked keys.now validity) }
+        ensures array { IfOk result (λ array. array
+            ≡ keyed_column K.number data_type.now (masked keys.now validity) (cells entries.now)) }
+        ensures cells { IfOk result (λ array. named_cells array
+            ≡ keyed_cells K.number (cells entries.now) (masked keys.now validity)) }
+        ensures memory { IfErr result IsWantOfMemory }
+    {
+        let keys = masked_places(alloc, keys, validity)?;
+        copy_of_parts(alloc, data_type, keys, entries)
+    }
+
+    /// The array of keys that are numbers of 64 bits already.
+    fn of_places(
+        alloc: Global,
+        data_type: DataType,
+        keys: PrimitiveArray<u64>,
+        entries: Array,
+    ) -> Result<Self, Error>
+        requires typed { entry_type data_type ≡ Some (data_type_of entries) }
+        requires named { NameEntries pos (cells entries) keys.items }
+        ensures array { IfOk result (λ array. array
+            ≡ record { data_type = data_type; keys = keys.items; entries = cells entries }) }
+        ensures memory { IfErr result IsWantOfMemory }
+    {
+        let entries = Boxed::new(alloc, entries)?;
         Ok(DictionaryArray {
             data_type,
             keys,
             entries,
         })
     }
+}
+
+/// The array of these keys and of copies of a type and entries.
+fn copy_of_parts(
+    alloc: Global,
+    data_type: &DataType,
+    keys: PrimitiveArray<u64>,
+    entries: &Array,
+) -> Result<DictionaryArray, Error>
+    requires typed { entry_type data_type.now ≡ Some (data_type_of entries.now) }
+    requires named { NameEntries pos (cells entries.now) keys.items }
+    ensures array { IfOk result (λ array. array
+        ≡ record { data_type = data_type.now; keys = keys.items; entries = cells entries.now }) }
+    ensures memory { IfErr result IsWantOfMemory }
+{
+    Ok(DictionaryArray {
+        entries: Boxed::new(alloc, entries.try_clone(alloc)?)?,
+        keys,
+        data_type: data_type.try_clone(alloc)?,
+    })
 }
 
 /// Whether a type is a dictionary of these keys and entries.
@@ -128,16 +214,29 @@ fn is_dictionary_of(data_type: &DataType, key: IntegerType, entry: &DataType) ->
 }
 
 /// The same keys as numbers of 64 bits, under the same mask.
-#[tactic(auto, using(crate::proofs::Masked::masked_map, crate::proofs::Masked::fits_mask_map))]
 fn places_of<K: DictionaryKey>(
     alloc: Global,
     keys: PrimitiveArray<K>,
 ) -> Result<PrimitiveArray<u64>, Error>
-    ensures places { IfOk result (λ places. places.items ≡ map (option_map (λ key. place_of (K.number key))) keys.items) }
+    ensures places { IfOk result (λ places. places.items ≡ key_places K.number keys.items) }
     ensures memory { IfErr result IsWantOfMemory }
 {
     let (keys, validity) = keys.into_parts();
-    let values = all_places_of(alloc, keys.as_slice())?;
+    masked_places(alloc, keys.as_slice(), validity)
+}
+
+/// Keys as numbers of 64 bits, under a mask.
+#[tactic(auto, using(crate::proofs::Masked::masked_map, crate::proofs::Masked::fits_mask_map))]
+fn masked_places<K: DictionaryKey>(
+    alloc: Global,
+    keys: &[K],
+    validity: Option<Bitmap>,
+) -> Result<PrimitiveArray<u64>, Error>
+    requires { FitsMask keys.now validity }
+    ensures places { IfOk result (λ places. places.items ≡ key_places K.number (masked keys.now validity)) }
+    ensures memory { IfErr result IsWantOfMemory }
+{
+    let values = all_places_of(alloc, keys)?;
     Ok(PrimitiveArray {
         data_type: DataType::UInt64,
         values,

@@ -1,7 +1,7 @@
 //! Byte strings one behind another.
 ghost use Rattle.std.specs.Prelude.{◌≡◌, ◌<◌, ◌≤◌, ◌-◌, IsTrue, ◌↔◌, length, slice_get, Some, IfOk, IfErr, option_copied};
 ghost use Rattle.columns_core.specs.Causes.{IsWantOfMemory};
-ghost use Rattle.columns_core.specs.Offsets.{AreOffsets, last};
+ghost use Rattle.columns_core.specs.Offsets.{last};
 ghost use Rattle.columns_core.specs.Joined.{strings, FitTogether, AreTexts, BeginAtCharacters};
 
 use crate::mask::{copy_of_mask, is_there};
@@ -20,20 +20,18 @@ pub(crate) struct JoinedBytes<O: Offset> {
 
 impl<O: Offset> Model for JoinedBytes<O> {
     ghost use Rattle.std.specs.Prelude.{ℕ, List, Option};
-    ghost use Rattle.columns_core.specs.Offsets.{AreOffsets};
     ghost use Rattle.columns_core.specs.Joined.{strings, FitTogether};
 
     ghost Value = { List (Option (List ℕ)) };
 
     ghost view = { λ joined. strings joined.offsets joined.values.items joined.validity };
 
-    ghost invariant = { λ joined. AreOffsets joined.offsets × FitTogether joined.offsets joined.values.items joined.validity };
+    ghost invariant = { λ joined. FitTogether joined.offsets joined.values.items joined.validity };
 }
 
 impl<O: Offset> JoinedBytes<O> {
     pub(crate) fn new(offsets: Offsets<O>, values: Vec<u8>, validity: Option<Bitmap>) -> Self
-        requires shape { AreOffsets offsets }
-        requires fit { FitTogether offsets values.items validity }
+        requires { FitTogether offsets values.items validity }
         ensures { result ≡ strings offsets values.items validity }
     {
         JoinedBytes {
@@ -78,8 +76,7 @@ pub(crate) fn fit_together<O: Offset>(
     values: &[u8],
     validity: Option<&Bitmap>,
 ) -> bool
-    ensures fit { IsTrue result ↔ FitTogether offsets.now values.now (option_copied validity.entry) }
-    ensures shape { AreOffsets offsets.now }
+    ensures { IsTrue result ↔ FitTogether offsets.now values.now (option_copied validity.entry) }
 {
     if offsets.last() > values.len() {
         return false;
@@ -88,7 +85,7 @@ pub(crate) fn fit_together<O: Offset>(
 }
 
 /// Each byte string, also where it is null, is UTF-8: all of them together are, and none begins inside a character.
-pub(crate) fn are_texts<O: Offset>(offsets: &Offsets<O>, values: &[u8]) -> bool
+pub fn are_texts<O: Offset>(offsets: &Offsets<O>, values: &[u8]) -> bool
     requires { last offsets.now ≤ length values.now }
     ensures { IsTrue result ↔ AreTexts offsets.now values.now }
 {

@@ -4,7 +4,7 @@ ghost use Rattle.columns_core.specs.Causes.{IsWantOfMemory};
 ghost use Rattle.columns_core.specs.Offsets.{AreOffsets, last};
 
 use crate::Error;
-use std::alloc::Global;
+use std::alloc::{AllocError, Global};
 use std::marker::Model;
 
 /// A number that tells a place in joined bytes.
@@ -159,6 +159,7 @@ impl<O: Offset> Offsets<O> {
         requires { i < length self.now - 1 }
         ensures start { result.0 ≡ slice_index self.now i }
         ensures end { result.1 ≡ slice_index self.now (i + 1) }
+        ensures shape { AreOffsets self.now }
     {
         (self.places[i].to_usize(), self.places[i + 1].to_usize())
     }
@@ -169,6 +170,22 @@ impl<O: Offset> Offsets<O> {
         ensures shape { AreOffsets self.now }
     {
         self.places[self.places.len() - 1].to_usize()
+    }
+
+    /// The places as numbers of 64 bits.
+    pub(crate) fn to_places(&self, alloc: Global) -> Result<Vec<u64>, AllocError>
+        ensures places { IfOk result (λ places. places.items ≡ self.now) }
+        ensures shape { AreOffsets self.now }
+    {
+        self.places
+            .iter()
+            .map(|place| place.to_usize() as u64)
+            .collect(alloc)
+    }
+
+    /// Where the places have their memory from.
+    pub(crate) fn allocator(&self) -> Global {
+        *self.places.allocator()
     }
 
     pub fn try_clone(&self, alloc: Global) -> Result<Self, Error>

@@ -1,6 +1,6 @@
 //! Equality of arrays: equal type and equal cells.
 ghost use Rattle.std.specs.Prelude.{◌≡◌, ◌<◌, ◌↔◌, IsTrue, Some, length, slice_get};
-ghost use Rattle.columns_core.specs.Lent.{cell_lent};
+ghost use Rattle.columns_core.specs.Lent.{cell_lent, IsThere};
 ghost use Rattle.columns_core.specs.Shown.{Shown};
 
 use crate::array::{lent_bytes, lent_number, lent_string, lent_text, lent_truth};
@@ -8,7 +8,7 @@ use crate::equal::is_same_type;
 use crate::lent::{Lends, Lent};
 use crate::{
     Array, BinaryArray, BooleanArray, Chunk, DataType, DictionaryArray, FixedSizeBinaryArray,
-    NullArray, Offset, PrimitiveArray, Utf8Array,
+    ListArray, MapArray, NullArray, Offset, PrimitiveArray, StructArray, Utf8Array,
 };
 
 /// An array as its data type and its cells.
@@ -23,7 +23,8 @@ trait Columnar {
 
     fn cell_at(&self, i: usize) -> Lent<'_>
         requires { i < length (shown self.now).1 }
-        ensures { slice_get (shown self.now).1 i ≡ Some (cell_lent result) };
+        ensures cell { slice_get (shown self.now).1 i ≡ Some (cell_lent result) }
+        ensures there { IsThere result };
 }
 
 fn is_same_array<A: Columnar>(a: &A, b: &A) -> bool
@@ -300,9 +301,9 @@ impl PartialEq for FixedSizeBinaryArray {
 }
 
 impl Columnar for DictionaryArray {
-    ghost use Rattle.columns_core.specs.Shown.{shown_by};
+    ghost use Rattle.columns_core.specs.Shown.{shown_keyed};
 
-    ghost shown = { shown_by (λ cell. cell) };
+    ghost shown = { shown_keyed };
 
     fn type_of(&self) -> &DataType {
         self.data_type()
@@ -323,11 +324,122 @@ impl PartialEq for DictionaryArray {
     ghost use Rattle.columns_core.specs.Shown.{shown_code};
     ghost use Rattle.columns_core.specs.contracts.cell.Cell.{the_row as cell_row};
     ghost use Rattle.columns_core.specs.contracts.data_type.DataType.{the_row as data_type_row};
+    ghost use Rattle.columns_core.specs.Shown.{shown_keyed};
+
+    ghost eq = { λ a b. is_same (shown_code data_type_row.coded cell_row.coded) (shown_keyed a) (shown_keyed b) };
+
+    ghost laws = { seen_laws (shown_code data_type_row.coded cell_row.coded) (shown_keyed) };
+
+    fn eq(&self, other: &Self) -> bool {
+        is_same_array(self, other)
+    }
+}
+
+impl Columnar for ListArray {
     ghost use Rattle.columns_core.specs.Shown.{shown_by};
+    ghost use Rattle.columns_core.specs.declared.cell.Cell.{Cells};
 
-    ghost eq = { λ a b. is_same (shown_code data_type_row.coded cell_row.coded) (shown_by (λ cell. cell) a) (shown_by (λ cell. cell) b) };
+    ghost shown = { shown_by Cells };
 
-    ghost laws = { seen_laws (shown_code data_type_row.coded cell_row.coded) (shown_by (λ cell. cell)) };
+    fn type_of(&self) -> &DataType {
+        self.data_type()
+    }
+
+    fn count(&self) -> usize {
+        self.len()
+    }
+
+    fn cell_at(&self, i: usize) -> Lent<'_> {
+        self.lent(i)
+    }
+}
+
+impl PartialEq for ListArray {
+    ghost use Rattle.columns_core.specs.Equal.{is_same};
+    ghost use Rattle.columns_core.specs.Same.{seen_laws};
+    ghost use Rattle.columns_core.specs.Shown.{shown_code};
+    ghost use Rattle.columns_core.specs.contracts.cell.Cell.{the_row as cell_row};
+    ghost use Rattle.columns_core.specs.contracts.data_type.DataType.{the_row as data_type_row};
+    ghost use Rattle.columns_core.specs.Shown.{shown_by};
+    ghost use Rattle.columns_core.specs.declared.cell.Cell.{Cells};
+
+    ghost eq = { λ a b. is_same (shown_code data_type_row.coded cell_row.coded) (shown_by Cells a) (shown_by Cells b) };
+
+    ghost laws = { seen_laws (shown_code data_type_row.coded cell_row.coded) (shown_by Cells) };
+
+    fn eq(&self, other: &Self) -> bool {
+        is_same_array(self, other)
+    }
+}
+
+impl Columnar for StructArray {
+    ghost use Rattle.columns_core.specs.Shown.{shown_by};
+    ghost use Rattle.columns_core.specs.declared.cell.Cell.{Cells};
+
+    ghost shown = { shown_by Cells };
+
+    fn type_of(&self) -> &DataType {
+        self.data_type()
+    }
+
+    fn count(&self) -> usize {
+        self.len()
+    }
+
+    fn cell_at(&self, i: usize) -> Lent<'_> {
+        self.lent(i)
+    }
+}
+
+impl PartialEq for StructArray {
+    ghost use Rattle.columns_core.specs.Equal.{is_same};
+    ghost use Rattle.columns_core.specs.Same.{seen_laws};
+    ghost use Rattle.columns_core.specs.Shown.{shown_code};
+    ghost use Rattle.columns_core.specs.contracts.cell.Cell.{the_row as cell_row};
+    ghost use Rattle.columns_core.specs.contracts.data_type.DataType.{the_row as data_type_row};
+    ghost use Rattle.columns_core.specs.Shown.{shown_by};
+    ghost use Rattle.columns_core.specs.declared.cell.Cell.{Cells};
+
+    ghost eq = { λ a b. is_same (shown_code data_type_row.coded cell_row.coded) (shown_by Cells a) (shown_by Cells b) };
+
+    ghost laws = { seen_laws (shown_code data_type_row.coded cell_row.coded) (shown_by Cells) };
+
+    fn eq(&self, other: &Self) -> bool {
+        is_same_array(self, other)
+    }
+}
+
+impl Columnar for MapArray {
+    ghost use Rattle.columns_core.specs.Shown.{shown_by};
+    ghost use Rattle.columns_core.specs.declared.cell.Cell.{Cells};
+
+    ghost shown = { shown_by Cells };
+
+    fn type_of(&self) -> &DataType {
+        self.data_type()
+    }
+
+    fn count(&self) -> usize {
+        self.len()
+    }
+
+    fn cell_at(&self, i: usize) -> Lent<'_> {
+        self.lent(i)
+    }
+}
+
+impl PartialEq for MapArray {
+    ghost use Rattle.columns_core.specs.Equal.{is_same};
+    ghost use Rattle.columns_core.specs.Same.{seen_laws};
+    ghost use Rattle.columns_core.specs.Shown.{shown_code};
+    ghost use Rattle.columns_core.specs.contracts.cell.Cell.{the_row as cell_row};
+    ghost use Rattle.columns_core.specs.contracts.data_type.DataType.{the_row as data_type_row};
+    ghost use Rattle.columns_core.specs.Shown.{shown_by};
+    ghost use Rattle.columns_core.specs.declared.cell.Cell.{Cells};
+
+    ghost eq = { λ a b. is_same (shown_code data_type_row.coded cell_row.coded) (shown_by Cells a) (shown_by Cells b) };
+
+    ghost laws = { seen_laws (shown_code data_type_row.coded cell_row.coded) (shown_by Cells) };
 
     fn eq(&self, other: &Self) -> bool {
         is_same_array(self, other)

@@ -2,7 +2,6 @@
 ghost use Rattle.std.specs.Prelude.{◌≡◌, ◌⊎◌, ◌<◌, IsTrue, length, slice_get, Some, IfOk, IfErr, OnOk, option_copied};
 ghost use Rattle.columns_core.specs.Causes.{OutOfSpec, cause_of, IsWantOfMemory, is_invalid_argument};
 ghost use Rattle.columns_core.specs.Stored.{is_text};
-ghost use Rattle.columns_core.specs.Offsets.{AreOffsets};
 ghost use Rattle.columns_core.specs.Joined.{strings, FitTogether, AreTexts};
 
 use crate::joined::{JoinedBytes, are_texts, fit_together};
@@ -47,10 +46,25 @@ impl<O: Offset> Utf8Array<O> {
     {
         match check::<O>(&data_type, &offsets, values.as_slice(), validity.as_ref()) {
             Err(e) => Err(e),
-            Ok(()) => Ok(Utf8Array {
-                data_type,
-                items: JoinedBytes::new(offsets, values, validity),
-            }),
+            Ok(()) => Ok(Utf8Array::of_texts(data_type, offsets, values, validity)),
+        }
+    }
+
+    /// The array of these strings, each of which is UTF-8: nothing is tested.
+    pub fn of_texts(
+        data_type: DataType,
+        offsets: Offsets<O>,
+        values: Vec<u8>,
+        validity: Option<Bitmap>,
+    ) -> Self
+        requires typed { IsTrue (is_text O.is_large data_type) }
+        requires fit { FitTogether offsets values.items validity }
+        requires texts { AreTexts offsets values.items }
+        ensures { result ≡ record { data_type = data_type; items = strings offsets values.items validity } }
+    {
+        Utf8Array {
+            data_type,
+            items: JoinedBytes::new(offsets, values, validity),
         }
     }
 
@@ -105,7 +119,6 @@ fn check<O: Offset>(
     validity: Option<&Bitmap>,
 ) -> Result<(), Error>
     ensures ok { OnOk result (IsTrue (is_text O.is_large data_type.now) × FitTogether offsets.now values.now (option_copied validity.entry) × AreTexts offsets.now values.now) }
-    ensures shape { OnOk result (AreOffsets offsets.now) }
     ensures err { IfErr result (λ e. (IsTrue (is_invalid_argument e) × (IsTrue (is_text O.is_large data_type.now) → FitTogether offsets.now values.now (option_copied validity.entry) → ⊥))
         ⊎ ((cause_of e ≡ Some OutOfSpec) × (AreTexts offsets.now values.now → ⊥))) }
 {

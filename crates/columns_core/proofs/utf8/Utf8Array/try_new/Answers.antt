@@ -1,9 +1,8 @@
-use Rattle.std.proofs.Common.{◌≡◌, sym, subst}
+use Rattle.std.proofs.Common.{◌≡◌, subst}
 use Rattle.std.specs.Prelude.{◌⊎◌, IsTrue, List, ℕ, Option, Bool, Some}
 use Rattle.columns_core.specs.Causes.{OutOfSpec, cause_of, is_invalid_argument}
 use Rattle.columns_core.specs.Stored.{is_text}
-use Rattle.columns_core.specs.Joined.{FitTogether, AreTexts, AreTextItems}
-use Rattle.columns_core.proofs.TextLemmas.{text-items}
+use Rattle.columns_core.specs.Joined.{FitTogether, AreTexts}
 use Rattle.columns_core.proofs.utf8.Utf8Array.try_new.Goals as goal
 
 -- a fact of bytes and a mask that are borrowed holds of those that are owned
@@ -16,11 +15,12 @@ returns-in-Err-clause-err g c =
     owned (λ bytes mask. (IsTrue (is_invalid_argument e) × (IsTrue (is_text g.O.Offset.is_large c.args.data_type) → FitTogether c.args.offsets bytes mask → ⊥)) ⊎ ((cause_of e ≡ Some OutOfSpec) × (AreTexts c.args.offsets bytes → ⊥)))
     c.as_slice.ensures.value c.as_ref.ensures.value c.in-Err.ensures.err
 
-pub invariant_of-result : goal.invariant_of-result
-invariant_of-result g c =
-    let fit = owned (FitTogether c.args.offsets) c.as_slice.ensures.value c.as_ref.ensures.value c.in-Ok.ensures.ok.1 in
-    let texts = subst (AreTexts c.args.offsets) c.as_slice.ensures.value c.in-Ok.ensures.ok.2 in
-    subst AreTextItems (sym c.new.ensures) (text-items c.args.offsets c.args.values.items c.args.validity fit texts)
+pub of_texts-requires : goal.of_texts-requires
+of_texts-requires g c = record {
+  typed = c.in-Ok.ensures.ok.0;
+  fit = owned (FitTogether c.args.offsets) c.as_slice.ensures.value c.as_ref.ensures.value c.in-Ok.ensures.ok.1;
+  texts = subst (AreTexts c.args.offsets) c.as_slice.ensures.value c.in-Ok.ensures.ok.2;
+}
 
 pub returns-in-Ok-clause-ok : goal.returns-in-Ok-clause-ok
 returns-in-Ok-clause-ok g c =
