@@ -1,5 +1,6 @@
 pub mod QueueLemmas
 pub mod RowLemmas
+pub mod BytesLemmas
 pub mod NextLemmas
 pub mod FrontLemmas
 pub mod PlaceLemmas

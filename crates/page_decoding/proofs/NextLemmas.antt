@@ -3,7 +3,6 @@ use Rattle.std.proofs.Common.{◌≡◌, ℕ, ◌-◌, ◌<◌, ◌≤◌, suc, 
 use Rattle.std.specs.Prelude.{◌⊎◌, if◌then◌else◌, Result, Ok, Err}
 use Rattle.std.proofs.lemmas.Bool.{cases_lt}
 use Rattle.std.proofs.lemmas.List.{take_all}
-use Rattle.std.proofs.lemmas.Grind.{common_steps}
 use Rattle.columns_core.specs.Causes.{Cause, IsOneOf, cause_of, is_empty}
 use Rattle.columns_core.specs.declared.cell.Cell.{Cell}
 use Rattle.columns_core.specs.declared.error.Error.{Error}
@@ -14,7 +13,9 @@ use Rattle.page_decoding.specs.Outcome.{Outcome, Given, Refused, IsCausedBy, cau
 use Rattle.page_decoding.specs.Column.{entries_behind, followed_by, page_rows, rows}
 use Rattle.page_decoding.specs.NextChunk.{Ends, IsLent, Moves, Opens, Stays}
 use Rattle.page_decoding.specs.Standing.{Advances, FailsBy, NoneComes, Passes, Rests, Standing, TellsOf, after_page, after_pages, causes_behind, still_wanted}
-use Rattle.page_decoding.proofs.RowLemmas.{caused-left, caused-right, causes_in-append}
+use Rattle.page_decoding.specs.Bytes.{IsCausedByChunks}
+use Rattle.page_decoding.proofs.BytesLemmas.{chunks-left, chunks-right, take-append}
+use Rattle.page_decoding.proofs.RowLemmas.{causes_in-append}
 
 -- A page that was lent is the first that was still to come.
 lent-first : {old new : List Content} {causes causes_now : List Cause} {rows rows_now given given_now lent lent_now : ℕ} (page : Page)
@@ -57,11 +58,6 @@ moves-since needs why reason (Opens own page lent steps) = Opens reason page len
 moves-since needs why reason (Ends own none over steps lent) = Ends reason none over steps lent
 
 -- ---- rows that are wanted
-
-pub take-append : {A : Type 0} (n : ℕ) (xs ys : List A) → take n (xs ++ ys) ≡ take n xs ++ take (n - length xs) ys
-take-append n [] ys = let e : n - 0 ≡ n = omega arith in rw e grind (arith, common_steps)
-take-append zero (x ∷ xs) ys = let e : zero - suc (length xs) ≡ zero = omega arith in rw e refl
-take-append (suc n) (x ∷ xs) ys = let e : suc n - suc (length xs) ≡ n - length xs = omega arith in rw e (ap (λ zs. x ∷ zs) (take-append n xs ys))
 
 pub take-nil : (n : ℕ) → take {A = Outcome} n [] ≡ []
 take-nil zero = refl
@@ -148,18 +144,20 @@ module _ (entries : DictContent → Result (List Cell) (List Cause)) (outcomes :
   none_after remaining page new causes some (inr over) = cc
 
   -- an error tells of the page that was lent
-  pub fails-page : (page : Content) (old new : List Content) (causes : List Cause) (s : Standing) (error : Error) → 0 < s.remaining → old ≡ page ∷ new → IsCausedBy (take s.remaining (page_rows entries outcomes s.dictionary page)) error
-      → FailsBy entries outcomes old new causes s error
-  fails-page page old new causes s error some first told =
+  pub fails-page : (most size : Option ℕ) (page : Content) (old new : List Content) (causes : List Cause) (s : Standing) (error : Error) → 0 < s.remaining → old ≡ page ∷ new
+      → IsCausedByChunks most size (s.waiting ++ take s.remaining (page_rows entries outcomes s.dictionary page)) error → FailsBy entries outcomes most size old new causes s error
+  fails-page most size page old new causes s error some first told =
       let own = page_rows entries outcomes s.dictionary page in
       let later = rows entries outcomes (entries_behind entries outcomes s.dictionary page) [] (causes_behind new causes) in
-      let P : List Outcome → Type 0 = λ xs. IsCausedBy xs error in
+      let rest = take (if is_empty (causes_in own) then s.remaining - length own else 0) later in
+      let P : List Outcome → Type 0 = λ xs. IsCausedByChunks most size xs error in
       let N : List Content → Type 0 = λ pages. NoneComes s.remaining pages causes in
+      let whole : (s.waiting ++ take s.remaining own) ++ rest ≡ s.waiting ++ take s.remaining (followed_by own later) = append_assoc s.waiting (take s.remaining own) rest ∙ ap (λ xs. s.waiting ++ xs) (sym (take-followed s.remaining own later)) in
       record {
         awaited = λ none. none_after s.remaining page new causes some (subst N first none);
         lent_pages = page ∷ [];
         split = first;
-        tells = caused-right s.waiting (take s.remaining (followed_by own later)) error (subst P (sym (take-followed s.remaining own later)) (caused-left (take s.remaining own) (take (if is_empty (causes_in own) then s.remaining - length own else 0) later) error told));
+        tells = subst P whole (chunks-left most size (s.waiting ++ take s.remaining own) rest error told);
       }
 
   none_wrong : (remaining : ℕ) (pages : List Content) (causes : List Cause) (error : Error) → 0 < remaining → IsOneOf causes (cause_of error) → NoneComes remaining pages causes → ⊥
@@ -167,10 +165,10 @@ module _ (entries : DictContent → Result (List Cell) (List Cause)) (outcomes :
   none_wrong remaining pages causes error some wrong (inr over) = let P : List Cause → Type 0 = λ found. IsOneOf found (cause_of error) in nothing_wrong (cause_of error) (subst P over.ends wrong)
 
   -- an error tells of what is wrong behind the last page
-  pub fails-end : (old new : List Content) (causes : List Cause) (s : Standing) (error : Error) → 0 < s.remaining → old ≡ [] → new ≡ [] → IsOneOf causes (cause_of error) → FailsBy entries outcomes old new causes s error
-  fails-end old new causes s error some none over wrong =
-      let P : List Content → Type 0 = λ left. TellsOf entries outcomes s [] left causes error in
-      let told : TellsOf entries outcomes s [] [] causes error = caused-right s.waiting (take s.remaining (refused causes)) error (wrong_end s.remaining causes error some wrong) in
+  pub fails-end : (most size : Option ℕ) (old new : List Content) (causes : List Cause) (s : Standing) (error : Error) → 0 < s.remaining → old ≡ [] → new ≡ [] → IsOneOf causes (cause_of error) → FailsBy entries outcomes most size old new causes s error
+  fails-end most size old new causes s error some none over wrong =
+      let P : List Content → Type 0 = λ left. TellsOf entries outcomes most size s [] left causes error in
+      let told : TellsOf entries outcomes most size s [] [] causes error = chunks-right most size s.waiting (take s.remaining (refused causes)) error (wrong_end s.remaining causes error some wrong) in
       record {
         awaited = none_wrong s.remaining old causes error some wrong;
         lent_pages = [];
@@ -195,15 +193,15 @@ module _ (entries : DictContent → Result (List Cell) (List Cause)) (outcomes :
       let behind = entries_behind entries outcomes dictionary page in
       extends-by (is_empty (causes_in own)) own (rows entries outcomes behind lent_pages (causes_behind left causes)) (rows entries outcomes behind (lent_pages ++ left) causes) (rows-extend behind lent_pages left causes)
 
-  caused-more : (n : ℕ) (first all : List Outcome) (waiting : List Outcome) (error : Error) → Extends first all → IsCausedBy (waiting ++ take n first) error → IsCausedBy (waiting ++ take n all) error
-  caused-more n first all waiting error more told =
-      let P : List Outcome → Type 0 = λ xs. IsCausedBy xs error in
+  caused-more : (most size : Option ℕ) (n : ℕ) (first all : List Outcome) (waiting : List Outcome) (error : Error) → Extends first all → IsCausedByChunks most size (waiting ++ take n first) error → IsCausedByChunks most size (waiting ++ take n all) error
+  caused-more most size n first all waiting error more told =
+      let P : List Outcome → Type 0 = λ xs. IsCausedByChunks most size xs error in
       let e : waiting ++ take n all ≡ (waiting ++ take n first) ++ take (n - length first) more.others =
       ap (λ xs. waiting ++ xs) (ap (take n) more.split ∙ take-append n first more.others) ∙ sym (append_assoc waiting (take n first) (take (n - length first) more.others)) in
-      subst P (sym e) (caused-left (waiting ++ take n first) (take (n - length first) more.others) error told)
+      subst P (sym e) (chunks-left most size (waiting ++ take n first) (take (n - length first) more.others) error told)
 
   -- What an error tells of is wrong with the rows that are wanted.
-  pub fails-caused : (old new : List Content) (causes : List Cause) (s : Standing) (error : Error) → FailsBy entries outcomes old new causes s error → IsCausedBy (still_wanted entries outcomes s old causes) error
-  fails-caused old new causes s error fails =
-      let P : List Content → Type 0 = λ pages. IsCausedBy (still_wanted entries outcomes s pages causes) error in
-      subst P (sym fails.split) (caused-more s.remaining (rows entries outcomes s.dictionary fails.lent_pages (causes_behind new causes)) (rows entries outcomes s.dictionary (fails.lent_pages ++ new) causes) s.waiting error (rows-extend s.dictionary fails.lent_pages new causes) fails.tells)
+  pub fails-caused : (most size : Option ℕ) (old new : List Content) (causes : List Cause) (s : Standing) (error : Error) → FailsBy entries outcomes most size old new causes s error → IsCausedByChunks most size (still_wanted entries outcomes s old causes) error
+  fails-caused most size old new causes s error fails =
+      let P : List Content → Type 0 = λ pages. IsCausedByChunks most size (still_wanted entries outcomes s pages causes) error in
+      subst P (sym fails.split) (caused-more most size s.remaining (rows entries outcomes s.dictionary fails.lent_pages (causes_behind new causes)) (rows entries outcomes s.dictionary (fails.lent_pages ++ new) causes) s.waiting error (rows-extend s.dictionary fails.lent_pages new causes) fails.tells)

@@ -48,9 +48,6 @@ take-split (suc k) (suc n) (x ∷ xs) h =
 pub caused-take : (k n : ℕ) (xs : List Outcome) (error : Error) → k ≤ n → IsCausedBy (take k xs) error → IsCausedBy (take n xs) error
 caused-take k n xs error h cause = let P : List Outcome → Type 0 = λ rows. IsCausedBy rows error in subst P (sym (take-split k n xs h)) (caused-left (take k xs) (take (n - k) (drop k xs)) error cause)
 
-caused-later : (k n : ℕ) (xs : List Outcome) (error : Error) → k ≤ n → IsCausedBy (take (n - k) (drop k xs)) error → IsCausedBy (take n xs) error
-caused-later k n xs error h cause = let P : List Outcome → Type 0 = λ rows. IsCausedBy rows error in subst P (sym (take-split k n xs h)) (caused-right (take k xs) (take (n - k) (drop k xs)) error cause)
-
 -- An item that has more rows stands again in its queue.
 pub added-rows : (old items item more : List Cell) (taken : List Outcome) → old ≡ items ++ item → map Given more ≡ map Given item ++ taken → map Given (items ++ more) ≡ map Given old ++ taken
 added-rows old items item more taken split e =
@@ -73,7 +70,6 @@ pub record Turn (wanted remaining k : ℕ) (decoded decoded' : List Cell) (xs le
   pub wanted_now : wanted - k ≡ min (length left) (remaining - k)
   pub rows : map Given decoded' ++ take (remaining - k) left ≡ map Given decoded ++ take remaining xs
   pub remaining_now : (remaining - k) - length left ≡ remaining - length xs
-  pub causes : (error : Error) → IsCausedBy (take (remaining - k) left) error → IsCausedBy (take remaining xs) error
 
 pub Turn-from : (wanted remaining k : ℕ) (decoded decoded' : List Cell) (xs left : List Outcome) → wanted ≡ min (length xs) remaining → k ≤ wanted → map Given decoded' ≡ map Given decoded ++ take k xs → left ≡ drop k xs → Turn wanted remaining k decoded decoded' xs left
 Turn-from wanted remaining k decoded decoded' xs left w le e is =
@@ -84,5 +80,4 @@ Turn-from wanted remaining k decoded decoded' xs left w le e is =
       wanted_now = omega (arith, long);
       rows = ap (λ ys. ys ++ take (remaining - k) (drop k xs)) e ∙ append_assoc (map Given decoded) (take k xs) (take (remaining - k) (drop k xs)) ∙ ap (λ ys. map Given decoded ++ ys) (sym (take-split k remaining xs within));
       remaining_now = omega (arith, long);
-      causes = λ error cause. caused-later k remaining xs error within cause;
     })

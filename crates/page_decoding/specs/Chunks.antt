@@ -1,12 +1,14 @@
 -- The chunks of a column, one after another.
-use Rattle.std.specs.Prelude.{◌≡◌, ℕ, zero, suc, ◌+◌, List, [], ◌++◌, length, map, Option, Some, None, Result, Ok, Err, refl}
+use Rattle.std.specs.Prelude.{◌≡◌, ◌⊎◌, ℕ, zero, suc, ◌+◌, true, List, [], ◌++◌, length, map, Option, Some, None, Result, Ok, Err, refl}
+use Rattle.std.specs.List.{list_all}
 use Rattle.std.specs.Coded.{Coded, code_by, coded×, coded_list, coded_option, coded_ℕ}
 use Rattle.columns_core.specs.Causes.{Cause}
 use Rattle.columns_core.specs.declared.cell.Cell.{Cell}
 use Rattle.columns_core.specs.declared.error.Error.{Error}
 use Rattle.parquet_meta.specs.Source.{raised}
-use Rattle.parquet_page.specs.Content.{Content, DataContent, DictContent}
-use Rattle.page_decoding.specs.Outcome.{Outcome, Given, IsCausedBy}
+use Rattle.parquet_page.specs.Content.{Content, DataContent, DictContent, is_data}
+use Rattle.page_decoding.specs.Bytes.{IsCausedByChunks}
+use Rattle.page_decoding.specs.Outcome.{Outcome, Given}
 use Rattle.page_decoding.specs.NextChunk.{IsFirstChunk}
 use Rattle.page_decoding.specs.Standing.{AreNeeded, IsFinished, Standing, TellsOf, after_pages}
 
@@ -33,12 +35,12 @@ standing_of chunks = record { waiting = map Given chunks.waiting; remaining = ch
 abbrev pub ended : {I D : Type 0} → ChunksLeft I D → ChunksLeft I D
 ended chunks = record chunks { waiting = []; remaining = 0; dictionary = None }
 
--- The first chunk of all rows that are wanted, and the others are left; or an error that tells of what is wrong with them, and none
--- is wanted any more; or none is wanted.
-abbrev pub GivesNext : {X : Type 0} → (X → List Cell) → Option ℕ → List Outcome → List Outcome → Option (Result X Error) → Type 0
-GivesNext shown size old new (Some (Ok chunk)) = IsFirstChunk shown size old new chunk
-GivesNext shown size old new (Some (Err error)) = IsCausedBy old error × (new ≡ [])
-GivesNext shown size old new None = (old ≡ []) × (new ≡ [])
+-- The first chunk of all rows that are wanted, and the others are left; or an error that tells of what is wrong with them or of a chunk
+-- of them whose bytes do not fit, and none is wanted any more; or none is wanted.
+abbrev pub GivesNext : {X : Type 0} → (X → List Cell) → Option ℕ → Option ℕ → List Outcome → List Outcome → Option (Result X Error) → Type 0
+GivesNext shown most size old new (Some (Ok chunk)) = IsFirstChunk shown size old new chunk
+GivesNext shown most size old new (Some (Err error)) = IsCausedByChunks most size old error × (new ≡ [])
+GivesNext shown most size old new None = (old ≡ []) × (new ≡ [])
 
 -- P of a chunk
 abbrev pub IfGiven : {X : Type 0} → Option (Result X Error) → (X → Type 0) → Type 0
@@ -63,14 +65,15 @@ Reaches shown (Some (Ok chunk)) reached now = reached ≡ record { waiting = map
 Reaches shown (Some (Err error)) reached now = IsFinished now
 Reaches shown None reached now = reached ≡ now
 
--- These pages were lent, each where one was needed and each in one step. An error tells of them or, where none is left, of what is
--- wrong behind them.
-pub record Reads {X : Type 0} (shown : X → List Cell) (entries : DictContent → Result (List Cell) (List Cause)) (outcomes : Option (List Cell) → DataContent → List Outcome) (size : Option ℕ)
+-- These pages were lent, each where one was needed and each in one step. Behind them there are data pages alone. An error tells of
+-- them or, where none is left, of what is wrong behind them.
+pub record Reads {X : Type 0} (shown : X → List Cell) (entries : DictContent → Result (List Cell) (List Cause)) (outcomes : Option (List Cell) → DataContent → List Outcome) (most size : Option ℕ)
     (result : Option (Result X Error)) (old new : List Content) (causes : List Cause) (before after : Standing) (steps steps_now lent lent_now : ℕ) : Type 0 where
   pub lent_pages : List Content
   pub split : old ≡ lent_pages ++ new
+  pub data_alone : (lent_pages ≡ []) ⊎ (list_all is_data new ≡ true)
   pub needed : AreNeeded entries outcomes size before lent_pages
   pub reached : Reaches shown result (after_pages entries outcomes before lent_pages) after
-  pub tells : IfFailed result (TellsOf entries outcomes before lent_pages new causes)
+  pub tells : IfFailed result (TellsOf entries outcomes most size before lent_pages new causes)
   pub ticked : steps_now ≡ steps + length lent_pages
   pub counted : lent_now ≡ lent_behind lent (length lent_pages)

@@ -4,6 +4,7 @@ use Rattle.std.specs.Result.{result_ok}
 use Rattle.columns_core.specs.Causes.{Cause, is_empty}
 use Rattle.columns_core.specs.declared.cell.Cell.{Cell}
 use Rattle.parquet_page.specs.Content.{Content, DataContent, DictContent, DataOf, DictOf}
+pub use Rattle.parquet_page.specs.Lending.{DataPagesAre}
 use Rattle.page_decoding.specs.Outcome.{Outcome, causes_in, refusal_of, refused}
 
 -- rows, and those behind them where nothing is wrong with the first
@@ -26,9 +27,3 @@ module _ (entries : DictContent → Result (List Cell) (List Cause)) (outcomes :
   abbrev pub rows : Option (List Cell) → List Content → List Cause → List Outcome
   rows dictionary [] causes = refused causes
   rows dictionary (page ∷ pages) causes = followed_by (page_rows dictionary page) (rows (entries_behind dictionary page) pages causes)
-
--- a condition on the data pages among these
-abbrev pub DataPagesAre : (DataContent → Type 0) → List Content → Type 0
-DataPagesAre P [] = Unit {0}
-DataPagesAre P (DataOf page ∷ pages) = P page × DataPagesAre P pages
-DataPagesAre P (DictOf page ∷ pages) = DataPagesAre P pages

@@ -1,4 +1,6 @@
 pub mod Outcome
+pub mod Pushing
+pub mod Bytes
 pub mod Column
 pub mod Queue
 pub mod NextChunk

@@ -6,7 +6,8 @@ use Rattle.columns_core.specs.declared.error.Error.{Error}
 use Rattle.parquet_page.specs.Content.{Content, DataContent, DictContent}
 use Rattle.parquet_page.specs.Lending.{HasEnded}
 use Rattle.page_decoding.specs.Column.{entries_behind, page_rows, rows}
-use Rattle.page_decoding.specs.Outcome.{Outcome, Given, IsCausedBy, causes_in}
+use Rattle.page_decoding.specs.Bytes.{IsCausedByChunks}
+use Rattle.page_decoding.specs.Outcome.{Outcome, Given, causes_in}
 use Rattle.page_decoding.specs.Queue.{joined}
 
 -- the rows that wait, how many more are wanted, and the entries of the dictionary
@@ -69,13 +70,14 @@ module _ (entries : DictContent → Result (List Cell) (List Cause)) (outcomes :
     Rests : new ≡ old → after ≡ before → Advances old new before after
     Passes : (page : Content) → old ≡ page ∷ new → after ≡ after_page before page → Advances old new before after
 
-  -- An error tells of what is wrong with the rows that are wanted of the pages that were lent or, where none is left, behind them.
-  abbrev pub TellsOf : Standing → List Content → List Content → List Cause → Error → Type 0
-  TellsOf before lent_pages left causes error = IsCausedBy (still_wanted before lent_pages (causes_behind left causes)) error
+  -- An error tells of what is wrong with the rows that are wanted of the pages that were lent or, where none is left, behind them; or of
+  -- a chunk of these rows whose bytes do not fit.
+  abbrev pub TellsOf : Option ℕ → Option ℕ → Standing → List Content → List Content → List Cause → Error → Type 0
+  TellsOf most size before lent_pages left causes error = IsCausedByChunks most size (still_wanted before lent_pages (causes_behind left causes)) error
 
   -- An error comes only where rows may come, and tells of the pages that were lent.
-  pub record FailsBy (old new : List Content) (causes : List Cause) (before : Standing) (error : Error) : Type 0 where
+  pub record FailsBy (most size : Option ℕ) (old new : List Content) (causes : List Cause) (before : Standing) (error : Error) : Type 0 where
     pub awaited : NoneComes before.remaining old causes → ⊥
     pub lent_pages : List Content
     pub split : old ≡ lent_pages ++ new
-    pub tells : TellsOf before lent_pages new causes error
+    pub tells : TellsOf most size before lent_pages new causes error

@@ -1,5 +1,6 @@
 //! The chunks of a column, one after another.
-ghost use Rattle.std.specs.Prelude.{◌≡◌, IsTrue, if◌then◌else◌, is_ok, All, [], map, None, IfOk, IfErr, IfNone, IfSome};
+ghost use Rattle.std.specs.Prelude.{◌≡◌, IsTrue, if◌then◌else◌, is_ok, All, [], map, None, IfOk, IfErr, IfNone, IfSome, option_map};
+ghost use Rattle.std.specs.Option.{option_copied};
 ghost use Rattle.columns_core.specs.Causes.{is_invalid_argument};
 ghost use Rattle.page_decoding.specs.Chunks.{GivesNext, IfGiven, Reads, ended, standing_of};
 ghost use Rattle.page_decoding.specs.Column.{DataPagesAre};
@@ -51,8 +52,8 @@ fn read_chunk<I: Pages, D: Decoder, L: Ledger>(
     requires own_dict { IfSome dict.old (D.is_own_dict decoder.now) }
     requires cut { IsCut chunk_size (map D.DecodedState.shown items.old.items) }
     requires own { All (D.is_own decoder.now) items.old.items }
-    ensures chunk { GivesNext D.DecodedState.shown chunk_size (still_wanted (D.entries decoder.now) (D.outcomes decoder.now) (standing D.DecodedState.shown (D.dict_shown decoder.now) items.old.items remaining.old dict.old) (I.to_come iter.old) (I.causes iter.old)) (still_wanted (D.entries decoder.now) (D.outcomes decoder.now) (standing D.DecodedState.shown (D.dict_shown decoder.now) items.new.items remaining.new dict.new) (I.to_come iter.new) (I.causes iter.new)) result }
-    ensures pages { Reads D.DecodedState.shown (D.entries decoder.now) (D.outcomes decoder.now) chunk_size result (I.to_come iter.old) (I.to_come iter.new) (I.causes iter.old) (standing D.DecodedState.shown (D.dict_shown decoder.now) items.old.items remaining.old dict.old) (standing D.DecodedState.shown (D.dict_shown decoder.now) items.new.items remaining.new dict.new) steps.old steps.new (I.lent_count iter.old) (I.lent_count iter.new) }
+    ensures chunk { GivesNext D.DecodedState.shown (D.most_bytes decoder.now) chunk_size (still_wanted (D.entries decoder.now) (D.outcomes decoder.now) (standing D.DecodedState.shown (D.dict_shown decoder.now) items.old.items remaining.old dict.old) (I.to_come iter.old) (I.causes iter.old)) (still_wanted (D.entries decoder.now) (D.outcomes decoder.now) (standing D.DecodedState.shown (D.dict_shown decoder.now) items.new.items remaining.new dict.new) (I.to_come iter.new) (I.causes iter.new)) result }
+    ensures pages { Reads D.DecodedState.shown (D.entries decoder.now) (D.outcomes decoder.now) (D.most_bytes decoder.now) chunk_size result (I.to_come iter.old) (I.to_come iter.new) (I.causes iter.old) (standing D.DecodedState.shown (D.dict_shown decoder.now) items.old.items remaining.old dict.old) (standing D.DecodedState.shown (D.dict_shown decoder.now) items.new.items remaining.new dict.new) steps.old steps.new (I.lent_count iter.old) (I.lent_count iter.new) }
     ensures end { IfNone result (NoneComes remaining.new (I.to_come iter.new) (I.causes iter.new)) }
     ensures ended { still_wanted (D.entries decoder.now) (D.outcomes decoder.now) (standing D.DecodedState.shown (D.dict_shown decoder.now) items.old.items remaining.old dict.old) (I.to_come iter.old) (I.causes iter.old) ≡ [] → NoneComes remaining.old (I.to_come iter.old) (I.causes iter.old) → result ≡ None }
     ensures own_chunk { IfGiven result (D.is_own decoder.now) }
@@ -143,8 +144,8 @@ impl<I: Pages, D: Decoder + Drop> Chunks<I, D> {
         &mut self,
         steps: &mut Steps<L>,
     ) -> Option<Result<D::DecodedState, Error>>
-        ensures chunk { GivesNext D.DecodedState.shown self.old.size (still_wanted (D.entries self.old.decoder) (D.outcomes self.old.decoder) (standing_of self.old) (I.to_come self.old.pages) (I.causes self.old.pages)) (still_wanted (D.entries self.new.decoder) (D.outcomes self.new.decoder) (standing_of self.new) (I.to_come self.new.pages) (I.causes self.new.pages)) result }
-        ensures pages { Reads D.DecodedState.shown (D.entries self.old.decoder) (D.outcomes self.old.decoder) self.old.size result (I.to_come self.old.pages) (I.to_come self.new.pages) (I.causes self.old.pages) (standing_of self.old) (standing_of self.new) steps.old steps.new (I.lent_count self.old.pages) (I.lent_count self.new.pages) }
+        ensures chunk { GivesNext D.DecodedState.shown (D.most_bytes self.old.decoder) self.old.size (still_wanted (D.entries self.old.decoder) (D.outcomes self.old.decoder) (standing_of self.old) (I.to_come self.old.pages) (I.causes self.old.pages)) (still_wanted (D.entries self.new.decoder) (D.outcomes self.new.decoder) (standing_of self.new) (I.to_come self.new.pages) (I.causes self.new.pages)) result }
+        ensures pages { Reads D.DecodedState.shown (D.entries self.old.decoder) (D.outcomes self.old.decoder) (D.most_bytes self.old.decoder) self.old.size result (I.to_come self.old.pages) (I.to_come self.new.pages) (I.causes self.old.pages) (standing_of self.old) (standing_of self.new) steps.old steps.new (I.lent_count self.old.pages) (I.lent_count self.new.pages) }
         ensures end { IfNone result (NoneComes self.new.remaining (I.to_come self.new.pages) (I.causes self.new.pages)) }
         ensures ended { still_wanted (D.entries self.old.decoder) (D.outcomes self.old.decoder) (standing_of self.old) (I.to_come self.old.pages) (I.causes self.old.pages) ≡ [] → NoneComes self.old.remaining (I.to_come self.old.pages) (I.causes self.old.pages) → result ≡ None }
         ensures own { IfGiven result (D.is_own self.old.decoder) }
@@ -178,6 +179,14 @@ impl<I: Pages, D: Decoder + Drop> Chunks<I, D> {
         ensures { result.now ≡ self.now.decoder }
     {
         &self.decoder
+    }
+
+    /// The entries of the dictionary page, where one was lent and no error came.
+    pub fn dictionary(&self) -> Option<&D::Dict>
+        ensures is { option_map (D.dict_shown self.now.decoder) (option_copied result) ≡ self.now.dictionary }
+        ensures own { IfSome (option_copied result) (D.is_own_dict self.now.decoder) }
+    {
+        self.dict.as_ref()
     }
 
     /// How many pages were lent, at most `usize::MAX`.

@@ -1,9 +1,10 @@
 //! Decoders of pages.
-ghost use Rattle.std.specs.Prelude.{◌≡◌, true, List, [], ◌++◌, length, take, drop, map, Option, Result, Ok, IfOk, OnOk, IfSome, option_map};
+ghost use Rattle.std.specs.Prelude.{◌≡◌, ℕ, true, List, [], ◌++◌, length, take, drop, map, sum_by, Option, None, Result, Ok, IfOk, IfErr, OnOk, IfSome, option_map};
 ghost use Rattle.std.specs.Option.{option_copied};
 ghost use Rattle.columns_core.specs.Causes.{Cause, ComesOf};
 ghost use Rattle.columns_core.specs.declared.cell.Cell.{Cell};
 ghost use Rattle.parquet_page.specs.Content.{DataContent, DataOf, DictContent, data_content, dict_content, is_shaped};
+ghost use Rattle.page_decoding.specs.Bytes.{IsCausedByChunks, cell_bytes, fits_most};
 ghost use Rattle.page_decoding.specs.Outcome.{Given, Outcome, causes_in, refusal_of};
 
 use columns_core::Error;
@@ -51,6 +52,9 @@ pub trait Decoder {
     /// The dictionaries that are the decoder's own.
     ghost is_own_dict: { Self → Self.Dict → Type 0 };
 
+    /// How many bytes the texts and byte strings of decoded values have together at most, if there is a most.
+    ghost most_bytes: { Self → Option ℕ };
+
     /// Checks the whole page.
     fn build_state(
         &self,
@@ -91,10 +95,13 @@ pub trait Decoder {
         ensures state { OnOk result (is_state self.now (option_copied dict.entry) (data_content page.now) state.new) }
         ensures left { OnOk result (left self.now (option_copied dict.entry) (data_content page.now) state.new ≡ drop additional (left self.now (option_copied dict.entry) (data_content page.now) state.old)) }
         ensures own { OnOk result (is_own self.now decoded.new) }
-        ensures cause { ComesOf result (causes_in (take additional (left self.now (option_copied dict.entry) (data_content page.now) state.old))) };
+        ensures cause { IfErr result (IsCausedByChunks (most_bytes self.now) None (map Given (Self.DecodedState.shown decoded.old) ++ take additional (left self.now (option_copied dict.entry) (data_content page.now) state.old))) };
 
     fn deserialize_dict(&self, alloc: Global, page: &DictPage<'_>) -> Result<Self::Dict, Error>
         ensures entries { IfOk result (λ dict. entries self.now (dict_content page.now) ≡ Ok (dict_shown self.now dict)) }
         ensures own { IfOk result (is_own_dict self.now) }
         ensures cause { ComesOf result (causes_in (refusal_of (entries self.now (dict_content page.now)))) };
+
+    /// The bytes of decoded values of its own fit.
+    ghost own_fits: { (decoder : Self) (decoded : Self.DecodedState) → is_own decoder decoded → fits_most (most_bytes decoder) (sum_by cell_bytes (Self.DecodedState.shown decoded)) ≡ true };
 }

@@ -1,10 +1,10 @@
 //! The next chunk of a column, over any pages and any decoder.
 ghost use Rattle.std.specs.Prelude.{◌≡◌, ◌⊎◌, ◌+◌, ◌-◌, ◌<◌, ◌≤◌, true, false, All, List, [], ◌++◌, length, take, map, Option, IfErr, IfOk, OnOk, IfSome, option_map};
 ghost use Rattle.std.specs.Option.{option_copied};
-ghost use Rattle.columns_core.specs.Causes.{ComesOf};
 ghost use Rattle.parquet_page.specs.Content.{DataOf, data_content, is_shaped};
 ghost use Rattle.parquet_page.specs.Lending.{HasEnded};
-ghost use Rattle.page_decoding.specs.Outcome.{Given, Outcome, causes_in};
+ghost use Rattle.page_decoding.specs.Bytes.{IsCausedByChunks};
+ghost use Rattle.page_decoding.specs.Outcome.{Given, Outcome};
 ghost use Rattle.page_decoding.specs.Column.{DataPagesAre};
 ghost use Rattle.page_decoding.specs.Queue.{IsChunkSize, IsCut, joined};
 ghost use Rattle.page_decoding.specs.Standing.{Advances, FailsBy, IsNeeded, NoneComes, standing, still_wanted};
@@ -69,7 +69,7 @@ fn add_page<D: Decoder>(
     ensures fewer { remaining.new ≤ remaining.old }
     ensures cut { OnOk result (IsCut chunk_size (map D.DecodedState.shown items.new.items)) }
     ensures own { OnOk result (All (D.is_own decoder.now) items.new.items) }
-    ensures cause { ComesOf result (causes_in (take remaining.old (D.outcomes decoder.now (option_map (D.dict_shown decoder.now) (option_copied dict.entry)) (data_content page.now)))) }
+    ensures cause { IfErr result (IsCausedByChunks (D.most_bytes decoder.now) chunk_size (map Given (joined (map D.DecodedState.shown items.old.items)) ++ take remaining.old (D.outcomes decoder.now (option_map (D.dict_shown decoder.now) (option_copied dict.entry)) (data_content page.now)))) }
 {
     let state = decoder.build_state(page, dict)?;
     extend_from_new_page(
@@ -106,7 +106,7 @@ fn read_page<I: Pages, D: Decoder, L: Ledger>(
     ensures takes { DataPagesAre (D.takes decoder.now) (I.to_come iter.new) }
     ensures pages { Moves (0 < remaining.old) (I.to_come iter.old) (I.to_come iter.new) (I.causes iter.old) (I.causes iter.new) steps.old steps.new (I.lent_count iter.old) (I.lent_count iter.new) }
     ensures row_count { I.row_count iter.new ≡ I.row_count iter.old }
-    ensures cause { IfErr result (FailsBy (D.entries decoder.now) (D.outcomes decoder.now) (I.to_come iter.old) (I.to_come iter.new) (I.causes iter.old) (standing D.DecodedState.shown (D.dict_shown decoder.now) items.old.items remaining.old dict.old)) }
+    ensures cause { IfErr result (FailsBy (D.entries decoder.now) (D.outcomes decoder.now) (D.most_bytes decoder.now) chunk_size (I.to_come iter.old) (I.to_come iter.new) (I.causes iter.old) (standing D.DecodedState.shown (D.dict_shown decoder.now) items.old.items remaining.old dict.old)) }
 {
     match iter.next(steps)? {
         None => Ok(false),
@@ -160,7 +160,7 @@ pub fn next<I: Pages, D: Decoder, L: Ledger>(
     ensures takes { DataPagesAre (D.takes decoder.now) (I.to_come iter.new) }
     ensures pages { Moves (IsNeeded chunk_size (standing D.DecodedState.shown (D.dict_shown decoder.now) items.old.items remaining.old dict.old)) (I.to_come iter.old) (I.to_come iter.new) (I.causes iter.old) (I.causes iter.new) steps.old steps.new (I.lent_count iter.old) (I.lent_count iter.new) }
     ensures row_count { I.row_count iter.new ≡ I.row_count iter.old }
-    ensures cause { IfFault result (FailsBy (D.entries decoder.now) (D.outcomes decoder.now) (I.to_come iter.old) (I.to_come iter.new) (I.causes iter.old) (standing D.DecodedState.shown (D.dict_shown decoder.now) items.old.items remaining.old dict.old)) }
+    ensures cause { IfFault result (FailsBy (D.entries decoder.now) (D.outcomes decoder.now) (D.most_bytes decoder.now) chunk_size (I.to_come iter.old) (I.to_come iter.new) (I.causes iter.old) (standing D.DecodedState.shown (D.dict_shown decoder.now) items.old.items remaining.old dict.old)) }
 {
     if *remaining == 0 {
         return give_front(chunk_size, items);

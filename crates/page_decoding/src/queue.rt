@@ -1,9 +1,10 @@
 //! Items of decoded values that wait in a queue, cut into chunks.
-ghost use Rattle.std.specs.Prelude.{◌≡◌, ◌↔◌, ◌⊎◌, IsTrue, true, false, ℕ, ◌+◌, ◌-◌, ◌<◌, ◌≤◌, All, List, [], ◌∷◌, ◌++◌, length, take, drop, map, Option, IfOk, OnOk, IfSome};
+ghost use Rattle.std.specs.Prelude.{◌≡◌, ◌↔◌, ◌⊎◌, IsTrue, true, false, ℕ, ◌+◌, ◌-◌, ◌<◌, ◌≤◌, All, List, [], ◌∷◌, ◌++◌, length, take, drop, map, Option, IfOk, IfErr, OnOk, IfSome};
 ghost use Rattle.std.specs.Option.{option_copied, option_to_list};
 ghost use Rattle.columns_core.specs.Causes.{ComesOf};
 ghost use Rattle.parquet_page.specs.Content.{data_content};
-ghost use Rattle.page_decoding.specs.Outcome.{Given, causes_in};
+ghost use Rattle.page_decoding.specs.Bytes.{IsCausedByChunks};
+ghost use Rattle.page_decoding.specs.Outcome.{Given};
 ghost use Rattle.page_decoding.specs.Queue.{AreFull, EndsOpen, FitsChunk, IsChunkSize, IsCut, IsFull, joined};
 
 use crate::decoder::{DecodedState, Decoder};
@@ -122,7 +123,7 @@ fn add_rows<D: Decoder>(
     ensures left { IfOk result (λ taken. D.left decoder.now (option_copied dict.entry) (data_content page.now) state.new ≡ drop taken (D.left decoder.now (option_copied dict.entry) (data_content page.now) state.old)) }
     ensures cut { OnOk result (IsCut chunk_size (map D.DecodedState.shown items.new.items)) }
     ensures own { OnOk result (All (D.is_own decoder.now) items.new.items) }
-    ensures cause { ComesOf result (causes_in (take wanted (D.left decoder.now (option_copied dict.entry) (data_content page.now) state.old))) }
+    ensures cause { IfErr result (IsCausedByChunks (D.most_bytes decoder.now) chunk_size (map Given (joined (map D.DecodedState.shown items.old.items)) ++ take wanted (D.left decoder.now (option_copied dict.entry) (data_content page.now) state.old))) }
 {
     let mut item = open_item(alloc, wanted, chunk_size, items, decoder)?;
     let taken = room(chunk_size, item.len(), wanted);
@@ -153,7 +154,7 @@ pub fn extend_from_new_page<D: Decoder>(
     ensures fewer { remaining.new ≤ remaining.old }
     ensures cut { OnOk result (IsCut chunk_size (map D.DecodedState.shown items.new.items)) }
     ensures own { OnOk result (All (D.is_own decoder.now) items.new.items) }
-    ensures cause { ComesOf result (causes_in (take remaining.old (D.left decoder.now (option_copied dict.entry) (data_content page.now) state))) }
+    ensures cause { IfErr result (IsCausedByChunks (D.most_bytes decoder.now) chunk_size (map Given (joined (map D.DecodedState.shown items.old.items)) ++ take remaining.old (D.left decoder.now (option_copied dict.entry) (data_content page.now) state))) }
 {
     let mut wanted = decoder.state_len(&state).min(*remaining);
     while wanted > 0 {

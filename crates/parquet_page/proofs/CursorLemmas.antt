@@ -154,7 +154,7 @@ differ : (b : Bool) → b ≡ false → b ≡ true → ⊥
 differ b late first = absurd cc
 
 -- behind the first page there are data pages alone
-data_alone : (type : PrimitiveType) (pages : List ChunkPage) → list_all is_data (map (data_of type None) pages) ≡ true
+pub data_alone : (type : PrimitiveType) (pages : List ChunkPage) → list_all is_data (map (data_of type None) pages) ≡ true
 data_alone type [] = refl
 data_alone type (page ∷ pages) = data_alone type pages
 

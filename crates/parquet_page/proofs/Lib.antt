@@ -2,6 +2,7 @@ pub mod HeaderLemmas
 pub mod CursorLemmas
 pub mod RowSums
 pub mod LendingLemmas
+pub mod ReaderLemmas
 pub mod ListLemmas
 pub mod SelectionLemmas
 pub mod RefusalLemmas

@@ -78,7 +78,7 @@ all_lent type parts is_first k entries e = go is_first (drop k entries) (drop_al
   go false [] e = record { none = refl; ends = refl }
   go b (entry ∷ left) e = absurd cc
 
-data_alone : (type : PrimitiveType) (wanted : List (FilteredPage × List ℕ)) → list_all is_data (lent_parts type wanted).pages ≡ true
+pub data_alone : (type : PrimitiveType) (wanted : List (FilteredPage × List ℕ)) → list_all is_data (lent_parts type wanted).pages ≡ true
 unfolding lent_parts
 data_alone type [] = refl
 data_alone type (first ∷ others) = go (wanted_page first.0 first.1) (data_alone type others) where

@@ -1,10 +1,11 @@
 -- What a call that lends the next page answers, and what it leaves.
-use Rattle.std.specs.Prelude.{◌≡◌, ℕ, ◌+◌, ◌^◌, ◌-◌, min, true, List, [], ◌∷◌, Option, Some, None, Result, Ok, Err}
+use Rattle.std.specs.Prelude.{◌≡◌, ℕ, ◌+◌, ◌^◌, ◌-◌, min, Bool, true, List, [], ◌∷◌, Option, Some, None, Result, Ok, Err}
 use Rattle.std.specs.List.{list_all}
 use Rattle.columns_core.specs.Causes.{Cause, IsOneOf, cause_of}
 use Rattle.columns_core.specs.declared.error.Error.{Error}
+use Rattle.parquet_meta.specs.declared.metadata.PrimitiveType.{PrimitiveType}
 use Rattle.parquet_page.specs.declared.page.Page.{Page}
-use Rattle.parquet_page.specs.Content.{Content, content, content_rows, is_data, is_shaped}
+use Rattle.parquet_page.specs.Content.{Content, DataContent, DataOf, DictOf, content, content_rows, is_data, is_shaped}
 
 -- the first page that is still to come; behind the last one an end, or an error that tells of one of the causes
 abbrev pub Lends : List Content → List Cause → Result (Option Page) Error → Type 0
@@ -30,6 +31,20 @@ counted count (Err error) = count
 abbrev pub rest_of : List Content → List Content
 rest_of [] = []
 rest_of (next ∷ rest) = rest
+
+-- a condition on the data pages among these
+abbrev pub DataPagesAre : (DataContent → Type 0) → List Content → Type 0
+DataPagesAre P [] = Unit {0}
+DataPagesAre P (DataOf page ∷ pages) = P page × DataPagesAre P pages
+DataPagesAre P (DictOf page ∷ pages) = DataPagesAre P pages
+
+-- each data page has this type
+abbrev pub AreOfType : PrimitiveType → List Content → Type 0
+AreOfType type pages = DataPagesAre (λ page. page.type ≡ type) pages
+
+-- behind the first page there are data pages alone
+abbrev pub has_data_behind : List Content → Bool
+has_data_behind pages = list_all is_data (rest_of pages)
 
 -- nothing comes any more
 pub record HasEnded (pages : List Content) (causes : List Cause) : Type 0 where

@@ -25,7 +25,8 @@ pub struct IndexedPageReader {
 
 impl IndexedPageReader {
     ghost use Rattle.parquet_page.specs.Content.{content};
-    ghost use Rattle.parquet_page.specs.Indexed.{indexed_count, indexed_given, indexed_lent, indexed_rows};
+    ghost use Rattle.parquet_page.specs.Indexed.{indexed_count, indexed_given, indexed_lent, indexed_pages, indexed_rows};
+    ghost use Rattle.parquet_page.specs.Lending.{AreOfType, has_data_behind};
     ghost use Rattle.parquet_page.specs.LocatedLeft.{IsLocated, located_content};
 
     /// Over the bytes of a column's chunk. Starts of pages count from the chunk's start. Takes no memory.
@@ -38,6 +39,8 @@ impl IndexedPageReader {
         ensures shaped { IfOk result (λ _. are_well_shaped pages.items ≡ true) }
         ensures lies { IfOk result (λ _. lie_within_by (length buffer.items) pages.items ≡ true) }
         ensures lends { IfOk result (λ reader. indexed_lent reader ≡ located_chunk column.now.descriptor.primitive_type buffer.items pages.items) }
+        ensures typed { IfOk result (λ r. AreOfType column.now.descriptor.primitive_type (indexed_pages r)) }
+        ensures ordered { IfOk result (λ r. has_data_behind (indexed_pages r) ≡ true) }
         ensures rows { IfOk result (λ reader. indexed_rows reader ≡ selected_count pages.items) }
         ensures given { IfOk result (λ reader. indexed_given reader ≡ 0) }
         ensures lent { IfOk result (λ reader. indexed_count reader ≡ 0) }
@@ -71,6 +74,8 @@ impl IndexedPageReader {
         ensures shaped { IfOk result (λ _. are_well_shaped pages.items ≡ true) }
         ensures all { IfOk result (λ _. has_parts pages.items (map (λ body. body.items) bodies.items) ≡ true) }
         ensures lends { IfOk result (λ reader. indexed_lent reader ≡ located_parts column.now.descriptor.primitive_type (option_map (λ part. part.items) dictionary) pages.items (map (λ body. body.items) bodies.items)) }
+        ensures typed { IfOk result (λ r. AreOfType column.now.descriptor.primitive_type (indexed_pages r)) }
+        ensures ordered { IfOk result (λ r. has_data_behind (indexed_pages r) ≡ true) }
         ensures rows { IfOk result (λ reader. indexed_rows reader ≡ selected_count pages.items) }
         ensures given { IfOk result (λ reader. indexed_given reader ≡ 0) }
         ensures lent { IfOk result (λ reader. indexed_count reader ≡ 0) }

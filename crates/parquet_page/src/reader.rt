@@ -1,5 +1,5 @@
 //! The pages of a whole chunk.
-ghost use Rattle.std.specs.Prelude.{◌≡◌, IsOk, IfOk, None};
+ghost use Rattle.std.specs.Prelude.{◌≡◌, IsOk, IfOk, None, true};
 
 use crate::cursor::Cursor;
 use crate::found::FoundPage;
@@ -22,13 +22,16 @@ pub struct PageReader {
 impl PageReader {
     ghost use Rattle.parquet_page.specs.Content.{content};
     ghost use Rattle.parquet_page.specs.Found.{IsInside, found_content};
+    ghost use Rattle.parquet_page.specs.Lending.{AreOfType, has_data_behind};
     ghost use Rattle.parquet_page.specs.Lent.{chunk_lent};
-    ghost use Rattle.parquet_page.specs.Reader.{reader_count, reader_given, reader_lent, reader_rows};
+    ghost use Rattle.parquet_page.specs.Reader.{reader_count, reader_given, reader_lent, reader_pages, reader_rows};
 
     /// Over the bytes of a column's chunk. Takes no memory.
     pub fn new(alloc: Global, buffer: Vec<u8>, column: &ColumnChunkMetaData) -> Result<Self, Error>
         ensures ok { IsOk result }
         ensures lends { IfOk result (λ reader. reader_lent reader ≡ chunk_lent column.now.descriptor.primitive_type column.now.num_values buffer.items) }
+        ensures typed { IfOk result (λ r. AreOfType column.now.descriptor.primitive_type (reader_pages r)) }
+        ensures ordered { IfOk result (λ r. has_data_behind (reader_pages r) ≡ true) }
         ensures rows { IfOk result (λ reader. reader_rows reader ≡ column.now.num_values) }
         ensures given { IfOk result (λ reader. reader_given reader ≡ 0) }
         ensures lent { IfOk result (λ reader. reader_count reader ≡ 0) }

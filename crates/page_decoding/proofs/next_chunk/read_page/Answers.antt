@@ -3,9 +3,11 @@ use Rattle.std.specs.Prelude.{Some, Ok, option_map}
 use Rattle.std.specs.Option.{option_copied}
 use Rattle.parquet_page.specs.Content.{DataOf, DictOf, data_content, dict_content}
 use Rattle.parquet_page.specs.declared.page.Page.TheVariants.{Data, Dict}
-use Rattle.page_decoding.specs.Outcome.{Outcome, Given, IsCausedBy}
+use Rattle.page_decoding.specs.Bytes.{IsCausedByChunks}
+use Rattle.page_decoding.specs.Outcome.{Outcome, Given, refusal_of}
 use Rattle.page_decoding.specs.Queue.{joined}
 use Rattle.page_decoding.specs.Standing.{FailsBy, standing}
+use Rattle.page_decoding.proofs.BytesLemmas.{chunks-right}
 use Rattle.page_decoding.proofs.NextLemmas.{is-lent, is-over, opens, fails-end, fails-page, lends-error, lent_shaped, still-advances, wrong_entries}
 use Rattle.page_decoding.proofs.StandingLemmas.{passes_entries, passes_rows}
 use Rattle.page_decoding.proofs.next_chunk.read_page.Goals as goal
@@ -46,8 +48,8 @@ returns-in_err-deserialize_dict-in-Some-Dict-clause-cause g c =
     let before = standing g.D.DecodedState.DecodedState.shown (g.D.Decoder.dict_shown c.args.decoder.now) c.args.items.now.items c.args.remaining.now c.args.dict.now in
     let page = dict_content c.in-Some-Dict.page in
     let error = c.in_err-deserialize_dict-in-Some-Dict.field-0.0 in
-    let fails : FailsBy entries outcomes old new causes before error =
-    fails-page entries outcomes (DictOf page) old new causes before error c.requires.some own.first (wrong_entries c.args.remaining.now (entries page) error c.requires.some c.in_err-deserialize_dict-in-Some-Dict.ensures.cause) in
+    let fails : FailsBy entries outcomes (g.D.Decoder.most_bytes c.args.decoder.now) c.args.chunk_size old new causes before error =
+    fails-page entries outcomes (g.D.Decoder.most_bytes c.args.decoder.now) c.args.chunk_size (DictOf page) old new causes before error c.requires.some own.first (chunks-right (g.D.Decoder.most_bytes c.args.decoder.now) c.args.chunk_size before.waiting (take c.args.remaining.now (refusal_of (entries page))) error (wrong_entries c.args.remaining.now (entries page) error c.requires.some c.in_err-deserialize_dict-in-Some-Dict.ensures.cause)) in
     search rules
 
 pub returns-in_err-add_page-in-Some-Data-clause-cause : goal.returns-in_err-add_page-in-Some-Data-clause-cause
@@ -64,8 +66,8 @@ returns-in_err-add_page-in-Some-Data-clause-cause g c =
     let page = data_content c.in-Some-Data.page in
     let same : outcomes (option_map shown (option_copied c.as_ref.result)) page ≡ outcomes before.dictionary page = ap (λ d. outcomes (option_map shown d) page) c.as_ref.ensures.value in
     let error = c.in_err-add_page-in-Some-Data.field-0.0 in
-    let P : List Outcome → Type 0 = λ rows. IsCausedBy (take c.args.remaining.now rows) error in
-    let fails : FailsBy entries outcomes old new causes before error = fails-page entries outcomes (DataOf page) old new causes before error c.requires.some own.first (subst P same c.in_err-add_page-in-Some-Data.ensures.cause) in
+    let P : List Outcome → Type 0 = λ rows. IsCausedByChunks (g.D.Decoder.most_bytes c.args.decoder.now) c.args.chunk_size (before.waiting ++ take c.args.remaining.now rows) error in
+    let fails : FailsBy entries outcomes (g.D.Decoder.most_bytes c.args.decoder.now) c.args.chunk_size old new causes before error = fails-page entries outcomes (g.D.Decoder.most_bytes c.args.decoder.now) c.args.chunk_size (DataOf page) old new causes before error c.requires.some own.first (subst P same c.in_err-add_page-in-Some-Data.ensures.cause) in
     search rules
 
 pub returns-in_err-next-clause-cause : goal.returns-in_err-next-clause-cause
@@ -78,7 +80,7 @@ returns-in_err-next-clause-cause g c =
     let before = standing g.D.DecodedState.DecodedState.shown (g.D.Decoder.dict_shown c.args.decoder.now) c.args.items.now.items c.args.remaining.now c.args.dict.now in
     let error = c.in_err-next.field-0.0 in
     let over = lends-error old causes error c.in_err-next.ensures.page in
-    let fails : FailsBy entries outcomes old new causes before error = fails-end entries outcomes old new causes before error c.requires.some over.0 (is-over error c.in_err-next.was c.next.follows.holds-at-none) over.1 in
+    let fails : FailsBy entries outcomes (g.D.Decoder.most_bytes c.args.decoder.now) c.args.chunk_size old new causes before error = fails-end entries outcomes (g.D.Decoder.most_bytes c.args.decoder.now) c.args.chunk_size old new causes before error c.requires.some over.0 (is-over error c.in_err-next.was c.next.follows.holds-at-none) over.1 in
     search rules
 
 pub returns-in_ok-deserialize_dict-in-Some-Dict-clause-rows : goal.returns-in_ok-deserialize_dict-in-Some-Dict-clause-rows

@@ -20,5 +20,4 @@ loop-wanted-preserved g c =
       fewer = omega (arith, before.fewer);
       cut = c.in_ok-taken.ensures.cut;
       own = c.in_ok-taken.ensures.own;
-      causes = λ error cause. before.causes error (turn.causes error cause);
     }

@@ -1,9 +1,8 @@
 use Rattle.std.proofs.Common.{◌≡◌, ◌-◌, ◌≤◌, min, ◌++◌, length, take, map}
 use Rattle.std.specs.Prelude.{All}
 use Rattle.std.specs.Option.{option_copied}
-use Rattle.columns_core.specs.declared.error.Error.{Error}
 use Rattle.parquet_page.specs.Content.{data_content}
-use Rattle.page_decoding.specs.Outcome.{Given, IsCausedBy}
+use Rattle.page_decoding.specs.Outcome.{Given}
 use Rattle.page_decoding.specs.Queue.{joined, IsCut}
 use Rattle.page_decoding.proofs.queue.extend_from_new_page.Given as goal
 
@@ -19,7 +18,6 @@ invariant-loop-wanted g l =
       fewer : l.remaining ≤ l.initial.remaining;
       cut : IsCut l.chunk_size (map shown l.items.items);
       own : All (g.D.Decoder.is_own l.decoder) l.items.items;
-      causes : (error : Error) → IsCausedBy (take l.remaining (left l.state)) error → IsCausedBy (take l.initial.remaining (left l.initial.state)) error;
     }
 
 abbrev pub decreases-loop-wanted : goal.decreases-loop-wanted

@@ -1,9 +1,11 @@
-use Rattle.std.proofs.Common.{◌≡◌, ◌∙◌, sym, ap, refl, length, take, arith}
+use Rattle.std.proofs.Common.{◌≡◌, ◌∙◌, sym, ap, subst, refl, length, take, arith}
 use Rattle.parquet_page.specs.Parts.{are_shaped}
-use Rattle.parquet_page.specs.Lent.{are_well_shaped, first_start, lie_within, selected_count}
+use Rattle.parquet_page.specs.Lending.{AreOfType, has_data_behind}
+use Rattle.parquet_page.specs.Lent.{Lent, are_well_shaped, first_start, lie_within, selected_count}
 use Rattle.parquet_page.specs.declared.parts.Parts.TheVariants.{Chunk}
 use Rattle.parquet_base.specs.Reading.{given}
 use Rattle.parquet_page.proofs.EntryLemmas.{counted_some, lends_chunk, rows_wanted, shaped_wanted}
+use Rattle.parquet_page.proofs.ReaderLemmas.{located_ordered, located_pages_are}
 use Rattle.parquet_page.proofs.indexed.IndexedPageReader.new.Goals as goal
 
 pub new-requires-clause-shaped : goal.new-requires-clause-shaped
@@ -26,3 +28,11 @@ returns-clause-lends c =
     let first = c.first_start.ensures ∙ ap first_start c.deref-3.ensures.value in
     rw (c.new.ensures.parts, c.new.ensures.entries, c.new.ensures.next, c.new.ensures.first, c.wanted.ensures)
     (lends_chunk type (Chunk c.args.buffer c.first_start.result) bytes pages (ap (λ n. take n bytes) first) (λ k entry. refl) within)
+
+pub returns-clause-typed : goal.returns-clause-typed
+returns-clause-typed c =
+    let type = c.args.column.now.descriptor.primitive_type in
+    subst (λ (lent : Lent). AreOfType type lent.pages) (sym (returns-clause-lends c)) (located_pages_are (λ page. page.type ≡ type) type (λ page same. same) _ _)
+
+pub returns-clause-ordered : goal.returns-clause-ordered
+returns-clause-ordered c = ap (λ (lent : Lent). has_data_behind lent.pages) (returns-clause-lends c) ∙ located_ordered c.args.column.now.descriptor.primitive_type _ _
