@@ -1,21 +1,20 @@
 -- Calls for the next array of a column come to an end.
-use Rattle.std.proofs.Common.{◌≡◌, ℕ, zero, suc, ◌+◌, ◌-◌, ◌<◌, ◌≤◌, Bool, true, false, List, [], ◌∷◌, length, refl, ap, subst, inl, arith}
-use Rattle.std.specs.Prelude.{if◌then◌else◌, min, Option, Some, None, Result, Ok, Err, OnSome}
+use Rattle.std.proofs.Common.{◌≡◌, ℕ, zero, suc, ◌+◌, ◌-◌, ◌<◌, ◌≤◌, Bool, true, false, List, [], ◌∷◌, ◌++◌, length, map, refl, sym, ap, ◌∙◌, subst, inl, arith}
+use Rattle.std.specs.Prelude.{if◌then◌else◌, min, sum_by, Option, Some, None, Result, Ok, Err, OnSome}
 use Rattle.std.specs.Iterator.{MakesProgress}
 use Rattle.std.proofs.lemmas.List.{length-drop, length-map, length-take}
 use Rattle.columns_core.specs.Causes.{Cause, is_empty}
 use Rattle.columns_core.specs.declared.cell.Cell.{Cell}
 use Rattle.columns_core.specs.declared.data_type.DataType.{DataType}
 use Rattle.columns_core.specs.declared.error.Error.{Error}
-use Rattle.parquet_meta.specs.declared.metadata.PhysicalType.{PhysicalType}
 use Rattle.parquet_page.specs.Content.{Content, DataContent, DictContent}
+use Rattle.page_decoding.specs.Bytes.{cell_bytes, fits_most}
 use Rattle.page_decoding.specs.NextChunk.{IsFirstChunk}
 use Rattle.page_decoding.specs.Outcome.{Outcome, Given, causes_in}
 use Rattle.page_decoding.specs.Column.{page_rows}
+use Rattle.page_decoding.specs.Queue.{first_chunk}
 use Rattle.page_decoding.specs.Standing.{Standing, after_page, after_pages}
-use Rattle.flat_values.specs.Arrays.{ArraysLeft}
-use Rattle.flat_values.specs.Conversion.{Conversion}
-use Rattle.flat_values.specs.NextArray.{GivesArray, arrays_at_most, rows_wanted}
+use Rattle.flat_values.specs.ColumnLeft.{ColumnLeft, GivesArray, GivesColumn, arrays_at_most, wanted}
 
 fewer : (b : Bool) (remaining own : ℕ) → (if b then remaining - own else 0) ≤ remaining
 fewer true remaining own = omega arith
@@ -48,27 +47,98 @@ none_long : (outcomes : List Outcome) → length outcomes ≡ 0 → outcomes ≡
 none_long [] e = refl
 none_long (outcome ∷ outcomes) e = absurd (omega (arith, e))
 
-module _ {I V X : Type 0} (rule : V → Conversion) (physical : V → PhysicalType) (to_come : I → List Content) (causes : I → List Cause) (row_count lent_count : I → ℕ) (array_type : X → DataType) (cells : X → List Cell) where
-  abbrev wanted : ArraysLeft I V → ℕ
-  wanted left = length (rows_wanted rule physical to_come causes left) + min 1 left.chunks.remaining
+-- no more calls than this give something
+abbrev pub calls : ColumnLeft → ℕ
+calls left = length (wanted left) + min 1 left.standing.remaining
 
-  nearer : (old : ArraysLeft I V) (result : Option (Result X Error)) (new : ArraysLeft I V) → GivesArray rule physical to_come causes row_count lent_count array_type cells old result new → OnSome result (wanted new < wanted old)
-  nearer old None new gives = tt
-  nearer old (Some (Ok array)) new gives =
-      let few = chunk_smaller cells old.chunks.size _ _ array gives.chunk in
-      let read = gives.pages.1 in
-      let rest : new.chunks.remaining ≤ old.chunks.remaining = subst (λ (s : Standing). s.remaining ≤ old.chunks.remaining) read.reached (falls _ _ _ read.lent_pages) in
+module _ {X : Type 0} (type_of : X → DataType) (shown : X → List Cell) where
+  pub nearer : (old : ColumnLeft) (result : Option (Result X Error)) (new : ColumnLeft) (steps steps_now : ℕ) → GivesColumn type_of shown old result new steps steps_now → OnSome result (calls new < calls old)
+  nearer old None new steps steps_now gives = tt
+  nearer old (Some (Ok array)) new steps steps_now gives =
+      let few = chunk_smaller shown old.size _ _ array gives.chunk in
+      let read = gives.pages in
+      let rest : new.standing.remaining ≤ old.standing.remaining = subst (λ (s : Standing). s.remaining ≤ old.standing.remaining) read.reached (falls _ _ _ read.lent_pages) in
       omega (arith, few, rest)
-  nearer old (Some (Err error)) new gives =
+  nearer old (Some (Err error)) new steps steps_now gives =
       let none = ap length gives.chunk.1 in
-      let finished : new.chunks.remaining ≡ 0 = gives.pages.1.reached.1 in
-      let more = some_left (length (rows_wanted rule physical to_come causes old)) old.chunks.remaining (λ no_row no_wanted. awaited no_row no_wanted) in
+      let finished : new.standing.remaining ≡ 0 = gives.pages.reached.1 in
+      let more = some_left (length (wanted old)) old.standing.remaining (λ no_row no_wanted. awaited no_row no_wanted) in
       omega (arith, more, none, finished) where
-        awaited : length (rows_wanted rule physical to_come causes old) ≡ 0 → old.chunks.remaining ≡ 0 → ⊥
+        awaited : length (wanted old) ≡ 0 → old.standing.remaining ≡ 0 → ⊥
         awaited no_row no_wanted = let e = gives.ended (none_long _ no_row) (inl no_wanted) in cc
 
   -- each array, and each error, is a step nearer to the end
-  pub goes : {can : ArraysLeft I V → Type 0} → ((left : ArraysLeft I V) → can left) → (old : ArraysLeft I V) (result : Option (Result X Error)) (new : ArraysLeft I V) → GivesArray rule physical to_come causes row_count lent_count array_type cells old result new
-      → MakesProgress can (arrays_at_most rule physical to_come causes) old result new
-  goes can old None new gives = record { on = λ _. tt; keeps = tt; rests = λ finite. finite }
-  goes can old (Some given) new gives = record { on = λ finite. (can new, finite, nearer old (Some given) new gives); keeps = can new; rests = λ _. tt }
+  pub goes : {S : Type 0} (left : S → ColumnLeft) {can : S → Type 0} → ((s : S) → can s) → (old : S) (result : Option (Result X Error)) (new : S) → GivesArray type_of shown (left old) result (left new)
+      → MakesProgress can (λ s. arrays_at_most (left s)) old result new
+  goes left can old None new gives = record { on = λ _. tt; keeps = tt; rests = λ finite. finite }
+  goes left can old (Some given) new gives = record { on = λ finite. (can new, finite, nearer (left old) (Some given) (left new) 0 gives.0 gives.1); keeps = can new; rests = λ _. tt }
+
+module _ {X Y : Type 0} (type_of : X → DataType) (shown : X → List Cell) (own_type : Y → DataType) (own_cells : Y → List Cell) (result : Option (Result X Error)) (own : Option (Result Y Error)) (old new : ColumnLeft) (steps steps_now : ℕ) where
+  -- An array with the type and the cells of another is given as that one is.
+  pub same_given : (array : X) (column : Y) → result ≡ Some (Ok array) → own ≡ Some (Ok column) → own_type column ≡ type_of array → own_cells column ≡ shown array
+      → GivesColumn type_of shown old result new steps steps_now → GivesColumn own_type own_cells old own new steps steps_now
+  same_given array column is own-is typed same given =
+      let G : Option (Result X Error) → Type 0 = λ found. GivesColumn type_of shown old found new steps steps_now in
+      let H : Option (Result Y Error) → Type 0 = λ found. GivesColumn own_type own_cells old found new steps steps_now in
+      subst H (sym own-is) (by (subst G is given)) where
+        by : GivesColumn type_of shown old (Some (Ok array)) new steps steps_now → GivesColumn own_type own_cells old (Some (Ok column)) new steps steps_now
+        by gives =
+            let back = sym same in
+            let P : List Cell → Type 0 = λ cells. 0 < length cells in
+            let Q : List Cell → Type 0 = λ cells. map Given cells ≡ first_chunk old.size (wanted old) in
+            let F : List Cell → Type 0 = λ cells. fits_most old.decoding.most_bytes (sum_by cell_bytes cells) ≡ true in
+            let R : List Cell → Type 0 = λ cells. after_pages old.decoding.entries old.decoding.outcomes old.standing gives.pages.lent_pages ≡ record { waiting = map Given cells ++ new.standing.waiting; remaining = new.standing.remaining; dictionary = new.standing.dictionary } in
+            record {
+              chunk = record { some = subst P back gives.chunk.some; cells = subst Q back gives.chunk.cells; others = gives.chunk.others };
+              typed = typed ∙ gives.typed;
+              fits = subst F back gives.fits;
+              pages = record { lent_pages = gives.pages.lent_pages; split = gives.pages.split; needed = gives.pages.needed; reached = subst R back gives.pages.reached; tells = tt; ticked = gives.pages.ticked; counted = gives.pages.counted; data_alone = gives.pages.data_alone };
+              end = tt;
+              ended = λ none ends. let e = gives.ended none ends in cc;
+              decoding = gives.decoding;
+              size = gives.size;
+              data_type = gives.data_type;
+              row_count = gives.row_count;
+            }
+
+  -- so is an error
+  pub same_failed : (error : Error) → result ≡ Some (Err error) → own ≡ Some (Err error) → GivesColumn type_of shown old result new steps steps_now → GivesColumn own_type own_cells old own new steps steps_now
+  same_failed error is own-is given =
+      let G : Option (Result X Error) → Type 0 = λ found. GivesColumn type_of shown old found new steps steps_now in
+      let H : Option (Result Y Error) → Type 0 = λ found. GivesColumn own_type own_cells old found new steps steps_now in
+      subst H (sym own-is) (by (subst G is given)) where
+        by : GivesColumn type_of shown old (Some (Err error)) new steps steps_now → GivesColumn own_type own_cells old (Some (Err error)) new steps steps_now
+        by gives =
+            record {
+              chunk = gives.chunk;
+              typed = tt;
+              fits = tt;
+              pages = record { lent_pages = gives.pages.lent_pages; split = gives.pages.split; needed = gives.pages.needed; reached = gives.pages.reached; tells = gives.pages.tells; ticked = gives.pages.ticked; counted = gives.pages.counted; data_alone = gives.pages.data_alone };
+              end = tt;
+              ended = λ none ends. let e = gives.ended none ends in cc;
+              decoding = gives.decoding;
+              size = gives.size;
+              data_type = gives.data_type;
+              row_count = gives.row_count;
+            }
+
+  -- and so is the end
+  pub same_none : result ≡ None → own ≡ None → GivesColumn type_of shown old result new steps steps_now → GivesColumn own_type own_cells old own new steps steps_now
+  same_none is own-is given =
+      let G : Option (Result X Error) → Type 0 = λ found. GivesColumn type_of shown old found new steps steps_now in
+      let H : Option (Result Y Error) → Type 0 = λ found. GivesColumn own_type own_cells old found new steps steps_now in
+      subst H (sym own-is) (by (subst G is given)) where
+        by : GivesColumn {X = X} type_of shown old None new steps steps_now → GivesColumn {X = Y} own_type own_cells old None new steps steps_now
+        by gives =
+            record {
+              chunk = gives.chunk;
+              typed = tt;
+              fits = tt;
+              pages = record { lent_pages = gives.pages.lent_pages; split = gives.pages.split; needed = gives.pages.needed; reached = gives.pages.reached; tells = tt; ticked = gives.pages.ticked; counted = gives.pages.counted; data_alone = gives.pages.data_alone };
+              end = gives.end;
+              ended = λ none ends. refl;
+              decoding = gives.decoding;
+              size = gives.size;
+              data_type = gives.data_type;
+              row_count = gives.row_count;
+            }

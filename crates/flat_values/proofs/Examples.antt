@@ -30,7 +30,7 @@ use Rattle.parquet_page.specs.Spelling.{page_keys, places_and_values, spelled}
 use Rattle.parquet_page.specs.Stored.{Stored, Number, Words, Octets}
 use Rattle.parquet_page.specs.Values.{dictionary_keys, plain_values}
 use Rattle.page_decoding.specs.Outcome.{Given, Refused}
-use Rattle.flat_values.specs.Conversion.{Item, Value, NotInRange, Keep, convert}
+use Rattle.flat_values.specs.Conversion.{Item, Value, NotInRange, Keep, LowNanoseconds, convert}
 use Rattle.flat_values.specs.Outcomes.{place_outcomes, selected_outcomes, value_outcomes}
 use Rattle.flat_values.specs.Pairs.{entry_from_physical, conversion}
 use Rattle.flat_values.specs.Units.{unit_factor}
@@ -83,6 +83,13 @@ second_day = refl
 just_before : converted (required Int96) (type.Timestamp Second None) (Words 2437873663 20116 2440587) ≡ Some (Value (Int (pos 0)))
 unfolding type.out-DataType denote.Hole.Carrier.out
 just_before = refl
+
+-- the same moment in the low bits, and one whose nanoseconds pass 64 bits
+bits_just_before : convert LowNanoseconds (Words 2437873663 20116 2440587) ≡ Value (Int (pos 18446744073709551615))
+bits_just_before = refl
+
+bits_of_no_time : convert LowNanoseconds (Words 0 0 4294967295) ≡ NotInRange
+bits_of_no_time = refl
 
 two_byte_decimal : converted (required (FixedLenByteArray 2)) (type.Decimal 4 0) (Octets (0xFF ∷ 0x85 ∷ [])) ≡ Some (Value (Int (negsuc 122)))
 unfolding type.out-DataType denote.Hole.Carrier.out little_endian

@@ -35,9 +35,10 @@ use Rattle.parquet_page.proofs.PlanLemmas.{along-null, along-passed, along-plan,
 use Rattle.parquet_page.proofs.SpelledLemmas.{are_placed, no_cause}
 use Rattle.page_decoding.proofs.FilteredLemmas.{stored-plan}
 use Rattle.page_decoding.proofs.NextLemmas.{nothing_wrong}
-use Rattle.page_decoding.proofs.RowLemmas.{caused-left, caused-right}
+use Rattle.page_decoding.proofs.BytesLemmas.{chunks-left}
 use Rattle.page_decoding.specs.FilteredLeft.{stored_values}
-use Rattle.page_decoding.specs.Outcome.{Outcome, Given, IsCausedBy, causes_in, page_outcomes}
+use Rattle.page_decoding.specs.Bytes.{IsCausedByChunks}
+use Rattle.page_decoding.specs.Outcome.{Outcome, Given, causes_in, page_outcomes}
 use Rattle.flat_values.specs.Conversion.{Conversion}
 use Rattle.flat_values.specs.FlatLeft.{behind_part, behind_run, causes_unless_none, given_along, part_outcomes, read_encoding, run_outcomes, value_bytes}
 use Rattle.flat_values.specs.Outcomes.{place_outcomes, placed_outcome, selected_outcomes, value_causes, value_outcomes}
@@ -172,17 +173,19 @@ turn which wanted old new values gives enough =
       shorter = omega (arith, gives.1, ap length gives.0, length-append steps new, length-part which);
     }
 
-pub part-caused : (which : ValidityPart) (wanted : ℕ) (old new : List Step) (values : List Outcome) (error : Error) → Turn which wanted old new values → IsCausedBy (part_outcomes which values) error → IsCausedBy (take wanted (given_along old values)) error
-part-caused which wanted old new values error turn told =
-    let P : List Outcome → Type 0 = λ xs. IsCausedBy xs error in
-    subst P (sym turn.taken) (caused-left (part_outcomes which values) (take (wanted - part_rows which) (given_along new (behind_part which values))) error told)
+pub part-caused : (most : Option ℕ) (which : ValidityPart) (wanted : ℕ) (old new : List Step) (values : List Outcome) (shown : List Cell) (error : Error) → Turn which wanted old new values
+    → IsCausedByChunks most None (map Given shown ++ part_outcomes which values) error → IsCausedByChunks most None (map Given shown ++ take wanted (given_along old values)) error
+part-caused most which wanted old new values shown error turn told =
+    let own = part_outcomes which values in
+    let next = take (wanted - part_rows which) (given_along new (behind_part which values)) in
+    let P : List Outcome → Type 0 = λ rows. IsCausedByChunks most None rows error in
+    subst P (append_assoc (map Given shown) own next ∙ ap (λ rows. map Given shown ++ rows) (sym turn.taken)) (chunks-left most None (map Given shown ++ own) next error told)
 
 -- what the loop keeps, where a part is appended
 pub record Turned (wanted rows : ℕ) (old new : List Step) (values behind : List Outcome) (shown more : List Cell) : Type 0 where
   pub enough : length behind ≡ stored_values new
   pub all : map Given more ++ take (wanted - rows) (given_along new behind) ≡ map Given shown ++ take wanted (given_along old values)
   pub rest : drop (wanted - rows) (given_along new behind) ≡ drop wanted (given_along old values)
-  pub causes : (error : Error) → IsCausedBy (take (wanted - rows) (given_along new behind)) error → IsCausedBy (take wanted (given_along old values)) error
 
 pub turned : (which : ValidityPart) (wanted rows : ℕ) (old new : List Step) (values behind : List Outcome) (shown more : List Cell) → Turn which wanted old new values → rows ≡ part_rows which → behind ≡ behind_part which values → map Given more ≡ map Given shown ++ part_outcomes which values
     → Turned wanted rows old new values behind shown more
@@ -193,7 +196,6 @@ turned which wanted rows old new values behind shown more turn counted is cells 
       enough = turn.enough;
       all = ap (λ xs. xs ++ next) cells ∙ append_assoc (map Given shown) own next ∙ ap (λ xs. map Given shown ++ xs) (sym turn.taken);
       rest = sym turn.left;
-      causes = λ error told. let P : List Outcome → Type 0 = λ xs. IsCausedBy xs error in subst P (sym turn.taken) (caused-right own next error told);
     } in
     let P : ℕ → Type 0 = λ n. Turned wanted n old new values (behind_part which values) shown more in
     let Q : List Outcome → Type 0 = λ xs. Turned wanted rows old new values xs shown more in
@@ -234,7 +236,6 @@ pub record RunTurned (old new : List Bool) (values behind : List Outcome) (shown
   pub enough : present_count new ≤ length behind
   pub cells : map Given more ++ given_along (plan None new) behind ≡ map Given shown ++ given_along (plan None old) values
   pub left : drop (present_count new) behind ≡ drop (present_count old) values
-  pub causes : (error : Error) → IsCausedBy (given_along (plan None new) behind) error → IsCausedBy (given_along (plan None old) values) error
 
 run-turned : (kind : Bool) (rows : ℕ) (old new : List Bool) (values behind : List Outcome) (shown more : List Cell) → old ≡ replicate rows kind ++ new → present_count old ≤ length values → behind ≡ behind_run (run_of kind rows) values
     → map Given more ≡ map Given shown ++ run_outcomes (run_of kind rows) values → RunTurned old new values behind shown more
@@ -246,7 +247,6 @@ run-turned kind rows old new values behind shown more begins enough is cells =
       enough = turn.enough;
       cells = ap (λ xs. xs ++ rest) cells ∙ append_assoc (map Given shown) own rest ∙ ap (λ xs. map Given shown ++ xs) (sym turn.split);
       left = turn.left;
-      causes = λ error told. let P : List Outcome → Type 0 = λ xs. IsCausedBy xs error in subst P (sym turn.split) (caused-right own rest error told);
     } in
     let P : List Outcome → Type 0 = λ xs. RunTurned old new values xs shown more in
     subst P (sym is) now
@@ -262,11 +262,14 @@ null-turned true rows old new values shown more is begins enough cells = cc
 null-turned false rows old new values shown more is begins enough cells = run-turned false rows old new values values shown more begins enough refl (nulls-behind rows shown more cells)
 
 -- what is wrong with the values of a run is wrong with its word
-pub run-caused : (kind : Bool) (rows : ℕ) (old new : List Bool) (values : List Outcome) (error : Error) → kind ≡ true → old ≡ replicate rows kind ++ new → present_count old ≤ length values → IsCausedBy (take rows values) error → IsCausedBy (given_along (plan None old) values) error
-run-caused true rows old new values error is begins enough told =
-    let P : List Outcome → Type 0 = λ xs. IsCausedBy xs error in
-    subst P (sym (run-first true rows old new values begins enough).split) (caused-left (take rows values) (given_along (plan None new) (drop rows values)) error told)
-run-caused false rows old new values error is begins enough told = cc
+pub run-caused : (most : Option ℕ) (kind : Bool) (rows : ℕ) (old new : List Bool) (values : List Outcome) (shown : List Cell) (error : Error) → kind ≡ true → old ≡ replicate rows kind ++ new
+    → present_count old ≤ length values → IsCausedByChunks most None (map Given shown ++ take rows values) error → IsCausedByChunks most None (map Given shown ++ given_along (plan None old) values) error
+run-caused most true rows old new values shown error is begins enough told =
+    let own = take rows values in
+    let next = given_along (plan None new) (drop rows values) in
+    let P : List Outcome → Type 0 = λ all. IsCausedByChunks most None all error in
+    subst P (append_assoc (map Given shown) own next ∙ ap (λ all. map Given shown ++ all) (sym (run-first true rows old new values begins enough).split)) (chunks-left most None (map Given shown ++ own) next error told)
+run-caused most false rows old new values shown error is begins enough told = cc
 
 -- ---- what is wrong with a page
 
@@ -402,7 +405,7 @@ pub selected-map : {A B : Type 0} (f : A → B) (selected : Option (List Interva
 selected-map f None xs = refl
 selected-map f (Some rows) xs = covered-map f rows 0 xs
 
-length-some : (rule : Conversion) (type : PhysicalType) (entries : Option (List Cell)) (encoding : Encoding) (bytes : List ℕ) (n : ℕ) (left : List Outcome) → unless_none n (value_outcomes rule type entries encoding bytes n) ≡ Some left → length left ≡ n
+pub length-some : (rule : Conversion) (type : PhysicalType) (entries : Option (List Cell)) (encoding : Encoding) (bytes : List ℕ) (n : ℕ) (left : List Outcome) → unless_none n (value_outcomes rule type entries encoding bytes n) ≡ Some left → length left ≡ n
 length-some rule type entries encoding bytes zero left e = ap length (sym (some_is [] left e))
 length-some rule type entries encoding bytes (suc n) left e = length-outcomes rule type entries encoding bytes (suc n) left e
 

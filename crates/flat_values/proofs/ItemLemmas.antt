@@ -1,5 +1,5 @@
 -- Items of one size, joined.
-use Rattle.std.proofs.Common.{◌≡◌, ℕ, zero, suc, ◌+◌, ◌*◌, ◌/◌, ◌<◌, ◌≤◌, List, [], ◌∷◌, ◌++◌, length, take, drop, replicate, get_or, ◌-◌, refl, sym, ap, ap₂, subst, ◌∙◌, arith}
+use Rattle.std.proofs.Common.{◌≡◌, ℕ, zero, suc, ◌+◌, ◌*◌, ◌/◌, ◌<◌, ◌≤◌, List, [], ◌∷◌, ◌++◌, length, take, drop, replicate, get_or, ◌-◌, refl, sym, ap, ap₂, subst, ◌∙◌, append-nil, append_assoc, arith}
 use Rattle.std.specs.Prelude.{◌%◌}
 use Rattle.std.specs.List.{concat}
 use Rattle.std.specs.Simd.{first_chunks}
@@ -99,6 +99,27 @@ module _ (size : ℕ) (bytes : List ℕ) (has_size : 0 < size) (whole : length b
   -- so many items of zero bytes more
   pub with_zeros : (n : ℕ) → pieces size (bytes ++ replicate (n * size) 0) ≡ pieces size bytes ++ replicate n (replicate size 0)
   with_zeros n = pieces-append (replicate (n * size) 0) n (length-replicate (n * size) 0) ∙ ap (λ own. pieces size bytes ++ own) (chunks-replicate size n)
+
+-- the same item once more
+pub repeated_more : (item : List ℕ) (n : ℕ) → concat (replicate (n + 1) item) ≡ concat (replicate n item) ++ item
+repeated_more item n = let next : n + 1 ≡ suc n = omega arith in ap (λ k. concat (replicate k item)) next ∙ more n where
+  more : (n : ℕ) → concat (replicate (suc n) item) ≡ concat (replicate n item) ++ item
+  more zero = append-nil item
+  more (suc n) = ap (λ rest. item ++ rest) (more n) ∙ sym (append_assoc item (concat (replicate n item)) item)
+
+-- the same item so many times
+pub with_repeated : (size : ℕ) (item : List ℕ) → 0 < size → length item ≡ size → (n : ℕ) (bytes : List ℕ) → length bytes % size ≡ 0
+    → (pieces size (bytes ++ concat (replicate n item)) ≡ pieces size bytes ++ replicate n item) × (length (bytes ++ concat (replicate n item)) % size ≡ 0)
+with_repeated size item has_size long zero bytes whole = (ap (pieces size) (append-nil bytes) ∙ sym (append-nil (pieces size bytes)), ap (λ l. length l % size) (append-nil bytes) ∙ whole)
+with_repeated size item has_size long (suc n) bytes whole =
+    let one : size ≡ 1 * size = omega arith in
+    let rest = concat (replicate n item) in
+    let more : length (bytes ++ item) % size ≡ 0 = whole_with size bytes has_size whole item 1 (long ∙ one) in
+    let others = with_repeated size item has_size long n (bytes ++ item) more in
+    let split = sym (append_assoc bytes item rest) in (
+      ap (pieces size) split ∙ others.0 ∙ ap (λ front. front ++ replicate n item) (with_item size bytes has_size whole item long) ∙ append_assoc (pieces size bytes) (item ∷ []) (replicate n item),
+      ap (λ l. length l % size) split ∙ others.1,
+    )
 
 -- ---- what a contract sees
 

@@ -24,5 +24,9 @@ pub mod PlainLemmas
 pub mod EndLemmas
 pub mod Examples
 pub mod ReaderLemmas
-mod ArrayLemmas
+pub mod ArrayLemmas
 mod StringLemmas
+pub mod PairLemmas
+pub mod StateLemmas
+pub mod CauseLemmas
+pub mod NullColumn

@@ -27,6 +27,8 @@ pub data Conversion : Type 0 where
   Scale : ℕ → Bool → Conversion
   -- the time since the first of January 1970, in a unit of so many nanoseconds
   SinceEpoch : ℕ → Conversion
+  -- the low 64 bits of the nanoseconds since then, as a number without a sign
+  LowNanoseconds : Conversion
   -- bytes as a number with a sign, the first byte highest
   BigEndian : Conversion
   -- an interval's months; its days and milliseconds
@@ -58,6 +60,10 @@ int64 n = if is_in (signed 64) n then Value (Int n) else NotInRange
 abbrev pub since_epoch : ℕ → ℤ → Item
 since_epoch unit nanoseconds = if is_in (signed 64) nanoseconds then Value (Int (int_div nanoseconds (pos unit))) else NotInRange
 
+-- Also of low bits the nanoseconds themselves have to be a number of 64 bits.
+abbrev pub low_nanoseconds : ℤ → Item
+low_nanoseconds nanoseconds = if is_in (signed 64) nanoseconds then Value (Int (low_bits 64 nanoseconds)) else NotInRange
+
 -- ---- bytes
 
 abbrev pub big_endian : List ℕ → ℤ
@@ -82,6 +88,7 @@ convert (LowUnsigned bits) (Number n) = Value (Int (low_bits bits n))
 convert (LowSigned width) (Number n) = Value (Int (int_wrap width n))
 convert (Scale factor multiply) (Number n) = int64 (scaled factor multiply n)
 convert (SinceEpoch unit) (Words low high day) = since_epoch unit (nanoseconds_of low high day)
+convert LowNanoseconds (Words low high day) = low_nanoseconds (nanoseconds_of low high day)
 convert BigEndian (Octets bytes) = Value (Int (big_endian bytes))
 convert Months (Octets bytes) = Value (Int (int32_in bytes))
 convert DaysAndMilliseconds (Octets bytes) = Value (DaysMs (int32_in (drop 4 bytes)) (int32_in (drop 8 bytes)))

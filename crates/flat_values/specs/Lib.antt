@@ -1,6 +1,7 @@
 pub mod CellTypes
 pub mod Conversion
 pub mod Pairs
+pub mod MostBytes
 pub mod Numbers
 pub mod Items
 pub mod Outcomes
@@ -10,15 +11,17 @@ pub mod Added
 pub mod Decoded
 pub mod KeysLeft
 pub mod NumbersLeft
+pub mod TruthsLeft
 pub mod PassedKeys
 pub mod FixedLeft
 pub mod NullChunks
 pub mod FlatLeft
 pub mod FlatState
+pub mod OneEncoding
 pub mod Ends
 pub mod Sound
 pub mod Order
 pub mod Units
 pub mod FixedItems
+pub mod ColumnLeft
 pub mod Arrays
-pub mod NextArray

@@ -1,5 +1,5 @@
 -- What the values, the places and the dictionary of a column give to those who read it as a type.
-use Rattle.std.specs.Prelude.{ℕ, is_some, List, [], ◌∷◌, length, map, slice_get, Option, Some, None, option_map, unwrap_or, Result, Err}
+use Rattle.std.specs.Prelude.{ℕ, if◌then◌else◌, is_some, List, [], ◌∷◌, length, map, slice_get, sum_by, Option, Some, None, option_map, unwrap_or, Result, Ok, Err}
 use Rattle.std.specs.Option.{option_map_or}
 use Rattle.columns_core.specs.Causes.{Cause, ExternalFormat, OutOfSpec, Overflow, unless}
 use Rattle.columns_core.specs.declared.cell.Cell.{Cell, Null}
@@ -11,6 +11,7 @@ use Rattle.parquet_page.specs.Opened.{key_causes, page_causes}
 use Rattle.parquet_page.specs.Spelling.{dictionary_entries, page_encoding, places_and_values}
 use Rattle.parquet_page.specs.Stored.{Stored}
 use Rattle.parquet_page.specs.Values.{Encoding, Keys, dictionary_keys, unless_none, values_in}
+use Rattle.page_decoding.specs.Bytes.{cell_bytes, fits_most}
 use Rattle.page_decoding.specs.Outcome.{Outcome, Given, Refused, all_given, page_outcomes}
 use Rattle.flat_values.specs.Conversion.{Conversion, Item, Value, NotInRange, NotText, convert}
 
@@ -60,3 +61,13 @@ selected_outcomes rule entries page =
 -- the entries of a dictionary page, converted, or what is wrong with it
 unfoldable pub dictionary_cells : Conversion → PhysicalType → DictContent → Result (List Cell) (List Cause)
 dictionary_cells rule type page = option_map_or (λ stored. all_given (map (stored_outcome rule) stored)) (dictionary_entries type page) (Err (ExternalFormat ∷ []))
+
+-- entries whose bytes have to fit, where there is a most
+abbrev pub fitted : Option ℕ → Result (List Cell) (List Cause) → Result (List Cell) (List Cause)
+fitted None found = found
+fitted (Some most) (Ok cells) = if fits_most (Some most) (sum_by cell_bytes cells) then Ok cells else Err (Overflow ∷ [])
+fitted (Some most) (Err causes) = Err causes
+
+-- the entries of a dictionary page, whose bytes have to fit
+abbrev pub fitted_by : Option ℕ → Conversion → PhysicalType → DictContent → Result (List Cell) (List Cause)
+fitted_by most rule type page = fitted most (dictionary_cells rule type page)

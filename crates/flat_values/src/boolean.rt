@@ -1,20 +1,66 @@
 //! Columns that are read as truth values.
-ghost use Rattle.std.specs.Prelude.{◌≡◌, IsTrue, [], None, IfOk, IfErr};
-ghost use Rattle.columns_core.specs.Causes.{is_invalid_argument};
+ghost use Rattle.std.specs.Prelude.{◌≡◌, IsTrue, true, [], None, IfOk, IfErr, take};
+ghost use Rattle.columns_core.specs.Causes.{ComesOf, is_invalid_argument};
 ghost use Rattle.columns_core.specs.ElementType.{is_boolean};
 ghost use Rattle.page_decoding.specs.Column.{DataPagesAre};
+ghost use Rattle.page_decoding.specs.Outcome.{causes_in};
 ghost use Rattle.page_decoding.specs.Queue.{IsChunkSize};
 ghost use Rattle.parquet_meta.specs.declared.metadata.PhysicalType.TheVariants.{Boolean};
+ghost use Rattle.parquet_page.specs.Content.{DataOf, data_content, is_shaped};
+ghost use Rattle.flat_values.specs.Conversion.{Keep};
+ghost use Rattle.flat_values.specs.FlatState.{IsFlatState, state_outcomes};
+ghost use Rattle.flat_values.specs.Outcomes.{selected_outcomes};
+ghost use Rattle.flat_values.specs.TruthsLeft.{IsOverTruths, truth_outcomes};
 
-use crate::{ArrayIter, TruthValues};
+use crate::{FlatDecoder, FlatIter, FlatState, TruthValues};
 use columns_core::{DataType, Error};
-use parquet_page::Pages;
+use page_decoding::Decoder;
+use parquet_encoding::PlainBits;
+use parquet_page::{DataPage, Pages};
 use std::alloc::Global;
 
 /// Arrays of truth values.
-pub type Iter<I> = ArrayIter<I, TruthValues>;
+pub type Iter<I> = FlatIter<I, TruthValues>;
 
-impl<I: Pages> ArrayIter<I, TruthValues> {
+/// A place in a page of truth values.
+pub type State = FlatState<PlainBits>;
+
+/// Decodes pages of truth values.
+pub type BooleanDecoder = FlatDecoder<TruthValues>;
+
+impl Default for FlatDecoder<TruthValues> {
+    fn default() -> Self {
+        FlatDecoder {
+            values: TruthValues,
+        }
+    }
+}
+
+/// A place in a page of truth values.
+pub type Values = State;
+
+/// A place in a page of truth values that all have one.
+pub type Required = State;
+
+/// A place among the selected rows of a page of truth values that all have one.
+pub type FilteredRequired = State;
+
+impl FlatState<PlainBits> {
+    /// Before the first selected row of a page of truth values.
+    pub fn try_new(page: &DataPage<'_>) -> Result<Self, Error>
+        requires takes { (data_content page.now).type.physical_type ≡ Boolean }
+        requires shaped { is_shaped (DataOf (data_content page.now)) ≡ true }
+        ensures state { IfOk result (IsFlatState IsOverTruths truth_outcomes (data_content page.now)) }
+        ensures rows { let outcomes = selected_outcomes Keep None (data_content page.now) in
+            IfOk result (λ state. state_outcomes truth_outcomes (data_content page.now) state ≡ outcomes) }
+        ensures cause { let outcomes = selected_outcomes Keep None (data_content page.now) in
+            ComesOf result (causes_in (take 1 outcomes)) }
+    {
+        BooleanDecoder::default().build_state(page, None)
+    }
+}
+
+impl<I: Pages> FlatIter<I, TruthValues> {
     /// The rows of these pages, at most so many.
     pub fn new(
         alloc: Global,

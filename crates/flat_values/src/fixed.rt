@@ -1,5 +1,5 @@
 //! Byte strings of one size of a page, and those that were decoded.
-ghost use Rattle.std.specs.Prelude.{◌≡◌, ◌↔◌, ◌++◌, ◌<◌, ◌*◌, [], ◌∷◌, ℕ, IsTrue, List, Option, length, map, take, drop, None, Some, IfOk, IfErr, IfSome, OnOk, IsSome};
+ghost use Rattle.std.specs.Prelude.{◌≡◌, ◌↔◌, ◌++◌, ◌<◌, ◌*◌, [], ◌∷◌, ℕ, IsTrue, List, Option, length, map, take, drop, None, Some, refl, IfOk, IfErr, IfSome, OnOk, IsSome};
 ghost use Rattle.std.specs.Option.{option_copied, option_map, option_map_or};
 ghost use Rattle.columns_core.specs.Causes.{ComesOf, ExternalFormat, IsWantOfMemory, OutOfSpec, cause_of, is_invalid_argument};
 ghost use Rattle.columns_core.specs.ElementType.{fixed_size};
@@ -17,7 +17,7 @@ ghost use Rattle.parquet_encoding.specs.PlainLeft.{fixed_left, fixed_values, val
 
 use crate::keys::{CHUNK, KeyPlace};
 use crate::validity::{freeze_mask, mark_nulls, mark_values};
-use crate::{FixedSizeBinary, IntoArray, ValueDecoder, ValueEncoding};
+use crate::{FixedSizeBinary, IntoArray, ValueDecoder, ValueEncoding, Values};
 use columns_core::{DataType, Error, FixedSizeBinaryArray, MutableBitmap, Part};
 use page_decoding::DecodedState;
 use parquet_encoding::PlainFixed;
@@ -247,20 +247,12 @@ impl FixedValues {
     }
 }
 
-impl ValueDecoder for FixedValues {
-    ghost use Rattle.parquet_meta.specs.declared.metadata.PhysicalType.TheVariants.{FixedLenByteArray};
-
-    type Values = FixedPlace;
+impl Values for FixedValues {
+    type Place = FixedPlace;
 
     type Dict = FixedSizeBinary;
 
     type Decoded = DecodedFixed;
-
-    ghost physical = { λ fixed. FixedLenByteArray fixed.size };
-
-    ghost rule = { λ _. Keep };
-
-    ghost dict_shown = { λ _ dict. map Bytes dict.items };
 
     ghost is_own = { λ fixed decoded. (decoded.values.size ≡ fixed.size) × IsMaskFor decoded.values.items decoded.validity };
 
@@ -269,6 +261,51 @@ impl ValueDecoder for FixedValues {
     ghost is_over = { λ fixed bytes place. IsAmongFixed fixed.size bytes place };
 
     ghost left = { λ _ dict bytes place. fixed_outcomes Keep (entry_cells dict) bytes place };
+
+    ghost most_bytes = { λ _. None };
+
+    ghost own_fits = { λ _ _ _. refl };
+
+    fn take(
+        &self,
+        bytes: &[u8],
+        dict: Option<&FixedSizeBinary>,
+        place: &mut FixedPlace,
+        decoded: &mut DecodedFixed,
+        count: usize,
+    ) -> Result<(), Error> {
+        let held = decoded.values.len();
+        *place = take_values(*place, bytes, dict, &mut decoded.values, count)?;
+        let taken = decoded.values.len() - held;
+        mark_values(&mut decoded.validity, taken)
+    }
+
+    fn skip(&self, bytes: &[u8], place: &mut FixedPlace, count: usize) {
+        *place = skip_values(*place, bytes, count);
+    }
+
+    fn push_nulls(&self, decoded: &mut DecodedFixed, count: usize) -> Result<(), Error> {
+        let held = decoded.values.len();
+        decoded.values.extend_constant(count)?;
+        mark_nulls(&mut decoded.validity, held, count)
+    }
+
+    fn with_capacity(&self, alloc: Global, capacity: usize) -> Result<DecodedFixed, Error> {
+        Ok(DecodedFixed {
+            values: no_items(alloc, capacity, self.size)?,
+            validity: MutableBitmap::with_capacity(alloc, 0)?,
+        })
+    }
+}
+
+impl ValueDecoder for FixedValues {
+    ghost use Rattle.parquet_meta.specs.declared.metadata.PhysicalType.TheVariants.{FixedLenByteArray};
+
+    ghost physical = { λ fixed. FixedLenByteArray fixed.size };
+
+    ghost rule = { λ _. Keep };
+
+    ghost dict_shown = { λ _ dict. map Bytes dict.items };
 
     fn open(
         &self,
@@ -289,37 +326,6 @@ impl ValueDecoder for FixedValues {
             // Deltas go with no byte strings of one size.
             ValueEncoding::DeltaPacked | ValueEncoding::DeltaLengths => unreachable!(),
         }
-    }
-
-    fn take(
-        &self,
-        bytes: &[u8],
-        dict: Option<&FixedSizeBinary>,
-        values: &mut FixedPlace,
-        decoded: &mut DecodedFixed,
-        count: usize,
-    ) -> Result<(), Error> {
-        let held = decoded.values.len();
-        *values = take_values(*values, bytes, dict, &mut decoded.values, count)?;
-        let taken = decoded.values.len() - held;
-        mark_values(&mut decoded.validity, taken)
-    }
-
-    fn skip(&self, bytes: &[u8], values: &mut FixedPlace, count: usize) {
-        *values = skip_values(*values, bytes, count);
-    }
-
-    fn push_nulls(&self, decoded: &mut DecodedFixed, count: usize) -> Result<(), Error> {
-        let held = decoded.values.len();
-        decoded.values.extend_constant(count)?;
-        mark_nulls(&mut decoded.validity, held, count)
-    }
-
-    fn with_capacity(&self, alloc: Global, capacity: usize) -> Result<DecodedFixed, Error> {
-        Ok(DecodedFixed {
-            values: no_items(alloc, capacity, self.size)?,
-            validity: MutableBitmap::with_capacity(alloc, 0)?,
-        })
     }
 
     fn read_dict(&self, alloc: Global, page: &DictPage<'_>) -> Result<FixedSizeBinary, Error> {

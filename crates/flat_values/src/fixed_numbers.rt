@@ -1,5 +1,5 @@
 //! Numbers of a column of byte strings of one size, read and converted.
-ghost use Rattle.std.specs.Prelude.{◌≡◌, ◌<◌, ◌%◌, IsTrue, Some, IfOk, IfErr, OnOk, IsSome, length, take, drop, map, option_map};
+ghost use Rattle.std.specs.Prelude.{◌≡◌, ◌<◌, ◌%◌, IsTrue, None, Some, refl, IfOk, IfErr, OnOk, IsSome, length, take, drop, map, option_map};
 ghost use Rattle.columns_core.specs.Causes.{ComesOf, IsWantOfMemory};
 ghost use Rattle.columns_core.specs.Fixed.{pieces};
 ghost use Rattle.page_decoding.specs.Outcome.{causes_in};
@@ -15,7 +15,9 @@ use crate::fixed::{open_plain, skip_values};
 use crate::keys::{KeyPlace, take_named};
 use crate::number_values::{entries_of, entry_count};
 use crate::validity::mark_values;
-use crate::{ConvertFixed, DecodedNumbers, FixedPlace, IntoArray, ValueDecoder, ValueEncoding};
+use crate::{
+    ConvertFixed, DecodedNumbers, FixedPlace, IntoArray, ValueDecoder, ValueEncoding, Values,
+};
 use columns_core::{DataType, Error, MutablePrimitiveArray, NativeType, Part};
 use parquet_encoding::PlainFixed;
 use parquet_page::DictPage;
@@ -110,20 +112,12 @@ impl<T: NativeType, C: ConvertFixed<T>> FixedNumbers<T, C> {
     }
 }
 
-impl<T: NativeType, C: ConvertFixed<T>> ValueDecoder for FixedNumbers<T, C> {
-    ghost use Rattle.parquet_meta.specs.declared.metadata.PhysicalType.TheVariants.{FixedLenByteArray};
-
-    type Values = FixedPlace;
+impl<T: NativeType, C: ConvertFixed<T>> Values for FixedNumbers<T, C> {
+    type Place = FixedPlace;
 
     type Dict = Vec<T>;
 
     type Decoded = DecodedNumbers<T>;
-
-    ghost physical = { λ reader. FixedLenByteArray (C.string_size reader.rule) };
-
-    ghost rule = { λ reader. C.rule reader.rule };
-
-    ghost dict_shown = { λ _ entries. map T.cell entries.items };
 
     ghost is_own = { λ _ decoded. IsMaskFor decoded.values.items decoded.validity };
 
@@ -132,6 +126,57 @@ impl<T: NativeType, C: ConvertFixed<T>> ValueDecoder for FixedNumbers<T, C> {
     ghost is_over = { λ reader bytes place. IsAmongFixed (C.string_size reader.rule) bytes place };
 
     ghost left = { λ reader dict bytes place. fixed_outcomes (C.rule reader.rule) (option_map (λ entries. map T.cell entries.items) dict) bytes place };
+
+    ghost most_bytes = { λ _. None };
+
+    ghost own_fits = { λ _ _ _. refl };
+
+    fn take(
+        &self,
+        bytes: &[u8],
+        dict: Option<&Vec<T>>,
+        place: &mut FixedPlace,
+        decoded: &mut DecodedNumbers<T>,
+        count: usize,
+    ) -> Result<(), Error> {
+        let entries = entries_of(dict);
+        let held = decoded.values.len();
+        let behind = take_values(
+            *place,
+            bytes,
+            entries,
+            self.rule,
+            &mut decoded.values,
+            count,
+        )?;
+        *place = behind;
+        let taken = decoded.values.len() - held;
+        mark_values(&mut decoded.validity, taken)
+    }
+
+    fn skip(&self, bytes: &[u8], place: &mut FixedPlace, count: usize) {
+        *place = skip_values(*place, bytes, count);
+    }
+
+    /// Nulls stand on what zero bytes become.
+    fn push_nulls(&self, decoded: &mut DecodedNumbers<T>, count: usize) -> Result<(), Error> {
+        let zero = self.rule.convert(&ZEROS[..self.rule.size()]);
+        decoded.push_nulls_on(count, zero)
+    }
+
+    fn with_capacity(&self, alloc: Global, capacity: usize) -> Result<DecodedNumbers<T>, Error> {
+        DecodedNumbers::with_capacity(alloc, capacity)
+    }
+}
+
+impl<T: NativeType, C: ConvertFixed<T>> ValueDecoder for FixedNumbers<T, C> {
+    ghost use Rattle.parquet_meta.specs.declared.metadata.PhysicalType.TheVariants.{FixedLenByteArray};
+
+    ghost physical = { λ reader. FixedLenByteArray (C.string_size reader.rule) };
+
+    ghost rule = { λ reader. C.rule reader.rule };
+
+    ghost dict_shown = { λ _ entries. map T.cell entries.items };
 
     fn open(
         &self,
@@ -152,43 +197,6 @@ impl<T: NativeType, C: ConvertFixed<T>> ValueDecoder for FixedNumbers<T, C> {
             // Deltas go with no byte strings of one size.
             ValueEncoding::DeltaPacked | ValueEncoding::DeltaLengths => unreachable!(),
         }
-    }
-
-    fn take(
-        &self,
-        bytes: &[u8],
-        dict: Option<&Vec<T>>,
-        values: &mut FixedPlace,
-        decoded: &mut DecodedNumbers<T>,
-        count: usize,
-    ) -> Result<(), Error> {
-        let entries = entries_of(dict);
-        let held = decoded.values.len();
-        let behind = take_values(
-            *values,
-            bytes,
-            entries,
-            self.rule,
-            &mut decoded.values,
-            count,
-        )?;
-        *values = behind;
-        let taken = decoded.values.len() - held;
-        mark_values(&mut decoded.validity, taken)
-    }
-
-    fn skip(&self, bytes: &[u8], values: &mut FixedPlace, count: usize) {
-        *values = skip_values(*values, bytes, count);
-    }
-
-    /// Nulls stand on what zero bytes become.
-    fn push_nulls(&self, decoded: &mut DecodedNumbers<T>, count: usize) -> Result<(), Error> {
-        let zero = self.rule.convert(&ZEROS[..self.rule.size()]);
-        decoded.push_nulls_on(count, zero)
-    }
-
-    fn with_capacity(&self, alloc: Global, capacity: usize) -> Result<DecodedNumbers<T>, Error> {
-        DecodedNumbers::with_capacity(alloc, capacity)
     }
 
     fn read_dict(&self, alloc: Global, page: &DictPage<'_>) -> Result<Vec<T>, Error> {

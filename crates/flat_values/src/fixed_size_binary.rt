@@ -5,12 +5,14 @@ ghost use Rattle.columns_core.specs.Causes.{IsWantOfMemory, is_invalid_argument}
 ghost use Rattle.columns_core.specs.ElementType.{fixed_size};
 ghost use Rattle.columns_core.specs.Fixed.{pieces};
 ghost use Rattle.page_decoding.specs.Queue.{IsChunkSize};
+ghost use Rattle.page_decoding.specs.Pushing.{GrowsByBlank};
 ghost use Rattle.flat_values.specs.FixedItems.{AreOfSize};
 
-use crate::{ArrayIter, FixedValues};
+use crate::{FixedValues, FlatDecoder, FlatIter};
 use columns_core::{DataType, Error, Part};
+use page_decoding::Pushable;
 use parquet_page::Pages;
-use std::alloc::Global;
+use std::alloc::{AllocError, Global};
 use std::marker::Model;
 
 /// Items of so many bytes each. A contract sees the size and the items.
@@ -130,6 +132,93 @@ impl FixedSizeBinary {
     }
 }
 
+impl FixedSizeBinary {
+    /// The same item so many times.
+    pub fn extend_repeated(&mut self, additional: usize, value: &[u8]) -> Result<(), Error>
+        requires { length value.now ≡ self.old.size }
+        ensures ok { OnOk result (self.new ≡ record self.old { items = self.old.items ++ replicate additional value.now }) }
+        ensures err { IfErr result (λ e. IsWantOfMemory e × (self.new ≡ self.old)) }
+    {
+        repeat(&mut self.values, value, additional)?;
+        Ok(())
+    }
+
+    /// Takes memory for so many items more.
+    pub fn reserve(&mut self, additional: usize) -> Result<(), Error>
+        ensures same { self.new ≡ self.old }
+        ensures err { IfErr result IsWantOfMemory }
+    {
+        let bytes = length_with(0, additional, self.size)?;
+        self.values.reserve(bytes)?;
+        Ok(())
+    }
+}
+
+/// Lists to which items of one size are appended.
+impl<'a> Pushable<&'a [u8]> for FixedSizeBinary {
+    ghost use Rattle.std.specs.Prelude.{ℕ, List, true};
+
+    ghost Item = { List ℕ };
+
+    ghost Shape = { ℕ };
+
+    ghost held = { λ list. list.items };
+
+    ghost shape = { λ list. list.size };
+
+    ghost item = { λ value. value.now };
+
+    ghost takes = { λ size value. length value.now ≡ size };
+
+    ghost is_blank = { λ size item. item ≡ replicate size 0 };
+
+    ghost fit = { λ _. true };
+
+    fn reserve(&mut self, additional: usize) -> Result<(), Error>
+        ensures items { self.new.items ≡ self.old.items }
+        ensures shape { self.new.size ≡ self.old.size }
+        ensures memory { IfErr result IsWantOfMemory }
+    {
+        FixedSizeBinary::reserve(self, additional)
+    }
+
+    fn push(&mut self, value: &'a [u8]) -> Result<(), Error> {
+        FixedSizeBinary::push(self, value)
+    }
+
+    fn push_null(&mut self) -> Result<(), Error>
+        ensures items { GrowsByBlank (λ item. item ≡ replicate self.old.size 0) self.old.items self.new.items result }
+        ensures shape { self.new.size ≡ self.old.size }
+    {
+        FixedSizeBinary::push_null(self)
+    }
+
+    fn extend_constant(&mut self, additional: usize, value: &'a [u8]) -> Result<(), Error> {
+        self.extend_repeated(additional, value)
+    }
+
+    fn len(&self) -> usize
+        ensures { result ≡ length self.now.items }
+    {
+        FixedSizeBinary::len(self)
+    }
+}
+
+/// The same bytes so many times, or none of them.
+fn repeat(values: &mut Vec<u8>, item: &[u8], additional: usize) -> Result<(), AllocError>
+    ensures ok { OnOk result (values.new.items ≡ values.old.items ++ concat (replicate additional item.now)) }
+    ensures err { IfErr result (λ _. values.new.items ≡ values.old.items) }
+{
+    let held = values.len();
+    for _ in 0..additional {
+        if let Err(error) = values.extend_from_slice(item) {
+            values.truncate(held);
+            return Err(error);
+        }
+    }
+    Ok(())
+}
+
 fn item_at(bytes: &[u8], size: usize, i: usize) -> &[u8]
     requires { i * size + size ≤ length bytes.now }
     ensures { result.now ≡ take size (drop (i * size) bytes.now) }
@@ -151,10 +240,25 @@ fn length_with(bytes: usize, additional: usize, size: usize) -> Result<usize, Er
     }
 }
 
-/// Arrays of byte strings of one size.
-pub type Iter<I> = ArrayIter<I, FixedValues>;
+/// Decodes pages of byte strings of one size.
+pub type BinaryDecoder = FlatDecoder<FixedValues>;
 
-impl<I: Pages> ArrayIter<I, FixedValues> {
+impl FlatDecoder<FixedValues> {
+    /// Of strings of so many bytes.
+    pub fn new(size: usize) -> Self
+        requires { 0 < size }
+        ensures { result.values.size ≡ size }
+    {
+        FlatDecoder {
+            values: FixedValues::new(size),
+        }
+    }
+}
+
+/// Arrays of byte strings of one size.
+pub type Iter<I> = FlatIter<I, FixedValues>;
+
+impl<I: Pages> FlatIter<I, FixedValues> {
     /// The rows of these pages, at most so many. Where the type is that of byte strings of one size, the pages have such byte strings.
     pub fn new(
         alloc: Global,

@@ -1,20 +1,22 @@
 //! Decodes flat pages, by a decoder of their values.
-ghost use Rattle.std.specs.Prelude.{◌≡◌, ◌≤◌, true, false, [], ◌++◌, drop, length, map, take, Option, Some, IfOk, IfErr, IfSome, OnOk, option_map};
+ghost use Rattle.std.specs.Prelude.{◌≡◌, ◌≤◌, true, false, [], ◌++◌, drop, length, map, take, Option, None, Some, IfOk, IfErr, IfSome, OnOk, option_map};
 ghost use Rattle.std.specs.Option.{option_copied};
-ghost use Rattle.columns_core.specs.Causes.{ComesOf, IsOneOf, cause_of};
-ghost use Rattle.parquet_page.specs.Content.{data_content};
+ghost use Rattle.columns_core.specs.Causes.{IsOneOf, cause_of};
+ghost use Rattle.parquet_page.specs.Content.{DataContent, data_content};
 ghost use Rattle.parquet_page.specs.Opened.{goes_on_dictionary as goes_on_by};
 ghost use Rattle.parquet_page.specs.Levels.{present_count};
 ghost use Rattle.parquet_page.specs.Spelling.{header_encoding};
 ghost use Rattle.parquet_page.specs.ValidityParts.{part_steps, word_places};
 ghost use Rattle.parquet_page.specs.Values.{encoding_of as encoding_by, goes_with as goes_with_by, unless_none};
-ghost use Rattle.page_decoding.specs.FilteredLeft.{filtered_steps, stored_values};
-ghost use Rattle.page_decoding.specs.Outcome.{Given, causes_in};
+ghost use Rattle.page_decoding.specs.FilteredLeft.{IsPageOf, filtered_steps, stored_values};
+ghost use Rattle.parquet_page.specs.Plan.{kept_count};
+ghost use Rattle.page_decoding.specs.Bytes.{IsCausedByChunks};
+ghost use Rattle.page_decoding.specs.Outcome.{Given};
 ghost use Rattle.flat_values.specs.Encodings.{as_encoding};
 ghost use Rattle.flat_values.specs.FlatLeft.{IsStateOf, behind_part, behind_run, behind_word, causes_unless_none, given_along, part_outcomes, read_encoding, run_outcomes, values_left, word_outcomes};
 ghost use Rattle.flat_values.specs.Outcomes.{value_causes, value_outcomes};
 
-use crate::value_decoder::{ValueDecoder, ValueEncoding};
+use crate::{ValueDecoder, ValueEncoding, Values};
 use columns_core::{Error, Part};
 use page_decoding::{DecodedState, Decoder, FilteredOptionalPageValidity};
 use parquet_meta::PhysicalType;
@@ -24,120 +26,138 @@ use parquet_page::{
 use std::alloc::Global;
 
 /// Appends the next `count` values, or all that are left.
-fn take_values<V: ValueDecoder>(
-    decoder: &V,
+fn take_values<V: Values>(
+    values: &V,
     bytes: &[u8],
     dict: Option<&V::Dict>,
-    values: &mut Option<V::Values>,
+    place: &mut Option<V::Place>,
     decoded: &mut V::Decoded,
     count: usize,
 ) -> Result<(), Error>
-    requires over { IfSome values.old (V.is_over decoder.now bytes.now) }
-    requires own_dict { IfSome (option_copied dict) (V.is_own_dict decoder.now) }
-    requires own { V.is_own decoder.now decoded.old }
-    ensures cells { OnOk result (map Given (V.Decoded.shown decoded.new) ≡ map Given (V.Decoded.shown decoded.old) ++ take count (values_left (V.left decoder.now (option_copied dict.entry) bytes.now) values.old)) }
-    ensures left { OnOk result (values_left (V.left decoder.now (option_copied dict.entry) bytes.now) values.new ≡ drop count (values_left (V.left decoder.now (option_copied dict.entry) bytes.now) values.old)) }
-    ensures over { OnOk result (IfSome values.new (V.is_over decoder.now bytes.now)) }
-    ensures own { OnOk result (V.is_own decoder.now decoded.new) }
-    ensures cause { ComesOf result (causes_in (take count (values_left (V.left decoder.now (option_copied dict.entry) bytes.now) values.old))) }
+    requires over { IfSome place.old (V.is_over values.now bytes.now) }
+    requires own_dict { IfSome (option_copied dict) (V.is_own_dict values.now) }
+    requires own { V.is_own values.now decoded.old }
+    ensures cells { let found = values_left (V.left values.now (option_copied dict.entry) bytes.now) place.old in
+        let shown = V.Decoded.shown in
+        OnOk result (map Given (shown decoded.new) ≡ map Given (shown decoded.old) ++ take count found) }
+    ensures left { let found = values_left (V.left values.now (option_copied dict.entry) bytes.now) in
+        OnOk result (found place.new ≡ drop count (found place.old)) }
+    ensures over { OnOk result (IfSome place.new (V.is_over values.now bytes.now)) }
+    ensures own { OnOk result (V.is_own values.now decoded.new) }
+    ensures cause { let found = values_left (V.left values.now (option_copied dict.entry) bytes.now) place.old in
+        let rows = map Given (V.Decoded.shown decoded.old) ++ take count found in
+        IfErr result (IsCausedByChunks (V.most_bytes values.now) None rows) }
 {
-    match values {
-        Some(values) => decoder.take(bytes, dict, values, decoded, count),
+    match place {
+        Some(place) => values.take(bytes, dict, place, decoded, count),
         None => Ok(()),
     }
 }
 
 /// Passes over the next `count` values, or all that are left.
-fn skip_values<V: ValueDecoder>(
-    decoder: &V,
-    bytes: &[u8],
-    values: &mut Option<V::Values>,
-    count: usize,
-)
-    requires { IfSome values.old (V.is_over decoder.now bytes.now) }
-    ensures left { (dict : Option V.Dict) → values_left (V.left decoder.now dict bytes.now) values.new ≡ drop count (values_left (V.left decoder.now dict bytes.now) values.old) }
-    ensures over { IfSome values.new (V.is_over decoder.now bytes.now) }
+fn skip_values<V: Values>(values: &V, bytes: &[u8], place: &mut Option<V::Place>, count: usize)
+    requires { IfSome place.old (V.is_over values.now bytes.now) }
+    ensures left { let found = λ (dict : Option V.Dict). values_left (V.left values.now dict bytes.now) in
+        (dict : Option V.Dict) → found dict place.new ≡ drop count (found dict place.old) }
+    ensures over { IfSome place.new (V.is_over values.now bytes.now) }
 {
-    if let Some(values) = values {
-        decoder.skip(bytes, values, count);
+    if let Some(place) = place {
+        values.skip(bytes, place, count);
     }
 }
 
 /// Appends what the rows of a run give.
-fn add_run<V: ValueDecoder>(
-    decoder: &V,
+fn add_run<V: Values>(
+    values: &V,
     bytes: &[u8],
     dict: Option<&V::Dict>,
-    values: &mut Option<V::Values>,
+    place: &mut Option<V::Place>,
     decoded: &mut V::Decoded,
     run: Run,
 ) -> Result<(), Error>
-    requires over { IfSome values.old (V.is_over decoder.now bytes.now) }
-    requires own_dict { IfSome (option_copied dict) (V.is_own_dict decoder.now) }
-    requires own { V.is_own decoder.now decoded.old }
-    ensures cells { OnOk result (map Given (V.Decoded.shown decoded.new) ≡ map Given (V.Decoded.shown decoded.old) ++ run_outcomes run (values_left (V.left decoder.now (option_copied dict.entry) bytes.now) values.old)) }
-    ensures left { OnOk result (values_left (V.left decoder.now (option_copied dict.entry) bytes.now) values.new ≡ behind_run run (values_left (V.left decoder.now (option_copied dict.entry) bytes.now) values.old)) }
-    ensures over { OnOk result (IfSome values.new (V.is_over decoder.now bytes.now)) }
-    ensures own { OnOk result (V.is_own decoder.now decoded.new) }
-    ensures cause { ComesOf result (causes_in (run_outcomes run (values_left (V.left decoder.now (option_copied dict.entry) bytes.now) values.old))) }
+    requires over { IfSome place.old (V.is_over values.now bytes.now) }
+    requires own_dict { IfSome (option_copied dict) (V.is_own_dict values.now) }
+    requires own { V.is_own values.now decoded.old }
+    ensures cells { let found = values_left (V.left values.now (option_copied dict.entry) bytes.now) place.old in
+        let shown = V.Decoded.shown in
+        OnOk result (map Given (shown decoded.new) ≡ map Given (shown decoded.old) ++ run_outcomes run found) }
+    ensures left { let found = values_left (V.left values.now (option_copied dict.entry) bytes.now) in
+        OnOk result (found place.new ≡ behind_run run (found place.old)) }
+    ensures over { OnOk result (IfSome place.new (V.is_over values.now bytes.now)) }
+    ensures own { OnOk result (V.is_own values.now decoded.new) }
+    ensures cause { let found = values_left (V.left values.now (option_copied dict.entry) bytes.now) place.old in
+        let rows = map Given (V.Decoded.shown decoded.old) ++ run_outcomes run found in
+        IfErr result (IsCausedByChunks (V.most_bytes values.now) None rows) }
 {
     match run {
-        Run::Present(rows) => take_values(decoder, bytes, dict, values, decoded, rows),
-        Run::Null(rows) => decoder.push_nulls(decoded, rows),
+        Run::Present(rows) => take_values(values, bytes, dict, place, decoded, rows),
+        Run::Null(rows) => values.push_nulls(decoded, rows),
         Run::Passed(count) => {
-            skip_values(decoder, bytes, values, count);
+            skip_values(values, bytes, place, count);
             Ok(())
         }
     }
 }
 
 /// Appends what the rows of a word give. Where no value is stored, all are null.
-fn add_word<V: ValueDecoder>(
-    decoder: &V,
+fn add_word<V: Values>(
+    values: &V,
     bytes: &[u8],
     dict: Option<&V::Dict>,
-    values: &mut Option<V::Values>,
+    place: &mut Option<V::Place>,
     decoded: &mut V::Decoded,
     word: ValidityWord,
 ) -> Result<(), Error>
-    requires over { IfSome values.old (V.is_over decoder.now bytes.now) }
-    requires own_dict { IfSome (option_copied dict) (V.is_own_dict decoder.now) }
-    requires own { V.is_own decoder.now decoded.old }
-    requires enough { present_count (word_places word) ≤ length (values_left (V.left decoder.now (option_copied dict) bytes.now) values.old) }
-    ensures cells { OnOk result (map Given (V.Decoded.shown decoded.new) ≡ map Given (V.Decoded.shown decoded.old) ++ word_outcomes word (values_left (V.left decoder.now (option_copied dict.entry) bytes.now) values.old)) }
-    ensures left { OnOk result (values_left (V.left decoder.now (option_copied dict.entry) bytes.now) values.new ≡ behind_word word (values_left (V.left decoder.now (option_copied dict.entry) bytes.now) values.old)) }
-    ensures over { OnOk result (IfSome values.new (V.is_over decoder.now bytes.now)) }
-    ensures own { OnOk result (V.is_own decoder.now decoded.new) }
-    ensures cause { ComesOf result (causes_in (word_outcomes word (values_left (V.left decoder.now (option_copied dict.entry) bytes.now) values.old))) }
+    requires over { IfSome place.old (V.is_over values.now bytes.now) }
+    requires own_dict { IfSome (option_copied dict) (V.is_own_dict values.now) }
+    requires own { V.is_own values.now decoded.old }
+    requires enough { let found = values_left (V.left values.now (option_copied dict) bytes.now) place.old in
+        present_count (word_places word) ≤ length found }
+    ensures cells { let found = values_left (V.left values.now (option_copied dict.entry) bytes.now) place.old in
+        let shown = V.Decoded.shown in
+        OnOk result (map Given (shown decoded.new) ≡ map Given (shown decoded.old) ++ word_outcomes word found) }
+    ensures left { let found = values_left (V.left values.now (option_copied dict.entry) bytes.now) in
+        OnOk result (found place.new ≡ behind_word word (found place.old)) }
+    ensures over { OnOk result (IfSome place.new (V.is_over values.now bytes.now)) }
+    ensures own { OnOk result (V.is_own values.now decoded.new) }
+    ensures cause { let found = values_left (V.left values.now (option_copied dict.entry) bytes.now) place.old in
+        let rows = map Given (V.Decoded.shown decoded.old) ++ word_outcomes word found in
+        IfErr result (IsCausedByChunks (V.most_bytes values.now) None rows) }
 {
-    match values {
-        Some(values) => decoder.take_word(bytes, dict, values, decoded, word),
-        None => decoder.push_nulls(decoded, word.rows),
+    match place {
+        Some(place) => values.take_word(bytes, dict, place, decoded, word),
+        None => values.push_nulls(decoded, word.rows),
     }
 }
 
 /// Appends what the rows of a part give.
-fn add_part<V: ValueDecoder>(
-    decoder: &V,
+fn add_part<V: Values>(
+    values: &V,
     bytes: &[u8],
     dict: Option<&V::Dict>,
-    values: &mut Option<V::Values>,
+    place: &mut Option<V::Place>,
     decoded: &mut V::Decoded,
     part: ValidityPart,
 ) -> Result<(), Error>
-    requires over { IfSome values.old (V.is_over decoder.now bytes.now) }
-    requires own_dict { IfSome (option_copied dict) (V.is_own_dict decoder.now) }
-    requires own { V.is_own decoder.now decoded.old }
-    requires enough { stored_values (part_steps part) ≤ length (values_left (V.left decoder.now (option_copied dict) bytes.now) values.old) }
-    ensures cells { OnOk result (map Given (V.Decoded.shown decoded.new) ≡ map Given (V.Decoded.shown decoded.old) ++ part_outcomes part (values_left (V.left decoder.now (option_copied dict.entry) bytes.now) values.old)) }
-    ensures left { OnOk result (values_left (V.left decoder.now (option_copied dict.entry) bytes.now) values.new ≡ behind_part part (values_left (V.left decoder.now (option_copied dict.entry) bytes.now) values.old)) }
-    ensures over { OnOk result (IfSome values.new (V.is_over decoder.now bytes.now)) }
-    ensures own { OnOk result (V.is_own decoder.now decoded.new) }
-    ensures cause { ComesOf result (causes_in (part_outcomes part (values_left (V.left decoder.now (option_copied dict.entry) bytes.now) values.old))) }
+    requires over { IfSome place.old (V.is_over values.now bytes.now) }
+    requires own_dict { IfSome (option_copied dict) (V.is_own_dict values.now) }
+    requires own { V.is_own values.now decoded.old }
+    requires enough { let found = values_left (V.left values.now (option_copied dict) bytes.now) place.old in
+        stored_values (part_steps part) ≤ length found }
+    ensures cells { let found = values_left (V.left values.now (option_copied dict.entry) bytes.now) place.old in
+        let shown = V.Decoded.shown in
+        OnOk result (map Given (shown decoded.new) ≡ map Given (shown decoded.old) ++ part_outcomes part found) }
+    ensures left { let found = values_left (V.left values.now (option_copied dict.entry) bytes.now) in
+        OnOk result (found place.new ≡ behind_part part (found place.old)) }
+    ensures over { OnOk result (IfSome place.new (V.is_over values.now bytes.now)) }
+    ensures own { OnOk result (V.is_own values.now decoded.new) }
+    ensures cause { let found = values_left (V.left values.now (option_copied dict.entry) bytes.now) place.old in
+        let rows = map Given (V.Decoded.shown decoded.old) ++ part_outcomes part found in
+        IfErr result (IsCausedByChunks (V.most_bytes values.now) None rows) }
 {
     match part {
-        ValidityPart::Run(run) => add_run(decoder, bytes, dict, values, decoded, run),
-        ValidityPart::Word(word) => add_word(decoder, bytes, dict, values, decoded, word),
+        ValidityPart::Run(run) => add_run(values, bytes, dict, place, decoded, run),
+        ValidityPart::Word(word) => add_word(values, bytes, dict, place, decoded, word),
     }
 }
 
@@ -192,7 +212,7 @@ fn encoding_number(header: &DataPageHeader) -> i32
 }
 
 /// The encoding of a page, if it is read over a dictionary or without one.
-fn page_encoding(page: &DataPage<'_>, has_dictionary: bool) -> Option<ValueEncoding>
+pub(crate) fn page_encoding(page: &DataPage<'_>, has_dictionary: bool) -> Option<ValueEncoding>
     ensures { option_map as_encoding result ≡ read_encoding has_dictionary (data_content page.now) }
 {
     let encoding = encoding_of(encoding_number(&page.header))?;
@@ -207,7 +227,7 @@ fn open_values<V: ValueDecoder>(
     bytes: &[u8],
     count: usize,
     dict: Option<&V::Dict>,
-) -> Result<Option<V::Values>, Error>
+) -> Result<Option<V::Place>, Error>
     requires carried { goes_with_by (as_encoding encoding) (V.physical decoder.now) ≡ true }
     requires own { IfSome (option_copied dict) (V.is_own_dict decoder.now) }
     ensures values { IfOk result (λ values. unless_none count (value_outcomes (V.rule decoder.now) (V.physical decoder.now) (option_map (V.dict_shown decoder.now) (option_copied dict.entry)) (as_encoding encoding) bytes.now count) ≡ Some (values_left (V.left decoder.now (option_copied dict.entry) bytes.now) values)) }
@@ -222,31 +242,42 @@ fn open_values<V: ValueDecoder>(
 }
 
 /// Appends the next `additional` selected rows, or all that are left.
-fn add_rows<V: ValueDecoder>(
-    decoder: &V,
+pub(crate) fn add_rows<V: Values>(
+    values: &V,
     page: &DataPage<'_>,
     bytes: &[u8],
     dict: Option<&V::Dict>,
     walk: &mut FilteredOptionalPageValidity,
-    values: &mut Option<V::Values>,
+    place: &mut Option<V::Place>,
     decoded: &mut V::Decoded,
     additional: usize,
 ) -> Result<(), Error>
-    requires state { IsStateOf (V.is_over decoder.now) (V.left decoder.now (option_copied dict)) bytes.now walk.old values.old (data_content page.now) }
-    requires own_dict { IfSome (option_copied dict) (V.is_own_dict decoder.now) }
-    requires own { V.is_own decoder.now decoded.old }
-    ensures rows { OnOk result (map Given (V.Decoded.shown decoded.new) ≡ map Given (V.Decoded.shown decoded.old) ++ take additional (given_along (filtered_steps walk.old (data_content page.now)) (values_left (V.left decoder.now (option_copied dict.entry) bytes.now) values.old))) }
-    ensures left { OnOk result (given_along (filtered_steps walk.new (data_content page.now)) (values_left (V.left decoder.now (option_copied dict.entry) bytes.now) values.new) ≡ drop additional (given_along (filtered_steps walk.old (data_content page.now)) (values_left (V.left decoder.now (option_copied dict.entry) bytes.now) values.old))) }
-    ensures state { OnOk result (IsStateOf (V.is_over decoder.now) (V.left decoder.now (option_copied dict.entry)) bytes.now walk.new values.new (data_content page.now)) }
-    ensures own { OnOk result (V.is_own decoder.now decoded.new) }
-    ensures cause { ComesOf result (causes_in (take additional (given_along (filtered_steps walk.old (data_content page.now)) (values_left (V.left decoder.now (option_copied dict.entry) bytes.now) values.old)))) }
+    requires state { let left = V.left values.now (option_copied dict) in
+        IsStateOf (V.is_over values.now) left bytes.now walk.old place.old (data_content page.now) }
+    requires own_dict { IfSome (option_copied dict) (V.is_own_dict values.now) }
+    requires own { V.is_own values.now decoded.old }
+    ensures rows { let found = values_left (V.left values.now (option_copied dict.entry) bytes.now) place.old in
+        let rows = given_along (filtered_steps walk.old (data_content page.now)) found in
+        let shown = V.Decoded.shown in
+        OnOk result (map Given (shown decoded.new) ≡ map Given (shown decoded.old) ++ take additional rows) }
+    ensures left { let found = values_left (V.left values.now (option_copied dict.entry) bytes.now) in
+        let before = given_along (filtered_steps walk.old (data_content page.now)) (found place.old) in
+        let after = given_along (filtered_steps walk.new (data_content page.now)) (found place.new) in
+        OnOk result (after ≡ drop additional before) }
+    ensures state { let left = V.left values.now (option_copied dict.entry) in
+        OnOk result (IsStateOf (V.is_over values.now) left bytes.now walk.new place.new (data_content page.now)) }
+    ensures own { OnOk result (V.is_own values.now decoded.new) }
+    ensures cause { let found = values_left (V.left values.now (option_copied dict.entry) bytes.now) place.old in
+        let own = given_along (filtered_steps walk.old (data_content page.now)) found in
+        let rows = map Given (V.Decoded.shown decoded.old) ++ take additional own in
+        IfErr result (IsCausedByChunks (V.most_bytes values.now) None rows) }
 {
     let mut wanted = additional;
     while wanted > 0 {
         let Some(part) = walk.next_part(page, wanted) else {
             return Ok(());
         };
-        add_part(decoder, bytes, dict, values, decoded, part)?;
+        add_part(values, bytes, dict, place, decoded, part)?;
         wanted -= part.rows();
     }
     Ok(())
@@ -255,8 +286,18 @@ fn add_rows<V: ValueDecoder>(
 /// A place in a page: a walk over its selected rows, and one among its values where some are stored.
 #[derive(Drop)]
 pub struct FlatState<S> {
-    walk: FilteredOptionalPageValidity,
-    values: Option<S>,
+    pub(crate) walk: FilteredOptionalPageValidity,
+    pub(crate) values: Option<S>,
+}
+
+impl<S> FlatState<S> {
+    /// How many selected rows are left.
+    pub fn len(&self) -> usize
+        ensures { let walk = self.now.walk in
+            (page : DataContent) → IsPageOf walk page → result ≡ kept_count (filtered_steps walk page) }
+    {
+        self.walk.len()
+    }
 }
 
 /// Decodes required and optional pages, whole ones and those with selected rows, by a decoder of their values.
@@ -268,15 +309,15 @@ pub struct FlatDecoder<V> {
 impl<V: ValueDecoder> Decoder for FlatDecoder<V> {
     ghost use Rattle.std.specs.Prelude.{◌≡◌};
     ghost use Rattle.flat_values.specs.FlatState.{IsFlatState, state_outcomes};
-    ghost use Rattle.flat_values.specs.Outcomes.{dictionary_cells, selected_outcomes};
+    ghost use Rattle.flat_values.specs.Outcomes.{fitted_by, selected_outcomes};
 
-    type State = FlatState<V::Values>;
+    type State = FlatState<V::Place>;
 
     type Dict = V::Dict;
 
     type DecodedState = V::Decoded;
 
-    ghost entries = { λ decoder page. dictionary_cells (V.rule decoder.values) (V.physical decoder.values) page };
+    ghost entries = { λ decoder. fitted_by (V.most_bytes decoder.values) (V.rule decoder.values) (V.physical decoder.values) };
 
     ghost outcomes = { λ decoder entries page. selected_outcomes (V.rule decoder.values) entries page };
 
@@ -291,6 +332,10 @@ impl<V: ValueDecoder> Decoder for FlatDecoder<V> {
     ghost is_own = { λ decoder decoded. V.is_own decoder.values decoded };
 
     ghost is_own_dict = { λ decoder dict. V.is_own_dict decoder.values dict };
+
+    ghost most_bytes = { λ decoder. V.most_bytes decoder.values };
+
+    ghost own_fits = { λ decoder decoded own. V.own_fits decoder.values decoded own };
 
     fn build_state(
         &self,

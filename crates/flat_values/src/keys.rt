@@ -26,7 +26,7 @@ pub struct KeyPlace {
 
 impl KeyPlace {
     /// Before the first of `count` keys, of which none is past the entries, where their number is told.
-    pub(crate) fn open(bytes: &[u8], count: usize, entries: Option<usize>) -> Result<Self, Error>
+    pub fn open(bytes: &[u8], count: usize, entries: Option<usize>) -> Result<Self, Error>
         ensures keys { IfOk result (λ place. dictionary_keys bytes.now count ≡ Some (keys place bytes.now)) }
         ensures among { IfOk result (IsAmongKeys bytes.now) }
         ensures ok { OnOk result (option_map_or (key_causes None entries) (dictionary_keys bytes.now count) (ExternalFormat ∷ []) ≡ []) }
@@ -47,7 +47,7 @@ impl KeyPlace {
 
     /// Writes the next keys to the front of `out`, as many as there is room for or all that are left, and gives how
     /// many they are.
-    pub(crate) fn fill(&mut self, bytes: &[u8], out: &mut [u32]) -> usize
+    pub fn fill(&mut self, bytes: &[u8], out: &mut [u32]) -> usize
         requires { IsAmongKeys bytes.now self.old }
         ensures count { result ≡ min (length out.old) (length (keys self.old bytes.now)) }
         ensures values { out.new ≡ take result (keys self.old bytes.now) ++ drop result out.old }
@@ -58,7 +58,7 @@ impl KeyPlace {
     }
 
     /// Passes over `count` keys, or over all that are left.
-    pub(crate) fn skip(&mut self, bytes: &[u8], count: usize)
+    pub fn skip(&mut self, bytes: &[u8], count: usize)
         requires { IsAmongKeys bytes.now self.old }
         ensures rest { keys self.new bytes.now ≡ drop count (keys self.old bytes.now) }
         ensures among { IsAmongKeys bytes.now self.new }

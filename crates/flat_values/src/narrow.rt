@@ -2,6 +2,7 @@
 ghost use Rattle.std.specs.Prelude.{◌≡◌, pos};
 ghost use Rattle.flat_values.specs.Conversion.{low_bits};
 
+use crate::bulk::{extend_deltas, extend_plain};
 use crate::{Convert, ConvertAll};
 use columns_core::Error;
 
@@ -9,19 +10,43 @@ use columns_core::Error;
 #[derive(Clone, Copy, Debug, PartialEq, Eq)]
 pub struct Narrow;
 
+impl ConvertAll<i32, u8> for Narrow {
+    ghost use Rattle.flat_values.specs.Conversion.{LowUnsigned};
+
+    ghost rule = { λ _. LowUnsigned 8 };
+
+    fn apply(&self, x: i32) -> u8 {
+        low_byte(x)
+    }
+}
+
 impl Convert<i32, u8> for Narrow {
     ghost use Rattle.flat_values.specs.Conversion.{LowUnsigned};
 
     ghost rule = { λ _. LowUnsigned 8 };
 
     fn convert(&self, x: i32) -> Result<u8, Error> {
-        Ok(self.apply(x))
+        Ok(ConvertAll::<i32, u8>::apply(self, x))
+    }
+
+    fn extend_plain(&self, values: &mut Vec<u8>, pieces: &[[u8; 4]]) -> Result<(), Error> {
+        extend_plain::<i32, u8, Narrow>(values, *self, pieces)?;
+        Ok(())
+    }
+
+    fn extend_deltas(&self, values: &mut Vec<u8>, numbers: &[i64]) -> Result<(), Error> {
+        extend_deltas::<i32, u8, Narrow>(values, *self, numbers)?;
+        Ok(())
     }
 }
 
-impl ConvertAll<i32, u8> for Narrow {
-    fn apply(&self, x: i32) -> u8 {
-        low_byte(x)
+impl ConvertAll<i32, u16> for Narrow {
+    ghost use Rattle.flat_values.specs.Conversion.{LowUnsigned};
+
+    ghost rule = { λ _. LowUnsigned 16 };
+
+    fn apply(&self, x: i32) -> u16 {
+        low_half(x)
     }
 }
 
@@ -31,13 +56,27 @@ impl Convert<i32, u16> for Narrow {
     ghost rule = { λ _. LowUnsigned 16 };
 
     fn convert(&self, x: i32) -> Result<u16, Error> {
-        Ok(self.apply(x))
+        Ok(ConvertAll::<i32, u16>::apply(self, x))
+    }
+
+    fn extend_plain(&self, values: &mut Vec<u16>, pieces: &[[u8; 4]]) -> Result<(), Error> {
+        extend_plain::<i32, u16, Narrow>(values, *self, pieces)?;
+        Ok(())
+    }
+
+    fn extend_deltas(&self, values: &mut Vec<u16>, numbers: &[i64]) -> Result<(), Error> {
+        extend_deltas::<i32, u16, Narrow>(values, *self, numbers)?;
+        Ok(())
     }
 }
 
-impl ConvertAll<i32, u16> for Narrow {
-    fn apply(&self, x: i32) -> u16 {
-        low_half(x)
+impl ConvertAll<i32, u32> for Narrow {
+    ghost use Rattle.flat_values.specs.Conversion.{LowUnsigned};
+
+    ghost rule = { λ _. LowUnsigned 32 };
+
+    fn apply(&self, x: i32) -> u32 {
+        x.cast_unsigned()
     }
 }
 
@@ -47,13 +86,28 @@ impl Convert<i32, u32> for Narrow {
     ghost rule = { λ _. LowUnsigned 32 };
 
     fn convert(&self, x: i32) -> Result<u32, Error> {
-        Ok(self.apply(x))
+        Ok(ConvertAll::<i32, u32>::apply(self, x))
+    }
+
+    fn extend_plain(&self, values: &mut Vec<u32>, pieces: &[[u8; 4]]) -> Result<(), Error> {
+        extend_plain::<i32, u32, Narrow>(values, *self, pieces)?;
+        Ok(())
+    }
+
+    fn extend_deltas(&self, values: &mut Vec<u32>, numbers: &[i64]) -> Result<(), Error> {
+        extend_deltas::<i32, u32, Narrow>(values, *self, numbers)?;
+        Ok(())
     }
 }
 
-impl ConvertAll<i32, u32> for Narrow {
-    fn apply(&self, x: i32) -> u32 {
-        x.cast_unsigned()
+impl ConvertAll<i32, i8> for Narrow {
+    ghost use Rattle.flat_values.specs.Conversion.{LowSigned};
+    ghost use Rattle.std.specs.Int.{w8};
+
+    ghost rule = { λ _. LowSigned w8 };
+
+    fn apply(&self, x: i32) -> i8 {
+        low_byte(x).cast_signed()
     }
 }
 
@@ -64,13 +118,28 @@ impl Convert<i32, i8> for Narrow {
     ghost rule = { λ _. LowSigned w8 };
 
     fn convert(&self, x: i32) -> Result<i8, Error> {
-        Ok(self.apply(x))
+        Ok(ConvertAll::<i32, i8>::apply(self, x))
+    }
+
+    fn extend_plain(&self, values: &mut Vec<i8>, pieces: &[[u8; 4]]) -> Result<(), Error> {
+        extend_plain::<i32, i8, Narrow>(values, *self, pieces)?;
+        Ok(())
+    }
+
+    fn extend_deltas(&self, values: &mut Vec<i8>, numbers: &[i64]) -> Result<(), Error> {
+        extend_deltas::<i32, i8, Narrow>(values, *self, numbers)?;
+        Ok(())
     }
 }
 
-impl ConvertAll<i32, i8> for Narrow {
-    fn apply(&self, x: i32) -> i8 {
-        low_byte(x).cast_signed()
+impl ConvertAll<i32, i16> for Narrow {
+    ghost use Rattle.flat_values.specs.Conversion.{LowSigned};
+    ghost use Rattle.std.specs.Int.{w16};
+
+    ghost rule = { λ _. LowSigned w16 };
+
+    fn apply(&self, x: i32) -> i16 {
+        low_half(x).cast_signed()
     }
 }
 
@@ -81,13 +150,27 @@ impl Convert<i32, i16> for Narrow {
     ghost rule = { λ _. LowSigned w16 };
 
     fn convert(&self, x: i32) -> Result<i16, Error> {
-        Ok(self.apply(x))
+        Ok(ConvertAll::<i32, i16>::apply(self, x))
+    }
+
+    fn extend_plain(&self, values: &mut Vec<i16>, pieces: &[[u8; 4]]) -> Result<(), Error> {
+        extend_plain::<i32, i16, Narrow>(values, *self, pieces)?;
+        Ok(())
+    }
+
+    fn extend_deltas(&self, values: &mut Vec<i16>, numbers: &[i64]) -> Result<(), Error> {
+        extend_deltas::<i32, i16, Narrow>(values, *self, numbers)?;
+        Ok(())
     }
 }
 
-impl ConvertAll<i32, i16> for Narrow {
-    fn apply(&self, x: i32) -> i16 {
-        low_half(x).cast_signed()
+impl ConvertAll<i64, u32> for Narrow {
+    ghost use Rattle.flat_values.specs.Conversion.{LowUnsigned};
+
+    ghost rule = { λ _. LowUnsigned 32 };
+
+    fn apply(&self, x: i64) -> u32 {
+        low_word(x)
     }
 }
 
@@ -97,13 +180,27 @@ impl Convert<i64, u32> for Narrow {
     ghost rule = { λ _. LowUnsigned 32 };
 
     fn convert(&self, x: i64) -> Result<u32, Error> {
-        Ok(self.apply(x))
+        Ok(ConvertAll::<i64, u32>::apply(self, x))
+    }
+
+    fn extend_plain(&self, values: &mut Vec<u32>, pieces: &[[u8; 8]]) -> Result<(), Error> {
+        extend_plain::<i64, u32, Narrow>(values, *self, pieces)?;
+        Ok(())
+    }
+
+    fn extend_deltas(&self, values: &mut Vec<u32>, numbers: &[i64]) -> Result<(), Error> {
+        extend_deltas::<i64, u32, Narrow>(values, *self, numbers)?;
+        Ok(())
     }
 }
 
-impl ConvertAll<i64, u32> for Narrow {
-    fn apply(&self, x: i64) -> u32 {
-        low_word(x)
+impl ConvertAll<i64, u64> for Narrow {
+    ghost use Rattle.flat_values.specs.Conversion.{LowUnsigned};
+
+    ghost rule = { λ _. LowUnsigned 64 };
+
+    fn apply(&self, x: i64) -> u64 {
+        x.cast_unsigned()
     }
 }
 
@@ -113,13 +210,17 @@ impl Convert<i64, u64> for Narrow {
     ghost rule = { λ _. LowUnsigned 64 };
 
     fn convert(&self, x: i64) -> Result<u64, Error> {
-        Ok(self.apply(x))
+        Ok(ConvertAll::<i64, u64>::apply(self, x))
     }
-}
 
-impl ConvertAll<i64, u64> for Narrow {
-    fn apply(&self, x: i64) -> u64 {
-        x.cast_unsigned()
+    fn extend_plain(&self, values: &mut Vec<u64>, pieces: &[[u8; 8]]) -> Result<(), Error> {
+        extend_plain::<i64, u64, Narrow>(values, *self, pieces)?;
+        Ok(())
+    }
+
+    fn extend_deltas(&self, values: &mut Vec<u64>, numbers: &[i64]) -> Result<(), Error> {
+        extend_deltas::<i64, u64, Narrow>(values, *self, numbers)?;
+        Ok(())
     }
 }
 

@@ -1,17 +1,18 @@
 //! Columns that are read as nulls.
-ghost use Rattle.std.specs.Prelude.{◌≡◌, ◌∷◌, ◌-◌, ◌<◌, ◌≤◌, min, IsTrue, length, IfOk, IfErr};
+ghost use Rattle.std.specs.Prelude.{◌≡◌, ◌∷◌, ◌-◌, ◌<◌, ◌≤◌, min, IsTrue, IfOk, IfErr};
 ghost use Rattle.columns_core.specs.Causes.{is_invalid_argument};
 ghost use Rattle.page_decoding.specs.Queue.{IsChunkSize};
-ghost use Rattle.flat_values.specs.NullChunks.{cut_rows};
+ghost use Rattle.flat_values.specs.NullChunks.{cut_rows, first_nulls};
 
-use columns_core::{Error, NullArray, Part};
+use crate::ColumnArrays;
+use columns_core::{Array, Error, NullArray, Part};
 use parquet_base::Steps;
 use parquet_page::Pages;
 use std::iter::Iterator;
 use std::marker::Model;
 use std::sync::ledger::Ledger;
 
-/// Arrays of nulls. A contract sees how many nulls each array that is still to come has.
+/// Arrays of nulls. A contract sees how many nulls are left, and how they are cut.
 #[derive(Drop)]
 pub struct NullIter {
     left: usize,
@@ -19,13 +20,14 @@ pub struct NullIter {
 }
 
 impl Model for NullIter {
-    ghost use Rattle.std.specs.Prelude.{List, ℕ};
     ghost use Rattle.page_decoding.specs.Queue.{IsChunkSize};
-    ghost use Rattle.flat_values.specs.NullChunks.{cut_rows};
+    ghost use Rattle.flat_values.specs.NullChunks.{NullsLeft, nulls_code};
 
-    ghost Value = { List ℕ };
+    ghost Value = { NullsLeft };
 
-    ghost view = { λ nulls. cut_rows nulls.chunk_size nulls.left };
+    ghost coded = { nulls_code };
+
+    ghost view = { λ nulls. record { size = nulls.chunk_size; rows = nulls.left } };
 
     ghost invariant = { λ nulls. IsChunkSize nulls.chunk_size };
 }
@@ -36,7 +38,7 @@ pub fn iter_to_arrays<I: Pages>(
     chunk_size: Option<usize>,
     num_rows: usize,
 ) -> Result<NullIter, Error>
-    ensures nulls { IfOk result (λ nulls. nulls ≡ cut_rows chunk_size (min num_rows (I.row_count pages.now))) }
+    ensures nulls { IfOk result (λ nulls. nulls ≡ record { size = chunk_size; rows = min num_rows (I.row_count pages.now) }) }
     ensures ok { IfOk result (λ _. IsChunkSize chunk_size) }
     ensures err { IfErr result (λ e. IsTrue (is_invalid_argument e) × (IsChunkSize chunk_size → ⊥)) }
 {
@@ -53,6 +55,7 @@ pub fn iter_to_arrays<I: Pages>(
 fn first_rows(chunk_size: Option<usize>, left: usize) -> usize
     requires size { IsChunkSize chunk_size }
     requires some { 0 < left }
+    ensures rows { result ≡ first_nulls chunk_size left }
     ensures some { 0 < result }
     ensures within { result ≤ left }
     ensures first { cut_rows chunk_size left ≡ result ∷ cut_rows chunk_size (left - result) }
@@ -64,8 +67,21 @@ fn first_rows(chunk_size: Option<usize>, left: usize) -> usize
 }
 
 impl NullIter {
+    ghost use Rattle.std.specs.Prelude.{◌≡◌};
     ghost use Rattle.std.specs.Iterator.{YieldsFirst};
-    ghost use Rattle.flat_values.specs.NullChunks.{null_arrays};
+    ghost use Rattle.flat_values.specs.NullChunks.{TakesRows, null_arrays};
+
+    /// The rows of the next array.
+    fn take_rows(&mut self) -> Option<usize>
+        ensures { TakesRows self.old result self.new }
+    {
+        if self.left == 0 {
+            return None;
+        }
+        let rows = first_rows(self.chunk_size, self.left);
+        self.left -= rows;
+        Some(rows)
+    }
 
     /// The next array. No step is taken for it.
     pub fn next_counted<L: Ledger>(
@@ -97,11 +113,21 @@ impl Iterator for NullIter {
     ghost remaining = { item_count null_arrays };
 
     fn next(&mut self) -> Option<Result<NullArray, Error>> {
-        if self.left == 0 {
-            return None;
-        }
-        let rows = first_rows(self.chunk_size, self.left);
-        self.left -= rows;
-        Some(Ok(NullArray::new(rows)))
+        Some(Ok(NullArray::new(self.take_rows()?)))
+    }
+}
+
+/// The nulls as the arrays of a column, whose rows wait.
+impl ColumnArrays for NullIter {
+    ghost use Rattle.flat_values.specs.NullChunks.{nulls_left};
+
+    ghost left = { nulls_left };
+
+    fn next_counted<L: Ledger>(&mut self, _steps: &mut Steps<L>) -> Option<Result<Array, Error>> {
+        Some(Ok(Array::Null(NullArray::new(self.take_rows()?))))
+    }
+
+    fn lent(&self) -> usize {
+        0
     }
 }

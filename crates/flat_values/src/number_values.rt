@@ -1,5 +1,5 @@
 //! Numbers of a column, read and converted.
-ghost use Rattle.std.specs.Prelude.{◌≡◌, IsTrue, List, [], Option, Some, OnOk, length, take, drop, map, option_map};
+ghost use Rattle.std.specs.Prelude.{◌≡◌, IsTrue, List, [], Option, None, Some, refl, OnOk, length, take, drop, map, option_map};
 ghost use Rattle.std.specs.Option.{option_copied, option_map_or};
 ghost use Rattle.columns_core.specs.Causes.{ComesOf};
 ghost use Rattle.columns_core.specs.declared.cell.Cell.{Cell};
@@ -13,7 +13,7 @@ use crate::keys::{KeyPlace, take_named};
 use crate::numbers::{NumberPlace, open_deltas, open_plain, skip_plain, take_deltas, take_plain};
 use crate::validity::mark_values;
 use crate::{
-    ConvertMany, DecodedNumbers, IntoArray, ParquetNativeType, ValueDecoder, ValueEncoding,
+    Convert, DecodedNumbers, IntoArray, ParquetNativeType, ValueDecoder, ValueEncoding, Values,
 };
 use columns_core::{DataType, Error, MutablePrimitiveArray, NativeType, Part};
 use parquet_page::{DictPage, ValidityWord};
@@ -38,7 +38,7 @@ pub(crate) fn entries_of<'a, T>(dict: Option<&'a Vec<T>>) -> &'a [T]
 }
 
 /// Appends what the next `count` values give, or all that are left.
-fn take_values<P: ParquetNativeType, T: NativeType, C: ConvertMany<P, T>>(
+fn take_values<P: ParquetNativeType, T: NativeType, C: Convert<P, T>>(
     place: &mut NumberPlace,
     bytes: &[u8],
     entries: &[T],
@@ -97,7 +97,7 @@ pub struct NumberValues<P, T, C> {
     number: PhantomData<T>,
 }
 
-impl<P: ParquetNativeType, T: NativeType + Default, C: ConvertMany<P, T>> NumberValues<P, T, C> {
+impl<P: ParquetNativeType, T: NativeType + Default, C: Convert<P, T>> NumberValues<P, T, C> {
     pub fn new(rule: C) -> Self
         ensures { result.rule ≡ rule }
     {
@@ -109,19 +109,13 @@ impl<P: ParquetNativeType, T: NativeType + Default, C: ConvertMany<P, T>> Number
     }
 }
 
-impl<P: ParquetNativeType, T: NativeType + Default, C: ConvertMany<P, T>> ValueDecoder
+impl<P: ParquetNativeType, T: NativeType + Default, C: Convert<P, T>> Values
     for NumberValues<P, T, C> {
-    type Values = NumberPlace;
+    type Place = NumberPlace;
 
     type Dict = Vec<T>;
 
     type Decoded = DecodedNumbers<T>;
-
-    ghost physical = { λ _. P.physical };
-
-    ghost rule = { λ reader. C.rule reader.rule };
-
-    ghost dict_shown = { λ _ entries. map T.cell entries.items };
 
     ghost is_own = { λ _ decoded. IsMaskFor decoded.values.items decoded.validity };
 
@@ -130,6 +124,67 @@ impl<P: ParquetNativeType, T: NativeType + Default, C: ConvertMany<P, T>> ValueD
     ghost is_over = { λ _ bytes place. IsAmongNumbers P.physical bytes place };
 
     ghost left = { λ reader dict bytes place. number_left (C.rule reader.rule) P.physical P.delta (option_map (λ entries. map T.cell entries.items) dict) bytes place };
+
+    ghost most_bytes = { λ _. None };
+
+    ghost own_fits = { λ _ _ _. refl };
+
+    fn take(
+        &self,
+        bytes: &[u8],
+        dict: Option<&Vec<T>>,
+        place: &mut NumberPlace,
+        decoded: &mut DecodedNumbers<T>,
+        count: usize,
+    ) -> Result<(), Error> {
+        let entries = entries_of(dict);
+        let held = decoded.values.len();
+        take_values::<P, T, C>(place, bytes, entries, self.rule, &mut decoded.values, count)?;
+        let taken = decoded.values.len() - held;
+        mark_values(&mut decoded.validity, taken)
+    }
+
+    fn take_word(
+        &self,
+        bytes: &[u8],
+        dict: Option<&Vec<T>>,
+        place: &mut NumberPlace,
+        decoded: &mut DecodedNumbers<T>,
+        word: ValidityWord,
+    ) -> Result<(), Error> {
+        let entries = entries_of(dict);
+        let held = decoded.values.len();
+        take_values::<P, T, C>(
+            place,
+            bytes,
+            entries,
+            self.rule,
+            &mut decoded.values,
+            word.present(),
+        )?;
+        decoded.spread(held, word)
+    }
+
+    fn skip(&self, bytes: &[u8], place: &mut NumberPlace, count: usize) {
+        *place = skip_values::<P>(*place, bytes, count);
+    }
+
+    fn push_nulls(&self, decoded: &mut DecodedNumbers<T>, count: usize) -> Result<(), Error> {
+        decoded.push_nulls(count)
+    }
+
+    fn with_capacity(&self, alloc: Global, capacity: usize) -> Result<DecodedNumbers<T>, Error> {
+        DecodedNumbers::with_capacity(alloc, capacity)
+    }
+}
+
+impl<P: ParquetNativeType, T: NativeType + Default, C: Convert<P, T>> ValueDecoder
+    for NumberValues<P, T, C> {
+    ghost physical = { λ _. P.physical };
+
+    ghost rule = { λ reader. C.rule reader.rule };
+
+    ghost dict_shown = { λ _ entries. map T.cell entries.items };
 
     fn open(
         &self,
@@ -149,61 +204,6 @@ impl<P: ParquetNativeType, T: NativeType + Default, C: ConvertMany<P, T>> ValueD
         }
     }
 
-    fn take(
-        &self,
-        bytes: &[u8],
-        dict: Option<&Vec<T>>,
-        values: &mut NumberPlace,
-        decoded: &mut DecodedNumbers<T>,
-        count: usize,
-    ) -> Result<(), Error> {
-        let entries = entries_of(dict);
-        let held = decoded.values.len();
-        take_values::<P, T, C>(
-            values,
-            bytes,
-            entries,
-            self.rule,
-            &mut decoded.values,
-            count,
-        )?;
-        let taken = decoded.values.len() - held;
-        mark_values(&mut decoded.validity, taken)
-    }
-
-    fn take_word(
-        &self,
-        bytes: &[u8],
-        dict: Option<&Vec<T>>,
-        values: &mut NumberPlace,
-        decoded: &mut DecodedNumbers<T>,
-        word: ValidityWord,
-    ) -> Result<(), Error> {
-        let entries = entries_of(dict);
-        let held = decoded.values.len();
-        take_values::<P, T, C>(
-            values,
-            bytes,
-            entries,
-            self.rule,
-            &mut decoded.values,
-            word.present(),
-        )?;
-        decoded.spread(held, word)
-    }
-
-    fn skip(&self, bytes: &[u8], values: &mut NumberPlace, count: usize) {
-        *values = skip_values::<P>(*values, bytes, count);
-    }
-
-    fn push_nulls(&self, decoded: &mut DecodedNumbers<T>, count: usize) -> Result<(), Error> {
-        decoded.push_nulls(count)
-    }
-
-    fn with_capacity(&self, alloc: Global, capacity: usize) -> Result<DecodedNumbers<T>, Error> {
-        DecodedNumbers::with_capacity(alloc, capacity)
-    }
-
     fn read_dict(&self, alloc: Global, page: &DictPage<'_>) -> Result<Vec<T>, Error> {
         if !P::is_plain(page.buffer, page.num_values) {
             return Err(Error::ExternalFormat(Part::Dictionary));
@@ -215,7 +215,7 @@ impl<P: ParquetNativeType, T: NativeType + Default, C: ConvertMany<P, T>> ValueD
     }
 }
 
-impl<P: ParquetNativeType, T: NativeType + Default, C: ConvertMany<P, T>> IntoArray
+impl<P: ParquetNativeType, T: NativeType + Default, C: Convert<P, T>> IntoArray
     for NumberValues<P, T, C> {
     ghost use Rattle.columns_core.specs.Column.{cell_of};
 

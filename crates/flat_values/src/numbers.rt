@@ -11,7 +11,7 @@ ghost use Rattle.flat_values.specs.NumbersLeft.{plain_left};
 ghost use Rattle.flat_values.specs.Outcomes.{stored_outcome};
 
 use crate::keys::KeyPlace;
-use crate::{ConvertMany, ParquetNativeType};
+use crate::{Convert, ParquetNativeType};
 use columns_core::{Error, NativeType, Part};
 use parquet_encoding::DeltaBinary;
 
@@ -67,7 +67,7 @@ pub(crate) fn open_plain<P: ParquetNativeType>(
 }
 
 /// Appends the next `count` plain values, converted, or all that are left.
-pub(crate) fn take_plain<P: ParquetNativeType, T: NativeType, C: ConvertMany<P, T>>(
+pub(crate) fn take_plain<P: ParquetNativeType, T: NativeType, C: Convert<P, T>>(
     place: PlainPlace,
     bytes: &[u8],
     rule: C,
@@ -117,7 +117,7 @@ pub(crate) fn open_deltas<P: ParquetNativeType>(
 }
 
 /// Appends the next `count` values by packed deltas, converted, or all that are left.
-pub(crate) fn take_deltas<P: ParquetNativeType, T: NativeType, C: ConvertMany<P, T>>(
+pub(crate) fn take_deltas<P: ParquetNativeType, T: NativeType, C: Convert<P, T>>(
     place: DeltaBinary,
     bytes: &[u8],
     rule: C,

@@ -4,6 +4,7 @@ ghost use Rattle.columns_core.specs.declared.data_type.DataType.{out-DataType};
 ghost use Rattle.parquet_meta.specs.declared.metadata.PrimitiveLogicalType.{PrimitiveLogicalType};
 ghost use Rattle.flat_values.specs.Pairs.{conversion, from_physical, from_int32, from_int64, from_int96, from_fixed, from_byte_array};
 ghost use Rattle.flat_values.specs.Pairs.{entry_from_physical, entry_from_int32, entry_from_int64, entry_from_fixed};
+ghost use Rattle.flat_values.specs.Pairs.{leaf_conversion, page_conversion, page_from_physical, page_from_int96, page_from_fixed};
 
 use columns_core::{DataType, IntervalUnit};
 use parquet_meta::{PhysicalType, PrimitiveType, Repetition};
@@ -20,6 +21,29 @@ pub fn carries(type_: &PrimitiveType, data_type: &DataType) -> bool
     }
 }
 
+/// Whether the ends that statistics tell of a column of this type may be read as that type, whatever the column's repetition is.
+#[tactic(auto, using(crate::proofs::PairLemmas::leaf_out))]
+pub fn carries_leaf(type_: &PrimitiveType, data_type: &DataType) -> bool
+    ensures { result ≡ is_some (leaf_conversion type_.now.physical_type type_.now.logical_type data_type.now) }
+{
+    match data_type {
+        DataType::Null => true,
+        DataType::Dictionary(_, values, _) => carries_leaf(type_, values.get()),
+        _ => carries_values(type_, data_type),
+    }
+}
+
+/// Whether the ends that a page index tells of a column of this type may be read as that type, whatever the column's repetition is.
+#[tactic(auto, using(crate::proofs::PairLemmas::page_out))]
+pub fn carries_page(type_: &PrimitiveType, data_type: &DataType) -> bool
+    ensures { result ≡ is_some (page_conversion type_.now.physical_type type_.now.logical_type data_type.now) }
+{
+    match data_type {
+        DataType::Dictionary(_, values, _) => carries_page(type_, values.get()),
+        _ => carries_page_values(type_, data_type),
+    }
+}
+
 fn carries_values(type_: &PrimitiveType, data_type: &DataType) -> bool
     ensures { result ≡ is_some (from_physical type_.now.physical_type type_.now.logical_type (out-DataType data_type.now)) }
 {
@@ -31,6 +55,20 @@ fn carries_values(type_: &PrimitiveType, data_type: &DataType) -> bool
         PhysicalType::Float | PhysicalType::Double => false,
         PhysicalType::ByteArray => takes_byte_array(data_type),
         PhysicalType::FixedLenByteArray(size) => takes_fixed(size, data_type),
+    }
+}
+
+fn carries_page_values(type_: &PrimitiveType, data_type: &DataType) -> bool
+    ensures { result ≡ is_some (page_from_physical type_.now.physical_type type_.now.logical_type (out-DataType data_type.now)) }
+{
+    match type_.physical_type {
+        PhysicalType::Boolean => matches!(data_type, DataType::Boolean),
+        PhysicalType::Int32 => takes_int32(data_type),
+        PhysicalType::Int64 => takes_int64(data_type),
+        PhysicalType::Int96 => takes_page_int96(data_type),
+        PhysicalType::Float | PhysicalType::Double => false,
+        PhysicalType::ByteArray => takes_byte_array(data_type),
+        PhysicalType::FixedLenByteArray(size) => takes_page_fixed(size, data_type),
     }
 }
 
@@ -98,6 +136,29 @@ fn takes_fixed(size: usize, data_type: &DataType) -> bool
         DataType::Decimal(_, _) => 0 < size && size <= 16,
         DataType::Interval(_) => size == 12,
         _ => false,
+    }
+}
+
+fn takes_page_int96(data_type: &DataType) -> bool
+    ensures { result ≡ is_some (page_from_int96 (out-DataType data_type.now)) }
+{
+    matches!(
+        data_type,
+        DataType::UInt64
+            | DataType::Int64
+            | DataType::Date64
+            | DataType::Time64(_)
+            | DataType::Duration(_)
+            | DataType::Timestamp(_, _)
+    )
+}
+
+fn takes_page_fixed(size: usize, data_type: &DataType) -> bool
+    ensures { result ≡ is_some (page_from_fixed size (out-DataType data_type.now)) }
+{
+    match data_type {
+        DataType::Interval(_) => false,
+        _ => takes_fixed(size, data_type),
     }
 }
 

@@ -4,18 +4,52 @@ ghost use Rattle.columns_core.specs.Causes.{is_invalid_argument};
 ghost use Rattle.page_decoding.specs.Column.{DataPagesAre};
 ghost use Rattle.page_decoding.specs.Queue.{IsChunkSize};
 
-use crate::{ArrayIter, ConvertMany, NumberValues, ParquetNativeType};
+use crate::{
+    Convert, FlatDecoder, FlatIter, FlatState, KeyPlace, NumberPlace, NumberValues,
+    ParquetNativeType, PlainPlace,
+};
 use columns_core::{DataType, Error, NativeType};
 use parquet_page::Pages;
 use std::alloc::Global;
 
 /// Arrays of numbers.
-pub type Iter<T, I, P, C> = ArrayIter<I, NumberValues<P, T, C>>;
+pub type Iter<T, I, P, C> = FlatIter<I, NumberValues<P, T, C>>;
 
 /// Arrays of numbers of a stored type that may be packed as deltas, which each is.
 pub type IntegerIter<T, I, P, C> = Iter<T, I, P, C>;
 
-impl<I: Pages, P: ParquetNativeType, T: NativeType + Default, C: ConvertMany<P, T>> ArrayIter<
+/// A place in a page of numbers, whatever their encoding is.
+pub type State = FlatState<NumberPlace>;
+
+/// A place in a page of plain numbers.
+pub type Values = FlatState<PlainPlace>;
+
+/// A place among the selected rows of a page of plain numbers.
+pub type FilteredRequiredValues = Values;
+
+/// A place in a page of keys.
+pub type ValuesDictionary = FlatState<KeyPlace>;
+
+/// Decodes pages of numbers.
+pub type PrimitiveDecoder<T, P, C> = FlatDecoder<NumberValues<P, T, C>>;
+
+/// Decodes pages of numbers that may be packed as deltas, which each does.
+pub type IntDecoder<T, P, C> = PrimitiveDecoder<T, P, C>;
+
+impl<P: ParquetNativeType, T: NativeType + Default, C: Convert<P, T>> FlatDecoder<
+    NumberValues<P, T, C>,
+> {
+    /// By this conversion.
+    pub fn new(op: C) -> Self
+        ensures { result.values.rule ≡ op }
+    {
+        FlatDecoder {
+            values: NumberValues::new(op),
+        }
+    }
+}
+
+impl<I: Pages, P: ParquetNativeType, T: NativeType + Default, C: Convert<P, T>> FlatIter<
     I,
     NumberValues<P, T, C>,
 > {

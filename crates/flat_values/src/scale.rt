@@ -3,7 +3,8 @@ ghost use Rattle.std.specs.Prelude.{◌≡◌, ◌*ℤ◌, IfOk, IfErr};
 ghost use Rattle.flat_values.specs.Conversion.{Value, NotInRange, int64};
 ghost use Rattle.columns_core.specs.declared.cell.Cell.{Int};
 
-use crate::{Convert, ConvertAll, ConvertMany, InBulk, OneByOne};
+use crate::bulk::{extend_deltas, extend_plain};
+use crate::{Convert, ConvertAll};
 use columns_core::Error;
 use std::marker::Model;
 
@@ -58,11 +59,43 @@ impl Convert<i64, i64> for Scale {
             Ok(x / factor)
         }
     }
+
+    /// Only a product may be refused, so only products are taken one by one.
+    fn extend_plain(&self, values: &mut Vec<i64>, pieces: &[[u8; 8]]) -> Result<(), Error> {
+        if !self.multiply {
+            Convert::<i64, i64>::extend_plain(&Divide(*self), values, pieces)
+        } else if self.factor == 1 {
+            Convert::<i64, i64>::extend_plain(&SameUnit, values, pieces)
+        } else {
+            Convert::<i64, i64>::extend_plain(&Multiply(*self), values, pieces)
+        }
+    }
+
+    fn extend_deltas(&self, values: &mut Vec<i64>, numbers: &[i64]) -> Result<(), Error> {
+        if !self.multiply {
+            Convert::<i64, i64>::extend_deltas(&Divide(*self), values, numbers)
+        } else if self.factor == 1 {
+            Convert::<i64, i64>::extend_deltas(&SameUnit, values, numbers)
+        } else {
+            Convert::<i64, i64>::extend_deltas(&Multiply(*self), values, numbers)
+        }
+    }
 }
 
 /// Times of the unit that is wanted.
 #[derive(Clone, Copy)]
 struct SameUnit;
+
+impl ConvertAll<i64, i64> for SameUnit {
+    ghost use Rattle.std.specs.Prelude.{true};
+    ghost use Rattle.flat_values.specs.Conversion.{Scale as Scaled};
+
+    ghost rule = { λ _. Scaled 1 true };
+
+    fn apply(&self, x: i64) -> i64 {
+        x
+    }
+}
 
 impl Convert<i64, i64> for SameUnit {
     ghost use Rattle.std.specs.Prelude.{true};
@@ -71,19 +104,34 @@ impl Convert<i64, i64> for SameUnit {
     ghost rule = { λ _. Scaled 1 true };
 
     fn convert(&self, x: i64) -> Result<i64, Error> {
-        Ok(self.apply(x))
+        Ok(ConvertAll::<i64, i64>::apply(self, x))
     }
-}
 
-impl ConvertAll<i64, i64> for SameUnit {
-    fn apply(&self, x: i64) -> i64 {
-        x
+    fn extend_plain(&self, values: &mut Vec<i64>, pieces: &[[u8; 8]]) -> Result<(), Error> {
+        extend_plain::<i64, i64, SameUnit>(values, *self, pieces)?;
+        Ok(())
+    }
+
+    fn extend_deltas(&self, values: &mut Vec<i64>, numbers: &[i64]) -> Result<(), Error> {
+        extend_deltas::<i64, i64, SameUnit>(values, *self, numbers)?;
+        Ok(())
     }
 }
 
 /// Times divided by a factor, which refuses none.
 #[derive(Clone, Copy)]
 struct Divide(Scale);
+
+impl ConvertAll<i64, i64> for Divide {
+    ghost use Rattle.std.specs.Prelude.{false};
+    ghost use Rattle.flat_values.specs.Conversion.{Scale as Scaled};
+
+    ghost rule = { λ divide. Scaled (divide.0).0 false };
+
+    fn apply(&self, x: i64) -> i64 {
+        x / self.0.factor as i64
+    }
+}
 
 impl Convert<i64, i64> for Divide {
     ghost use Rattle.std.specs.Prelude.{false};
@@ -92,40 +140,32 @@ impl Convert<i64, i64> for Divide {
     ghost rule = { λ divide. Scaled (divide.0).0 false };
 
     fn convert(&self, x: i64) -> Result<i64, Error> {
-        Ok(self.apply(x))
+        Ok(ConvertAll::<i64, i64>::apply(self, x))
     }
-}
-
-impl ConvertAll<i64, i64> for Divide {
-    fn apply(&self, x: i64) -> i64 {
-        x / self.0.factor as i64
-    }
-}
-
-/// Only a product may be refused, so only products are taken one by one.
-impl ConvertMany<i64, i64> for Scale {
-    ghost use Rattle.flat_values.specs.Conversion.{Scale as Scaled};
-
-    ghost rule = { λ scale. Scaled scale.0 scale.1 };
 
     fn extend_plain(&self, values: &mut Vec<i64>, pieces: &[[u8; 8]]) -> Result<(), Error> {
-        if !self.multiply {
-            ConvertMany::<i64, i64>::extend_plain(&InBulk(Divide(*self)), values, pieces)
-        } else if self.factor == 1 {
-            ConvertMany::<i64, i64>::extend_plain(&InBulk(SameUnit), values, pieces)
-        } else {
-            ConvertMany::<i64, i64>::extend_plain(&OneByOne(*self), values, pieces)
-        }
+        extend_plain::<i64, i64, Divide>(values, *self, pieces)?;
+        Ok(())
     }
 
     fn extend_deltas(&self, values: &mut Vec<i64>, numbers: &[i64]) -> Result<(), Error> {
-        if !self.multiply {
-            ConvertMany::<i64, i64>::extend_deltas(&InBulk(Divide(*self)), values, numbers)
-        } else if self.factor == 1 {
-            ConvertMany::<i64, i64>::extend_deltas(&InBulk(SameUnit), values, numbers)
-        } else {
-            ConvertMany::<i64, i64>::extend_deltas(&OneByOne(*self), values, numbers)
-        }
+        extend_deltas::<i64, i64, Divide>(values, *self, numbers)?;
+        Ok(())
+    }
+}
+
+/// Times multiplied by a factor, one after the other.
+#[derive(Clone, Copy)]
+struct Multiply(Scale);
+
+impl Convert<i64, i64> for Multiply {
+    ghost use Rattle.std.specs.Prelude.{true};
+    ghost use Rattle.flat_values.specs.Conversion.{Scale as Scaled};
+
+    ghost rule = { λ multiply. Scaled (multiply.0).0 true };
+
+    fn convert(&self, x: i64) -> Result<i64, Error> {
+        times(x, self.0.factor as i64)
     }
 }
 

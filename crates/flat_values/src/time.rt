@@ -72,6 +72,21 @@ impl Convert<[u32; 3], i64> for Int96Time {
     }
 }
 
+/// Nanoseconds of a day and the day as the low 64 bits of the nanoseconds since 1970.
+#[derive(Clone, Copy, Debug, PartialEq, Eq)]
+pub struct Int96Bits;
+
+impl Convert<[u32; 3], u64> for Int96Bits {
+    ghost use Rattle.flat_values.specs.Conversion.{LowNanoseconds};
+
+    ghost rule = { λ _. LowNanoseconds };
+
+    fn convert(&self, x: [u32; 3]) -> Result<u64, Error> {
+        let nanoseconds = int96_to_i64_ns(x)?;
+        Ok(nanoseconds.cast_unsigned())
+    }
+}
+
 /// The factor from the unit of a column to that which is asked for, and whether it multiplies.
 pub fn unifiy_timestmap_unit(
     logical_type: Option<&PrimitiveLogicalType>,

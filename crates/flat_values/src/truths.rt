@@ -1,15 +1,15 @@
 //! Truth values of a page, and those that were decoded.
-ghost use Rattle.std.specs.Prelude.{◌≡◌, ◌++◌, IsTrue, Bool, length, map, take, drop, None, Some, IfOk, IfErr, OnOk, IsSome};
+ghost use Rattle.std.specs.Prelude.{◌≡◌, ◌++◌, IsTrue, Bool, length, map, take, drop, None, Some, refl, IfOk, IfErr, OnOk, IsSome};
 ghost use Rattle.columns_core.specs.Causes.{ExternalFormat, IsWantOfMemory, cause_of, is_invalid_argument};
 ghost use Rattle.columns_core.specs.ElementType.{is_boolean};
 ghost use Rattle.columns_core.specs.declared.cell.Cell.{Bool as TruthCell};
-ghost use Rattle.page_decoding.specs.Outcome.{Given};
 ghost use Rattle.flat_values.specs.Decoded.{IsMaskFor, marked, marked_cells};
+ghost use Rattle.flat_values.specs.TruthsLeft.{IsOverTruths, truth_outcomes};
 ghost use Rattle.parquet_encoding.specs.Plain.{plain_bits};
 ghost use Rattle.parquet_encoding.specs.PlainLeft.{bits_left, truths};
 
 use crate::validity::{freeze_mask, mark_nulls, mark_values};
-use crate::{IntoArray, ValueDecoder, ValueEncoding};
+use crate::{IntoArray, ValueDecoder, ValueEncoding, Values};
 use columns_core::{Bitmap, BooleanArray, DataType, Error, MutableBitmap, Part};
 use page_decoding::DecodedState;
 use parquet_encoding::PlainBits;
@@ -79,55 +79,39 @@ fn extend_truths(
 #[derive(Clone, Copy)]
 pub struct TruthValues;
 
-impl ValueDecoder for TruthValues {
-    ghost use Rattle.flat_values.specs.Conversion.{Keep};
-    ghost use Rattle.parquet_meta.specs.declared.metadata.PhysicalType.TheVariants.{Boolean};
-
-    type Values = PlainBits;
+impl Values for TruthValues {
+    type Place = PlainBits;
 
     type Dict = Bitmap;
 
     type Decoded = DecodedTruths;
 
-    ghost physical = { λ _. Boolean };
-
-    ghost rule = { λ _. Keep };
-
-    ghost dict_shown = { λ _ dict. map TruthCell dict };
-
     ghost is_own = { λ _ decoded. IsMaskFor decoded.values decoded.validity };
 
     ghost is_own_dict = { λ _ _. Unit {0} };
 
-    ghost is_over = { λ _ bytes values. IsSome (bits_left values bytes) };
+    ghost is_over = { λ _. IsOverTruths };
 
-    ghost left = { λ _ _ bytes values. map (λ b. Given (TruthCell b)) (truths values bytes) };
+    ghost left = { λ _ _. truth_outcomes };
 
-    /// Only the plain encoding goes with truth values.
-    fn open(
-        &self,
-        _encoding: ValueEncoding,
-        bytes: &[u8],
-        count: usize,
-        _dict: Option<&Bitmap>,
-    ) -> Result<PlainBits, Error> {
-        open_truths(bytes, count, Part::Values)
-    }
+    ghost most_bytes = { λ _. None };
+
+    ghost own_fits = { λ _ _ _. refl };
 
     fn take(
         &self,
         bytes: &[u8],
         _dict: Option<&Bitmap>,
-        values: &mut PlainBits,
+        place: &mut PlainBits,
         decoded: &mut DecodedTruths,
         count: usize,
     ) -> Result<(), Error> {
-        let taken = extend_truths(&mut decoded.values, bytes, values, count)?;
+        let taken = extend_truths(&mut decoded.values, bytes, place, count)?;
         mark_values(&mut decoded.validity, taken)
     }
 
-    fn skip(&self, bytes: &[u8], values: &mut PlainBits, count: usize) {
-        values.skip(bytes, count);
+    fn skip(&self, bytes: &[u8], place: &mut PlainBits, count: usize) {
+        place.skip(bytes, count);
     }
 
     fn push_nulls(&self, decoded: &mut DecodedTruths, count: usize) -> Result<(), Error> {
@@ -141,6 +125,28 @@ impl ValueDecoder for TruthValues {
             values: MutableBitmap::with_capacity(alloc, capacity)?,
             validity: MutableBitmap::with_capacity(alloc, 0)?,
         })
+    }
+}
+
+impl ValueDecoder for TruthValues {
+    ghost use Rattle.flat_values.specs.Conversion.{Keep};
+    ghost use Rattle.parquet_meta.specs.declared.metadata.PhysicalType.TheVariants.{Boolean};
+
+    ghost physical = { λ _. Boolean };
+
+    ghost rule = { λ _. Keep };
+
+    ghost dict_shown = { λ _ dict. map TruthCell dict };
+
+    /// Only the plain encoding goes with truth values.
+    fn open(
+        &self,
+        _encoding: ValueEncoding,
+        bytes: &[u8],
+        count: usize,
+        _dict: Option<&Bitmap>,
+    ) -> Result<PlainBits, Error> {
+        open_truths(bytes, count, Part::Values)
     }
 
     fn read_dict(&self, alloc: Global, page: &DictPage<'_>) -> Result<Bitmap, Error> {

@@ -8,7 +8,7 @@ use columns_core::{Bitmap, Error, MutableBitmap};
 use parquet_page::ValidityWord;
 
 /// So many values more are there.
-pub(crate) fn mark_values(validity: &mut MutableBitmap, count: usize) -> Result<(), Error>
+pub fn mark_values(validity: &mut MutableBitmap, count: usize) -> Result<(), Error>
     ensures ok { OnOk result (validity.new ≡ with_values count validity.old) }
     ensures err { IfErr result IsWantOfMemory }
 {
@@ -19,11 +19,7 @@ pub(crate) fn mark_values(validity: &mut MutableBitmap, count: usize) -> Result<
 }
 
 /// So many nulls stand behind `held` values.
-pub(crate) fn mark_nulls(
-    validity: &mut MutableBitmap,
-    held: usize,
-    count: usize,
-) -> Result<(), Error>
+pub fn mark_nulls(validity: &mut MutableBitmap, held: usize, count: usize) -> Result<(), Error>
     ensures ok { OnOk result (validity.new ≡ with_nulls held count validity.old) }
     ensures err { IfErr result IsWantOfMemory }
 {
@@ -52,7 +48,7 @@ pub(crate) fn mark_rows(
 }
 
 /// The mask of an array.
-pub(crate) fn freeze_mask(validity: MutableBitmap) -> Option<Bitmap>
+pub fn freeze_mask(validity: MutableBitmap) -> Option<Bitmap>
     ensures { result ≡ found_mask validity }
 {
     if validity.len() == 0 {

@@ -11,7 +11,7 @@ use Rattle.flat_values.proofs.numbers.take_deltas.Goals as goal
 pub loop-left-init : goal.loop-left-init
 loop-left-init g c = record {
   among = c.requires;
-  turn = turn-begins g.T.NativeType.cell (λ number. stored_outcome (g.C.ConvertMany.rule c.args.rule) (g.P.ParquetNativeType.delta number)) c.args.values.now.items c.args.count (numbers c.args.place c.args.bytes.now);
+  turn = turn-begins g.T.NativeType.cell (λ number. stored_outcome (g.C.Convert.rule c.args.rule) (g.P.ParquetNativeType.delta number)) c.args.values.now.items c.args.count (numbers c.args.place c.args.bytes.now);
 }
 
 pub loop-left-preserved : goal.loop-left-preserved
@@ -23,7 +23,7 @@ loop-left-preserved g c =
     let is = chunk_front now _ c.fill-found.new.out found c.fill-found.ensures.values (omega (arith, c.fill-found.ensures.count)) in
     record {
       among = something_is _ _ c.fill-found.ensures.rest;
-      turn = turn-goes g.T.NativeType.cell (λ number. stored_outcome (g.C.ConvertMany.rule c.args.rule) (g.P.ParquetNativeType.delta number)) c.args.values.now.items c.loop-left.values.items c.extend_deltas.new.values.items c.args.count c.loop-left.left found
+      turn = turn-goes g.T.NativeType.cell (λ number. stored_outcome (g.C.Convert.rule c.args.rule) (g.P.ParquetNativeType.delta number)) c.args.values.now.items c.loop-left.values.items c.extend_deltas.new.values.items c.args.count c.loop-left.left found
           (numbers c.args.place c.args.bytes.now) now (numbers c.fill-found.new.self c.args.bytes.now) own c.loop-left.invariant.turn few is c.in_ok-extend_deltas.ensures.added (ap (λ o. unwrap_or o []) c.fill-found.ensures.rest);
     }
 
@@ -36,5 +36,5 @@ returns-in_err-extend_deltas-clause-cause g c =
     let few : found ≤ c.loop-left.left = omega (arith, c.fill-found.ensures.count, length-take c.min.result c.loop-left.chunk, c.min.ensures) in
     let is = chunk_front now _ c.fill-found.new.out found c.fill-found.ensures.values (omega (arith, c.fill-found.ensures.count)) in
     rw (p.1, p.2) (
-    turn-caused g.T.NativeType.cell (λ number. stored_outcome (g.C.ConvertMany.rule c.args.rule) (g.P.ParquetNativeType.delta number)) c.args.values.now.items c.loop-left.values.items c.args.count c.loop-left.left found
+    turn-caused g.T.NativeType.cell (λ number. stored_outcome (g.C.Convert.rule c.args.rule) (g.P.ParquetNativeType.delta number)) c.args.values.now.items c.loop-left.values.items c.args.count c.loop-left.left found
     (numbers c.args.place c.args.bytes.now) now own c.in_err-extend_deltas.field-0.0 c.loop-left.invariant.turn few is c.in_err-extend_deltas.ensures.cause)

@@ -8,7 +8,7 @@ use Rattle.flat_values.proofs.numbers.take_deltas.Given as goal
 abbrev pub invariant-loop-left : goal.invariant-loop-left
 invariant-loop-left g l = record {
   among : IsSome (delta_left l.place l.bytes);
-  turn : Turn g.T.NativeType.cell (λ number. stored_outcome (g.C.ConvertMany.rule l.rule) (g.P.ParquetNativeType.delta number)) l.fn.values.items l.values.items l.count l.left (numbers l.fn.place l.bytes) (numbers l.place l.bytes);
+  turn : Turn g.T.NativeType.cell (λ number. stored_outcome (g.C.Convert.rule l.rule) (g.P.ParquetNativeType.delta number)) l.fn.values.items l.values.items l.count l.left (numbers l.fn.place l.bytes) (numbers l.place l.bytes);
 }
 
 abbrev pub decreases-loop-left : goal.decreases-loop-left

@@ -16,7 +16,7 @@ returns-clause-added g c =
     let pieces = c.plain_pieces-pieces.result.now in
     let all = c.plain_pieces-pieces.ensures c.args.place.count whole (passes_none found c.requires) in
     let P : List Outcome → Type 0 = λ outcomes. Adds g.T.NativeType.cell c.args.values.now.items c.extend_plain.new.values.items outcomes in
-    subst P (taken_pieces (stored_outcome (g.C.ConvertMany.rule c.args.rule)) g.P.ParquetNativeType.plain pieces whole c.args.place.next c.args.count (length pieces) c.min-start.result c.behind-behind.result.next all refl c.min-start.ensures (omega (arith, c.behind-behind.ensures.next, c.min-start.ensures)))
+    subst P (taken_pieces (stored_outcome (g.C.Convert.rule c.args.rule)) g.P.ParquetNativeType.plain pieces whole c.args.place.next c.args.count (length pieces) c.min-start.result c.behind-behind.result.next all refl c.min-start.ensures (omega (arith, c.behind-behind.ensures.next, c.min-start.ensures)))
     c.in_ok-extend_plain.ensures.added
 
 pub returns-clause-rest : goal.returns-clause-rest
@@ -37,5 +37,5 @@ returns-in_err-extend_plain-clause-cause g c =
     let all = c.plain_pieces-pieces.ensures c.args.place.count whole (passes_none found c.requires) in
     let P : List Outcome → Type 0 = λ outcomes. IsCausedBy outcomes c.in_err-extend_plain.field-0.0 in
     rw (p.1, p.2) (
-    subst P (taken_pieces (stored_outcome (g.C.ConvertMany.rule c.args.rule)) g.P.ParquetNativeType.plain pieces whole c.args.place.next c.args.count (length pieces) c.min-start.result c.behind-behind.result.next all refl c.min-start.ensures (omega (arith, c.behind-behind.ensures.next, c.min-start.ensures)))
+    subst P (taken_pieces (stored_outcome (g.C.Convert.rule c.args.rule)) g.P.ParquetNativeType.plain pieces whole c.args.place.next c.args.count (length pieces) c.min-start.result c.behind-behind.result.next all refl c.min-start.ensures (omega (arith, c.behind-behind.ensures.next, c.min-start.ensures)))
     c.in_err-extend_plain.ensures.cause)

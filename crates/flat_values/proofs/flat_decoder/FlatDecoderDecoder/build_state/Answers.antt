@@ -47,7 +47,7 @@ returns-in_err-values-clause-cause g c =
 
 -- what the state gives
 given : (g : Over) (c : goal.In_ok-values g) → GivesAll (g.V.ValueDecoder.rule c.args.self.now.values) (option_map (g.V.ValueDecoder.dict_shown c.args.self.now.values) (option_copied c.args.dict)) (data_content c.args.page.now)
-    (filtered_steps c.in_ok-walk.walk (data_content c.args.page.now)) (values_left (g.V.ValueDecoder.left c.args.self.now.values (option_copied c.args.dict) c.in_ok-bytes.bytes.now) c.in_ok-values.values)
+    (filtered_steps c.in_ok-walk.walk (data_content c.args.page.now)) (values_left (g.V.Values.left c.args.self.now.values (option_copied c.args.dict) c.in_ok-bytes.bytes.now) c.in_ok-values.values)
 given g c =
     let self = c.args.self.now.values in
     let shown = g.V.ValueDecoder.dict_shown self in
@@ -55,7 +55,7 @@ given g c =
     let body = body_of c.in_ok-bytes.field-0-0.now c.in_ok-bytes.field-0-1.now c.in_ok-bytes.bytes.now in
     built (g.V.ValueDecoder.rule self) c.is_some.result (option_map shown (option_copied c.args.dict)) page (as_encoding c.in-Some.encoding) body c.stored_count-count.result (filtered_steps c.in_ok-walk.walk page)
     (told-entries shown c.args.dict ∙ sym c.is_some.ensures) c.in-Some.ensures c.in_ok-walk.ensures.ok c.in_ok-bytes.ensures.parts c.in_ok-walk.ensures.steps c.stored_count-count.ensures
-    (g.V.ValueDecoder.physical self) (option_map (λ dict. length (shown dict)) (option_copied c.args.dict)) (values_left (g.V.ValueDecoder.left self (option_copied c.args.dict) c.in_ok-bytes.bytes.now) c.in_ok-values.values)
+    (g.V.ValueDecoder.physical self) (option_map (λ dict. length (shown dict)) (option_copied c.args.dict)) (values_left (g.V.Values.left self (option_copied c.args.dict) c.in_ok-bytes.bytes.now) c.in_ok-values.values)
     c.requires.takes (counted-entries shown (option_copied c.args.dict)) c.in_ok-values.ensures.ok c.in_ok-values.ensures.values
 
 pub returns-clause-state : goal.returns-clause-state
@@ -63,13 +63,13 @@ returns-clause-state g c =
     let self = c.args.self.now.values in
     let page = data_content c.args.page.now in
     let body = body_of c.in_ok-bytes.field-0-0.now c.in_ok-bytes.field-0-1.now c.in_ok-bytes.bytes.now in
-    let P : List ℕ → Type 0 = λ bytes. IsStateOf (g.V.ValueDecoder.is_over self) (g.V.ValueDecoder.left self (option_copied c.args.dict)) bytes c.in_ok-walk.walk c.in_ok-values.values page in
+    let P : List ℕ → Type 0 = λ bytes. IsStateOf (g.V.Values.is_over self) (g.V.Values.left self (option_copied c.args.dict)) bytes c.in_ok-walk.walk c.in_ok-values.values page in
     let own : P body.values = record { page_is = c.in_ok-walk.ensures.page; over = c.in_ok-values.ensures.over; enough = (given g c).enough } in
     subst P (sym (bytes-are page body c.in_ok-bytes.ensures.parts)) own
 
 pub returns-clause-rows : goal.returns-clause-rows
 returns-clause-rows g c =
     let page = data_content c.args.page.now in
-    let left = g.V.ValueDecoder.left c.args.self.now.values (option_copied c.args.dict) in
+    let left = g.V.Values.left c.args.self.now.values (option_copied c.args.dict) in
     let body = body_of c.in_ok-bytes.field-0-0.now c.in_ok-bytes.field-0-1.now c.in_ok-bytes.bytes.now in
     ap (λ bytes. given_along (filtered_steps c.in_ok-walk.walk page) (values_left (left bytes) c.in_ok-values.values)) (bytes-are page body c.in_ok-bytes.ensures.parts) ∙ (given g c).rows

@@ -7,5 +7,5 @@ use Rattle.flat_values.proofs.flat_decoder.FlatDecoderDecoder.state_len.Goals as
 pub returns : goal.returns
 returns g c dict page is =
     let state = c.args.state.now in
-    let values = values_left (g.V.ValueDecoder.left c.args.self.now.values dict (value_bytes page)) state.values in
+    let values = values_left (g.V.Values.left c.args.self.now.values dict (value_bytes page)) state.values in
     c.len.ensures page is.page_is ∙ sym (length-given (filtered_steps state.walk page) values (omega (arith, is.enough)))

@@ -16,7 +16,7 @@ returns-in_err-open_plain-in-Plain-clause-cause g c =
 
 pub returns-in_ok-open_plain-in-Plain-clause-values : goal.returns-in_ok-open_plain-in-Plain-clause-values
 returns-in_ok-open_plain-in-Plain-clause-values g c =
-    opens_plain (g.C.ConvertMany.rule c.args.self.now.rule) g.P.ParquetNativeType.physical _ c.args.encoding c.args.bytes.now c.args.count (plain_left g.P.ParquetNativeType.physical c.args.bytes.now c.in_ok-open_plain-in-Plain.field-0) c.in-Plain.is c.in_ok-open_plain-in-Plain.ensures.values
+    opens_plain (g.C.Convert.rule c.args.self.now.rule) g.P.ParquetNativeType.physical _ c.args.encoding c.args.bytes.now c.args.count (plain_left g.P.ParquetNativeType.physical c.args.bytes.now c.in_ok-open_plain-in-Plain.field-0) c.in-Plain.is c.in_ok-open_plain-in-Plain.ensures.values
 
 pub returns-in_ok-open_plain-in-Plain-clause-ok : goal.returns-in_ok-open_plain-in-Plain-clause-ok
 returns-in_ok-open_plain-in-Plain-clause-ok g c =
@@ -30,7 +30,7 @@ returns-in_err-open-in-Keys-clause-cause g c =
 
 pub returns-in_ok-open-in-Keys-clause-values : goal.returns-in_ok-open-in-Keys-clause-values
 returns-in_ok-open-in-Keys-clause-values g c =
-    opens_keys (g.C.ConvertMany.rule c.args.self.now.rule) g.P.ParquetNativeType.physical _ c.args.encoding c.args.bytes.now c.args.count (keys c.in_ok-open-in-Keys.field-0 c.args.bytes.now) c.in-Keys.is c.in_ok-open-in-Keys.ensures.keys
+    opens_keys (g.C.Convert.rule c.args.self.now.rule) g.P.ParquetNativeType.physical _ c.args.encoding c.args.bytes.now c.args.count (keys c.in_ok-open-in-Keys.field-0 c.args.bytes.now) c.in-Keys.is c.in_ok-open-in-Keys.ensures.keys
 
 pub returns-in_ok-open-in-Keys-clause-ok : goal.returns-in_ok-open-in-Keys-clause-ok
 returns-in_ok-open-in-Keys-clause-ok g c =
@@ -44,7 +44,7 @@ returns-in_err-open_deltas-in-DeltaPacked-clause-cause g c =
 
 pub returns-in_ok-open_deltas-in-DeltaPacked-clause-values : goal.returns-in_ok-open_deltas-in-DeltaPacked-clause-values
 returns-in_ok-open_deltas-in-DeltaPacked-clause-values g c =
-    opens_deltas (g.C.ConvertMany.rule c.args.self.now.rule) g.P.ParquetNativeType.physical g.P.ParquetNativeType.delta _ c.args.encoding c.args.bytes.now c.args.count (numbers c.in_ok-open_deltas-in-DeltaPacked.field-0 c.args.bytes.now) c.in-DeltaPacked.is c.in_ok-open_deltas-in-DeltaPacked.ensures.values
+    opens_deltas (g.C.Convert.rule c.args.self.now.rule) g.P.ParquetNativeType.physical g.P.ParquetNativeType.delta _ c.args.encoding c.args.bytes.now c.args.count (numbers c.in_ok-open_deltas-in-DeltaPacked.field-0 c.args.bytes.now) c.in-DeltaPacked.is c.in_ok-open_deltas-in-DeltaPacked.ensures.values
 
 pub returns-in_ok-open_deltas-in-DeltaPacked-clause-ok : goal.returns-in_ok-open_deltas-in-DeltaPacked-clause-ok
 returns-in_ok-open_deltas-in-DeltaPacked-clause-ok g c =

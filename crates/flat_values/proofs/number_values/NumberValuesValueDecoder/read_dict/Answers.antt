@@ -10,11 +10,11 @@ use Rattle.flat_values.proofs.NumberPlaces.{dictionary_damaged, dictionary_read,
 use Rattle.flat_values.proofs.number_values.NumberValuesValueDecoder.read_dict.Goals as goal
 
 pub returns-then-not-is_plain-clause-cause : goal.returns-then-not-is_plain-clause-cause
-returns-then-not-is_plain-clause-cause g c = inr (dictionary_damaged (g.C.ConvertMany.rule c.args.self.now.rule) g.P.ParquetNativeType.physical (dict_content c.args.page.now) c.if-not-is_plain.ensures)
+returns-then-not-is_plain-clause-cause g c = inr (dictionary_damaged (g.C.Convert.rule c.args.self.now.rule) g.P.ParquetNativeType.physical (dict_content c.args.page.now) c.if-not-is_plain.ensures)
 
 pub returns-clause-entries : goal.returns-clause-entries
 returns-clause-entries g c =
-    let rule = g.C.ConvertMany.rule c.args.self.now.rule in
+    let rule = g.C.Convert.rule c.args.self.now.rule in
     let found = plain_values g.P.ParquetNativeType.physical c.args.page.now.buffer.now c.args.page.now.num_values in
     let whole = unwrap_or found [] in
     let spelled = passes_none found (sym c.if-not-is_plain.ensures) in
@@ -25,7 +25,7 @@ returns-clause-entries g c =
 pub returns-in_err-extend_plain-clause-cause : goal.returns-in_err-extend_plain-clause-cause
 returns-in_err-extend_plain-clause-cause g c =
     let p = err_from_is_err_and c.from_residual-in_err-extend_plain.result c.from_residual-in_err-extend_plain.ensures.1 in
-    let rule = g.C.ConvertMany.rule c.args.self.now.rule in
+    let rule = g.C.Convert.rule c.args.self.now.rule in
     let found = plain_values g.P.ParquetNativeType.physical c.args.page.now.buffer.now c.args.page.now.num_values in
     let whole = unwrap_or found [] in
     let spelled = passes_none found (sym c.if-not-is_plain.ensures) in

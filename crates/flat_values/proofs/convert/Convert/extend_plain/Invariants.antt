@@ -1,0 +1,8 @@
+use Rattle.std.proofs.Common.{map, take}
+use Rattle.flat_values.specs.Added.{Adds}
+use Rattle.flat_values.specs.Outcomes.{stored_outcome}
+use Rattle.flat_values.proofs.convert.Convert.extend_plain.Given as goal
+
+-- what is converted so far stands behind the values that were there
+abbrev pub invariant-loop-piece : goal.invariant-loop-piece
+invariant-loop-piece g l = Adds g.T.NativeType.cell l.fn.values.items l.values.items (map (λ piece. stored_outcome (g.Self.Convert.rule l.self) (g.P.ParquetNativeType.plain piece)) (take l.piece-index l.pieces))
