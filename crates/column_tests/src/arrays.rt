@@ -10,9 +10,8 @@ use columns_core::{
     NativeType, Part, Seq, days_ms,
 };
 use flat_values::{
-    ArrayIter, DaysAndMillis, DaysToMillis, Decimals, FixedNumbers, FixedValues, InBulk, IntoArray,
-    Keep, Months, NumberValues, TruthValues, ValueDecoder, boolean, fixed_size_binary, null,
-    primitive,
+    DaysAndMillis, DaysToMillis, Decimals, FixedNumbers, FixedValues, FlatIter, IntoArray, Keep,
+    Months, NumberValues, TruthValues, Values, boolean, fixed_size_binary, null, primitive,
 };
 use parquet_base::Steps;
 use parquet_meta::{
@@ -26,7 +25,7 @@ use std::sync::ledger::{Blank, Ledger};
 use std::test::*;
 
 /// Definition levels of four places, of which the second is null, as a page of the second form has them.
-const LEVELS: [u8; 2] = [0x03, 0x0D];
+pub(crate) const LEVELS: [u8; 2] = [0x03, 0x0D];
 
 /// The same behind their length, as a page of the first form has them.
 const LONG_LEVELS: [u8; 6] = [2, 0, 0, 0, 0x03, 0x0D];
@@ -35,7 +34,7 @@ const LONG_LEVELS: [u8; 6] = [2, 0, 0, 0, 0x03, 0x0D];
 const NO_LEVELS: [u8; 6] = [2, 0, 0, 0, 0x08, 0x00];
 
 /// A data page of the first form: its header of 17 bytes, and its body.
-fn page(
+pub(crate) fn page(
     alloc: Global,
     count: u8,
     encoding: u8,
@@ -58,7 +57,12 @@ fn page(
 }
 
 /// A data page of the second form.
-fn page_v2(alloc: Global, count: u8, levels: &[u8], values: &[u8]) -> Result<Vec<u8>, AllocError>
+pub(crate) fn page_v2(
+    alloc: Global,
+    count: u8,
+    levels: &[u8],
+    values: &[u8],
+) -> Result<Vec<u8>, AllocError>
     requires count { count < 64 }
     requires levels { length levels.now < 16 }
     requires values { length values.now < 48 }
@@ -74,7 +78,7 @@ fn page_v2(alloc: Global, count: u8, levels: &[u8], values: &[u8]) -> Result<Vec
 }
 
 /// A dictionary page: its header of 13 bytes, and its entries.
-fn dictionary(alloc: Global, count: u8, entries: &[u8]) -> Result<Vec<u8>, AllocError>
+pub(crate) fn dictionary(alloc: Global, count: u8, entries: &[u8]) -> Result<Vec<u8>, AllocError>
     requires count { count < 64 }
     requires entries { length entries.now < 64 }
 {
@@ -120,7 +124,7 @@ fn column(
 }
 
 /// The pages of a chunk of so many values.
-fn pages_with(
+pub(crate) fn pages_with(
     alloc: Global,
     physical: PhysicalType,
     repetition: Repetition,
@@ -149,7 +153,11 @@ fn pages_of(
 }
 
 /// The page at a place of a chunk that has the rows from a first one on.
-fn located(offset: i64, compressed_page_size: i32, first_row_index: i64) -> PageLocation {
+pub(crate) fn located(
+    offset: i64,
+    compressed_page_size: i32,
+    first_row_index: i64,
+) -> PageLocation {
     PageLocation {
         offset,
         compressed_page_size,
@@ -158,7 +166,7 @@ fn located(offset: i64, compressed_page_size: i32, first_row_index: i64) -> Page
 }
 
 /// The pages of a chunk of four values that have some of these rows.
-fn located_pages(
+pub(crate) fn located_pages(
     alloc: Global,
     physical: PhysicalType,
     repetition: Repetition,
@@ -187,7 +195,7 @@ fn first_counted<I: Pages, V: IntoArray + Drop, L: Ledger>(
     requires whole { 0 < blank.parts }
 {
     let mut steps = Steps::<L>::new(blank);
-    let mut arrays = ArrayIter::of_values(alloc, pages, values, data_type, 4, None)?;
+    let mut arrays = FlatIter::of_values(alloc, pages, values, data_type, 4, None)?;
     arrays.next_counted(&mut steps).transpose()
 }
 
@@ -203,13 +211,17 @@ fn first_array<I: Pages, V: IntoArray + Drop>(
     first_counted::<I, V, Brand>(alloc, pages, values, data_type, Blank::new(1))
 }
 
-/// The array of a column without rows.
+/// The array of a column without rows, where the type holds the values.
 fn empty_array<V: IntoArray + Drop>(
     alloc: Global,
     values: V,
     data_type: DataType,
-) -> Result<V::Array, Error> {
-    values.into_array(values.with_capacity(alloc, 0)?, data_type)
+) -> Result<Option<V::Array>, Error> {
+    if !values.fits(&data_type) {
+        return Ok(None);
+    }
+    let array = values.into_array(values.with_capacity(alloc, 0)?, data_type)?;
+    Ok(Some(array))
 }
 
 fn truths(alloc: Global, array: &BooleanArray) -> Result<Vec<Option<bool>>, AllocError> {
@@ -442,13 +454,13 @@ fn numbers_read<I: Pages>(alloc: Global, pages: I) -> Result<Vec<Option<i32>>, E
     requires { DataPagesAre (λ page. page.type.physical_type ≡ Int32) (I.to_come pages) }
 {
     let mut all = Vec::new(alloc);
-    let arrays: primitive::Iter<i32, I, i32, InBulk<Keep>> = primitive::Iter::new(
+    let arrays: primitive::Iter<i32, I, i32, Keep> = primitive::Iter::new(
         alloc,
         pages,
         DataType::Int32,
         4,
         Some(3),
-        InBulk(Keep),
+        Keep,
     )?;
     for array in arrays {
         all.append(&mut numbers(alloc, array?)?)?;
@@ -644,7 +656,7 @@ fn decimals_by_keys(rt: HostRuntime) -> Result<(), Fail> {
         read.as_slice(),
         [Some(-123), Some(123), Some(123), Some(123)].as_slice()
     );
-    let empty = empty_array(alloc, decimals, DECIMAL)?;
+    let empty = empty_array(alloc, decimals, DECIMAL)?.ok_or("none")?;
     assert!(rt; numbers(alloc, empty)?.is_empty());
     Ok(())
 }
@@ -692,7 +704,7 @@ fn arrays_of_truth_values(rt: HostRuntime) -> Result<(), Fail> {
     let pages = pages_of(alloc, PhysicalType::Boolean, Repetition::Required, chunk)?;
     let array = first_array(alloc, pages, TruthValues, DataType::Boolean)?.ok_or("none")?;
     assert_eq!(rt; array.len(), 4);
-    let empty = empty_array(alloc, TruthValues, DataType::Boolean)?;
+    let empty = empty_array(alloc, TruthValues, DataType::Boolean)?.ok_or("none")?;
     assert_eq!(rt; empty.len(), 0);
     Ok(())
 }
@@ -705,19 +717,16 @@ fn arrays_of_byte_strings(rt: HostRuntime) -> Result<(), Fail> {
     let pages = pages_of(alloc, STRINGS, Repetition::Required, chunk)?;
     let array = first_array(alloc, pages, pairs, DataType::FixedSizeBinary(2))?.ok_or("none")?;
     assert_eq!(rt; array.len(), 4);
-    let empty = empty_array(alloc, pairs, DataType::FixedSizeBinary(2))?;
+    let empty = empty_array(alloc, pairs, DataType::FixedSizeBinary(2))?.ok_or("none")?;
     assert_eq!(rt; empty.len(), 0);
-    let refused = empty_array(alloc, pairs, DataType::FixedSizeBinary(3)).err();
-    assert_eq!(rt; refused, Some(Error::InvalidArgumentError(Part::Request)));
+    assert!(rt; empty_array(alloc, pairs, DataType::FixedSizeBinary(3))?.is_none());
     Ok(())
 }
 
 #[test]
 fn arrays_of_numbers(rt: HostRuntime) -> Result<(), Fail> {
     let alloc = rt.alloc();
-    let days: NumberValues<i32, i64, InBulk<DaysToMillis>> = NumberValues::new(InBulk(
-        DaysToMillis,
-    ));
+    let days: NumberValues<i32, i64, DaysToMillis> = NumberValues::new(DaysToMillis);
     let chunk = page(
         alloc,
         4,
@@ -732,7 +741,7 @@ fn arrays_of_numbers(rt: HostRuntime) -> Result<(), Fail> {
         read.as_slice(),
         [Some(day), None, Some(2 * day), Some(3 * day)].as_slice()
     );
-    let empty = empty_array(alloc, days, DataType::Date64)?;
+    let empty = empty_array(alloc, days, DataType::Date64)?.ok_or("none")?;
     assert!(rt; numbers(alloc, empty)?.is_empty());
     Ok(())
 }

@@ -1,4 +1,4 @@
-//! Tests of the crates that read pages, selected rows and flat columns: worked values, and that each call succeeds where memory is left.
+//! Tests of the crates that read pages, selected rows, flat columns and byte strings: worked values, and that each call succeeds where memory is left.
 #![tactic(auto)]
 
 #[cfg(test)]
@@ -7,6 +7,8 @@ mod arrays;
 mod pages;
 #[cfg(test)]
 mod selected;
+#[cfg(test)]
+mod texts;
 #[cfg(test)]
 mod values;
 #[cfg(test)]

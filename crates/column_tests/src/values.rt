@@ -1,9 +1,9 @@
 //! Values that are converted, taken and named by keys.
 use columns_core::{DataType, Error, Part, TimeUnit, days_ms};
 use flat_values::{
-    Convert, DaysToMillis, FixedSizeBinary, FixedValues, InBulk, Int96Time, IntoArray, Narrow,
-    NumberValues, OneByOne, Scale, TruthValues, ValueDecoder, ValueEncoding, convert_days_ms,
-    convert_i128, convert_year_month, extend_plain, try_extend_plain, unifiy_timestmap_unit,
+    Convert, DaysToMillis, FixedSizeBinary, FixedValues, Int96Bits, Int96Time, IntoArray, Narrow,
+    NumberValues, Scale, TruthValues, ValueDecoder, ValueEncoding, Values, convert_days_ms,
+    convert_i128, convert_year_month, unifiy_timestmap_unit,
 };
 use parquet_meta::{ParquetTimeUnit, PrimitiveLogicalType};
 use parquet_page::DictPage;
@@ -28,27 +28,26 @@ fn numbers_and_times(rt: HostRuntime) {
     assert_eq!(rt; seconds.convert([0, 0, 2_440_589]), Ok(86_400));
     // One nanosecond before 1970.
     assert_eq!(rt; seconds.convert([2_437_873_663, 20_116, 2_440_587]), Ok(0));
+    assert_eq!(rt;
+        Int96Bits.convert([2_437_873_663, 20_116, 2_440_587]),
+        Ok(u64::MAX)
+    );
+    assert_eq!(rt; Int96Bits.convert([0, 0, u32::MAX]), Err(Error::Overflow));
 }
 
 #[test]
 fn plain_bytes(rt: HostRuntime) -> Result<(), Fail> {
     let mut times: Vec<i64> = Vec::new(rt.alloc());
-    extend_plain(
-        &mut times,
-        DaysToMillis,
-        &[[1, 0, 0, 0], [0xFF, 0xFF, 0xFF, 0xFF]],
-    )?;
-    try_extend_plain(
-        &mut times,
-        Scale::new(1000, true),
-        &[[2, 0, 0, 0, 0, 0, 0, 0]],
-    )?;
+    let days = [[1, 0, 0, 0], [0xFF, 0xFF, 0xFF, 0xFF]];
+    Convert::<i32, i64>::extend_plain(&DaysToMillis, &mut times, &days)?;
+    let thousands = Scale::new(1000, true);
+    Convert::<i64, i64>::extend_plain(&thousands, &mut times, &[[2, 0, 0, 0, 0, 0, 0, 0]])?;
     assert_eq!(rt;
         times.as_slice(),
         [86_400_000, -86_400_000, 2000].as_slice()
     );
     let greatest = [[0xFF, 0xFF, 0xFF, 0xFF, 0xFF, 0xFF, 0xFF, 0x7F]];
-    let refused = try_extend_plain(&mut times, Scale::new(1000, true), &greatest);
+    let refused = Convert::<i64, i64>::extend_plain(&thousands, &mut times, &greatest);
     assert_eq!(rt; refused, Err(Error::Overflow));
     Ok(())
 }
@@ -159,9 +158,7 @@ fn values_of_one_size(rt: HostRuntime) -> Result<(), Fail> {
 
 #[test]
 fn numbers_of_a_page(rt: HostRuntime) -> Result<(), Fail> {
-    let reader: NumberValues<i32, i64, InBulk<DaysToMillis>> = NumberValues::new(InBulk(
-        DaysToMillis,
-    ));
+    let reader: NumberValues<i32, i64, DaysToMillis> = NumberValues::new(DaysToMillis);
     let bytes = [1, 0, 0, 0, 2, 0, 0, 0, 3, 0, 0, 0];
     let mut place = reader.open(ValueEncoding::Plain, &bytes, 3, None)?;
     let mut numbers = reader.with_capacity(rt.alloc(), 3)?;
@@ -179,7 +176,7 @@ fn numbers_of_a_page(rt: HostRuntime) -> Result<(), Fail> {
 
 #[test]
 fn numbers_by_keys(rt: HostRuntime) -> Result<(), Fail> {
-    let reader: NumberValues<i64, u64, InBulk<Narrow>> = NumberValues::new(InBulk(Narrow));
+    let reader: NumberValues<i64, u64, Narrow> = NumberValues::new(Narrow);
     let entries = [7, 0, 0, 0, 0, 0, 0, 0, 8, 0, 0, 0, 0, 0, 0, 0];
     let page = DictPage {
         buffer: &entries,
@@ -210,9 +207,7 @@ fn times_of_older_files_by_keys(rt: HostRuntime) -> Result<(), Fail> {
     let seconds = Int96Time {
         unit: TimeUnit::Second,
     };
-    let reader: NumberValues<[u32; 3], i64, OneByOne<Int96Time>> = NumberValues::new(OneByOne(
-        seconds,
-    ));
+    let reader: NumberValues<[u32; 3], i64, Int96Time> = NumberValues::new(seconds);
     // The first and the second of January 1970.
     let entries = [
         0, 0, 0, 0, 0, 0, 0, 0, 0x8C, 0x3D, 0x25, 0, 0, 0, 0, 0, 0, 0, 0, 0, 0x8D, 0x3D, 0x25, 0,

@@ -4,7 +4,7 @@ ghost use Rattle.std.specs.Option.{option_copied};
 ghost use Rattle.parquet_page.specs.Content.{DataOf, data_content, fit_in, is_shaped};
 
 use columns_core::{DataType, Error};
-use flat_values::{FlatDecoder, InBulk, IntoArray, Keep, NumberValues, TruthValues};
+use flat_values::{FlatDecoder, IntoArray, Keep, NumberValues, TruthValues};
 use page_decoding::Decoder;
 use parquet_meta::{DataPageHeader, PhysicalType, PrimitiveType, Repetition};
 use parquet_page::{DataPage, Interval};
@@ -92,7 +92,7 @@ fn mixed_numbers(alloc: Global) -> Result<Vec<u8>, AllocError> {
 fn numbers_of(alloc: Global, selected_rows: Option<&[Interval]>) -> Result<Vec<Option<i32>>, Error>
     requires { fit_in 40 (option_map (λ rows. rows.now) selected_rows) ≡ true }
 {
-    let values: NumberValues<i32, i32, InBulk<Keep>> = NumberValues::new(InBulk(Keep));
+    let values: NumberValues<i32, i32, Keep> = NumberValues::new(Keep);
     let decoder = FlatDecoder { values };
     let buffer = mixed_numbers(alloc)?;
     let page = mixed_page(&OPTIONAL_NUMBERS, &buffer, selected_rows);

@@ -1,8 +1,9 @@
 //! Bitmaps, offsets, arrays, chunks and the text of errors.
 use columns_core::{
     Array, BinaryArray, Bitmap, BitmapIter, BooleanArray, Boxed, Cell, Chunk, DataType,
-    DictionaryArray, DictionaryKey, Error, FixedSizeBinaryArray, IntegerType, MutableBitmap,
-    NativeType, NullArray, Offset, Offsets, Part, PrimitiveArray, Utf8Array,
+    DictionaryArray, DictionaryKey, Error, Field, FixedSizeBinaryArray, IntegerType, ListArray,
+    MapArray, MutableBitmap, Name, NativeType, NullArray, Offset, Offsets, Part, PrimitiveArray,
+    Seq, StructArray, Utf8Array,
 };
 use std::process::Abort;
 use std::test::*;
@@ -248,6 +249,109 @@ fn dictionaries_take_keys_that_name_entries(rt: HostRuntime) -> Result<(), Fail>
         has_cell(&rt, &array, 0, &Cell::Int(-8))? && has_cell(&rt, &array, 1, &Cell::Null)?
     );
     assert!(rt; array.try_clone(rt.alloc())? == array);
+    Ok(())
+}
+
+#[test]
+fn dictionaries_show_keys_and_entries(rt: HostRuntime) -> Result<(), Fail> {
+    let keys = numbers(&rt, DataType::Int8, &[1i8, 0], &[true, false])?;
+    let array = dictionary(&rt, IntegerType::Int8, keys)?;
+    assert!(rt; array.len() == 2 && array.key(0) == Some(1) && array.key(1).is_none());
+    assert!(rt; has_cell(&rt, array.values(), 0, &Cell::Int(7))?);
+    Ok(())
+}
+
+fn field(rt: &HostRuntime, name: &str, data_type: DataType) -> Result<Field, Error> {
+    Ok(Field {
+        name: Name::new(String::from_str(rt.alloc(), name)?),
+        data_type,
+        is_nullable: true,
+    })
+}
+
+fn cells(rt: &HostRuntime, inside: &[i128]) -> Result<Cell, Error> {
+    let mut cells = Vec::with_capacity(rt.alloc(), inside.len())?;
+    for number in inside {
+        cells.push(Cell::Int(*number))?;
+    }
+    Ok(Cell::Cells(Seq::new(cells)))
+}
+
+fn list(rt: &HostRuntime, data_type: DataType) -> Result<ListArray, Error> {
+    let items = numbers(rt, DataType::Int16, &[1i16, 2, 3, 4], &[true; 4])?;
+    let places: Offsets<i32> = offsets(rt, &[2, 1, 1])?;
+    let validity = mask(rt, &[true, false, true])?;
+    ListArray::try_new(
+        rt.alloc(),
+        data_type,
+        places,
+        Array::Int16(items),
+        Some(validity),
+    )
+}
+
+#[test]
+fn lists_are_cut_from_their_items(rt: HostRuntime) -> Result<(), Fail> {
+    let item = Boxed::new(rt.alloc(), field(&rt, "item", DataType::Int16)?)?;
+    let array = Array::List(list(&rt, DataType::List(item))?);
+    assert!(rt; has_cell(&rt, &array, 0, &cells(&rt, &[1, 2])?)?);
+    assert!(rt; has_cell(&rt, &array, 1, &Cell::Null)?);
+    assert!(rt; has_cell(&rt, &array, 2, &cells(&rt, &[4])?)?);
+    assert!(rt; array.try_clone(rt.alloc())? == array);
+    let item = Boxed::new(rt.alloc(), field(&rt, "item", DataType::Int32)?)?;
+    assert!(rt; is_refused(list(&rt, DataType::List(item))));
+    let item = Boxed::new(rt.alloc(), field(&rt, "item", DataType::Int16)?)?;
+    assert!(rt; is_refused(list(&rt, DataType::LargeList(item))));
+    Ok(())
+}
+
+/// Two columns, of one row more than there are in the second.
+fn structs(rt: &HostRuntime, more: usize) -> Result<StructArray, Error> {
+    let mut fields = Vec::new(rt.alloc());
+    fields.push(field(rt, "number", DataType::Int64)?)?;
+    fields.push(field(rt, "nothing", DataType::Null)?)?;
+    let mut columns = Vec::new(rt.alloc());
+    let values = numbers(rt, DataType::Int64, &[5i64, 6], &[true, true])?;
+    columns.push(Array::Int64(values))?;
+    columns.push(Array::Null(NullArray::new(2 + more)))?;
+    let data_type = DataType::Struct(Seq::new(fields));
+    let validity = mask(rt, &[false, true])?;
+    StructArray::try_new(data_type, columns, Some(validity))
+}
+
+#[test]
+fn structs_are_columns_side_by_side(rt: HostRuntime) -> Result<(), Fail> {
+    let array = Array::Struct(structs(&rt, 0)?);
+    let mut row = Vec::new(rt.alloc());
+    row.push(Cell::Int(6))?;
+    row.push(Cell::Null)?;
+    assert!(rt; has_cell(&rt, &array, 0, &Cell::Null)?);
+    assert!(rt; has_cell(&rt, &array, 1, &Cell::Cells(Seq::new(row)))?);
+    assert!(rt; array.try_clone(rt.alloc())? == array);
+    assert!(rt; is_refused(structs(&rt, 1)));
+    let none = DataType::Struct(Seq::new(Vec::new(rt.alloc())));
+    assert!(rt; is_refused(StructArray::try_new(none, Vec::new(rt.alloc()), None)));
+    Ok(())
+}
+
+#[test]
+fn maps_are_lists_of_pairs(rt: HostRuntime) -> Result<(), Fail> {
+    let pairs = Array::Struct(structs(&rt, 0)?);
+    let pair = field(&rt, "pair", pairs.data_type().try_clone(rt.alloc())?)?;
+    let data_type = DataType::Map(Boxed::new(rt.alloc(), pair)?, false);
+    let array = Array::Map(MapArray::try_new(data_type, offsets(&rt, &[2, 0])?, pairs, None)?);
+    let mut row = Vec::new(rt.alloc());
+    row.push(Cell::Int(6))?;
+    row.push(Cell::Null)?;
+    let mut map = Vec::new(rt.alloc());
+    map.push(Cell::Null)?;
+    map.push(Cell::Cells(Seq::new(row)))?;
+    assert!(rt; has_cell(&rt, &array, 0, &Cell::Cells(Seq::new(map)))?);
+    assert!(rt; has_cell(&rt, &array, 1, &cells(&rt, &[])?)?);
+    assert!(rt; array.try_clone(rt.alloc())? == array);
+    let pairs = Array::Null(NullArray::new(2));
+    let data_type = array.data_type().try_clone(rt.alloc())?;
+    assert!(rt; is_refused(MapArray::try_new(data_type, offsets(&rt, &[2])?, pairs, None)));
     Ok(())
 }
 

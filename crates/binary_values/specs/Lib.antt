@@ -1,0 +1,6 @@
+pub mod Rebased
+pub mod ByteStrings
+pub mod ByteLeft
+pub mod OwnBytes
+pub mod ByteColumns
+pub mod Iterated

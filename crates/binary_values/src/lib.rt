@@ -1,0 +1,16 @@
+//! Texts and byte strings of columns, read into arrays.
+#![tactic(auto)]
+
+pub mod binary;
+mod byte_place;
+mod byte_values;
+mod into_array;
+mod named;
+mod string_walk;
+mod strings;
+
+pub use byte_place::BytePlace;
+pub use byte_values::{ByteValues, DecodedBytes};
+pub use into_array::ByteColumn;
+pub use string_walk::StringWalk;
+pub use strings::Strings;

@@ -1,0 +1,164 @@
+//! Byte strings one behind another, in vectors that grow.
+ghost use Rattle.std.specs.Prelude.{◌≡◌, ◌⊎◌, ◌↔◌, ◌≤◌, ◌<◌, ◌+◌, ◌-◌, ◌++◌, ◌∷◌, ℕ, IsTrue, IsUtf8, All, [], drop, length, replicate, sum_by, slice_get, slice_index, option_copied, IfOk, IfErr, OnOk};
+ghost use Rattle.columns_core.specs.Causes.{IsWantOfMemory};
+ghost use Rattle.columns_core.specs.Joined.{BeginAtCharacters};
+ghost use Rattle.columns_core.specs.Offsets.{AreOffsets, last, parts};
+ghost use Rattle.binary_values.specs.Rebased.{rebased};
+
+use columns_core::{Error, Offset, Offsets};
+use std::alloc::Global;
+use std::marker::Model;
+
+/// Byte strings that are appended one by one. Contracts see their list.
+#[derive(Drop)]
+pub struct Strings<O: Offset> {
+    offsets: Offsets<O>,
+    values: Vec<u8>,
+}
+
+impl<O: Offset> Model for Strings<O> {
+    ghost use Rattle.std.specs.Prelude.{◌≡◌, ◌≤◌, ℕ, List, length};
+    ghost use Rattle.columns_core.specs.Offsets.{AreOffsets, last, parts};
+
+    ghost Value = { List (List ℕ) };
+
+    ghost view = { λ strings. parts strings.offsets strings.values.items };
+
+    ghost invariant = { λ strings.
+        AreOffsets strings.offsets × (last strings.offsets ≡ length strings.values.items) × (last strings.offsets ≤ O.greatest) };
+}
+
+impl<O: Offset> Strings<O> {
+    /// No strings.
+    pub fn new(alloc: Global) -> Result<Self, Error>
+        ensures ok { IfOk result (λ strings. strings ≡ []) }
+        ensures memory { IfErr result IsWantOfMemory }
+    {
+        Ok(Strings {
+            offsets: Offsets::new(alloc)?,
+            values: Vec::new(alloc),
+        })
+    }
+
+    /// Takes memory for so many strings more.
+    pub fn reserve(&mut self, additional: usize) -> Result<(), Error>
+        ensures same { self.new ≡ self.old }
+        ensures memory { IfErr result IsWantOfMemory }
+    {
+        self.offsets.reserve(additional)
+    }
+
+    pub fn len(&self) -> usize
+        ensures { result ≡ length self.now }
+    {
+        self.offsets.len_proxy()
+    }
+
+    /// The string at a place, if there is one.
+    pub fn get(&self, i: usize) -> Option<&[u8]>
+        ensures { option_copied result ≡ slice_get self.now i }
+    {
+        if i < self.offsets.len_proxy() {
+            let (start, end) = self.offsets.start_end(i);
+            Some(&self.values[start..end])
+        } else {
+            None
+        }
+    }
+
+    /// One string more, unless the bytes of all pass the offset type.
+    pub fn push(&mut self, value: &[u8]) -> Result<(), Error>
+        ensures ok { OnOk result (self.new ≡ self.old ++ value.now ∷ []) }
+        ensures fits { OnOk result (sum_by length self.old + length value.now ≤ O.greatest) }
+        ensures err { let sum = sum_by length self.old + length value.now in
+            IfErr result (λ e. (self.new ≡ self.old) × (IsWantOfMemory e ⊎ ((e ≡ Error.Overflow) × (O.greatest < sum)))) }
+    {
+        let held = self.values.len();
+        self.values.extend_from_slice(value)?;
+        match self.offsets.try_push(value.len()) {
+            Ok(()) => Ok(()),
+            Err(error) => {
+                self.values.truncate(held);
+                Err(error)
+            }
+        }
+    }
+
+    /// So many empty strings more. After a refusal some of them may be there.
+    pub(crate) fn push_empty(&mut self, count: usize) -> Result<(), Error>
+        ensures ok { OnOk result (self.new ≡ self.old ++ replicate count []) }
+        ensures memory { IfErr result IsWantOfMemory }
+    {
+        for _ in 0..count {
+            self.push_end()?;
+        }
+        Ok(())
+    }
+
+    /// One empty string more.
+    fn push_end(&mut self) -> Result<(), Error>
+        ensures ok { OnOk result (self.new ≡ self.old ++ [] ∷ []) }
+        ensures memory { IfErr result IsWantOfMemory }
+    {
+        self.offsets.try_push(0)?;
+        Ok(())
+    }
+
+    /// Whether the strings behind the first `from` are texts: all of them together are, and none begins inside a character.
+    pub fn are_texts_from(&self, from: usize) -> bool
+        requires { from ≤ length self.now }
+        ensures { IsTrue result ↔ All IsUtf8 (drop from self.now) }
+    {
+        let start = start_of(&self.offsets, from);
+        match simdutf8::basic::from_utf8(&self.values[start..]) {
+            Err(_) => false,
+            Ok(text) => begin_at_characters(&self.offsets, text, from, start),
+        }
+    }
+
+    /// Where the strings begin and the last ends, and their bytes, joined.
+    pub fn into_parts(self) -> (Offsets<O>, Vec<u8>)
+        ensures parts { parts result.0 result.1.items ≡ self }
+        ensures shape { AreOffsets result.0 }
+        ensures end { last result.0 ≡ length result.1.items }
+    {
+        let Strings { offsets, values } = self;
+        (offsets, values)
+    }
+}
+
+/// Where an item begins, or the last ends.
+fn start_of<O: Offset>(offsets: &Offsets<O>, i: usize) -> usize
+    requires { i < length offsets.now }
+    ensures start { result ≡ slice_index offsets.now i }
+    ensures shape { AreOffsets offsets.now }
+{
+    if i < offsets.len_proxy() {
+        offsets.start_end(i).0
+    } else {
+        offsets.last()
+    }
+}
+
+fn begin_at_characters<O: Offset>(
+    offsets: &Offsets<O>,
+    text: &str,
+    from: usize,
+    start: usize,
+) -> bool
+    requires from { from < length offsets.now }
+    requires start { start ≡ slice_index offsets.now from }
+    requires length { length text.now ≡ last offsets.now - start }
+    ensures { IsTrue result ↔ BeginAtCharacters (rebased from offsets.now) text.now }
+{
+    let count = offsets.len_proxy();
+    if text.is_ascii() {
+        return true;
+    }
+    for i in from..count {
+        if !text.is_char_boundary(offsets.start_end(i).0 - start) {
+            return false;
+        }
+    }
+    true
+}

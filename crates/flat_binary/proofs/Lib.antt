@@ -1,0 +1,2 @@
+mod PageTypes
+mod CollectLemmas

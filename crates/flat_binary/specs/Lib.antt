@@ -1,0 +1,4 @@
+pub mod Built
+pub mod Left
+pub mod PagesWanted
+pub mod Collected
