@@ -1,11 +1,12 @@
--- How many pages are lent of a chunk and how many bytes are read of it, at most.
+-- How many pages are lent of a chunk, and how many bytes are read of it at most.
 use Rattle.std.proofs.Common.{◌≡◌, ℕ, zero, suc, get_or, ◌+◌, ◌-◌, ◌<◌, ◌≤◌, Bool, true, false, not, cond, List, [], ◌∷◌, length, map, drop, Option, Some, None, refl, sym, subst, ◌∙◌, ap, arith, inl, inr}
 use Rattle.std.specs.Prelude.{filter, zip, sum_by, unwrap_or, option_map, ◌==◌, ◌&&◌, ◌||◌, max, min, IfSome, if◌then◌else◌}
 use Rattle.std.specs.List.{list_any, range_with_len}
 use Rattle.std.specs.Option.{option_map_or}
-use Rattle.std.proofs.lemmas.Bool.{cases_lt, eq-eqb, lt-ltb}
-use Rattle.std.proofs.lemmas.List.{drop_all, drop_more, length-map}
+use Rattle.std.proofs.lemmas.Bool.{cases_lt, eq-eqb, lt-ltb, ltb-true, or_right, true≢false}
+use Rattle.std.proofs.lemmas.List.{drop_all, drop_more}
 use Rattle.std.proofs.lemmas.List.Sums.{sum_by-cons}
+use Rattle.std.proofs.lemmas.Slice.Zip.{length-zip}
 use Rattle.columns_core.specs.declared.data_type.DataType.{DataType}
 use Rattle.columns_core.specs.declared.data_type.Field.{Field}
 use Rattle.parquet_base.specs.Intervals.{holds, interval}
@@ -13,32 +14,29 @@ use Rattle.parquet_base.specs.Intervals.{rows_of as rows_in}
 use Rattle.parquet_base.specs.declared.interval.Interval.{Interval}
 use Rattle.parquet_meta.specs.Chunks.{chunk_causes, chunk_range, has_range}
 use Rattle.parquet_meta.specs.Indexes.{length_of, offset_index_length}
-use Rattle.parquet_meta.specs.Places.{bytes_at}
 use Rattle.parquet_meta.specs.declared.metadata.ColumnChunkMetaData.{ColumnChunkMetaData}
 use Rattle.parquet_meta.specs.declared.metadata.PageLocation.{PageLocation}
 use Rattle.parquet_meta.specs.declared.metadata.Place.{Place}
-use Rattle.parquet_meta.specs.declared.metadata.PrimitiveType.{PrimitiveType}
 use Rattle.parquet_meta.specs.declared.metadata.RowGroupMetaData.{RowGroupMetaData}
-use Rattle.columns_core.specs.Causes.{is_empty, NotYetImplemented}
-use Rattle.parquet_page.specs.Chunk.{ChunkPage, Dictionary, NoDictionary, Undefined, Defined, PlacedPage, Walk, chunk_dictionary, chunk_pages, dictionary_size, pages_of_chunk, placed_pages}
+use Rattle.columns_core.specs.Causes.{is_empty}
+use Rattle.parquet_page.specs.Chunk.{Dictionary, NoDictionary, Undefined, Defined, PlacedPage}
 use Rattle.parquet_page.specs.Content.{header_values}
-use Rattle.parquet_page.specs.Lent.{behind_dictionary, chunk_lent, data_of, dictionary_of, first_start, if_there, in_front, is_wanted, lent_data, lent_parts, located_lent, wanted_page}
+use Rattle.parquet_page.specs.Lent.{first_start, is_wanted}
+use Rattle.parquet_page.specs.Located.{dictionary_in}
 use Rattle.parquet_page.specs.Locations.{part_of}
-use Rattle.parquet_page.specs.Spelling.{has_plain_entries}
 use Rattle.parquet_page.specs.declared.page.FilteredPage.{FilteredPage}
 use Rattle.parquet_encoding.proofs.StepLemmas.{given_some}
-use Rattle.parquet_page.proofs.RowSums.{page_values as values_of}
-use Rattle.parquet_scan.specs.Cells.{chunk_of, first_location, is_null_type}
-use Rattle.parquet_scan.specs.Costs.{is_walked, lent_of_chunk, lent_of_column, lent_of_read, located_bytes, location_length, names_some, offset_index_of, opened_locations, taken_of_chunk, taken_of_column, taken_of_read}
-use Rattle.parquet_scan.specs.Counting.{column_taken, every_row}
+use Rattle.parquet_scan.specs.Causes.{begins_below}
+use Rattle.parquet_scan.specs.Cells.{Reading, chunk_of, dictionary_by_locations, first_location, is_null_type, walked_dictionary, walked_pages}
+use Rattle.parquet_scan.specs.Costs.{is_walked, lent_of_chunk, lent_of_read, located_bytes, location_length, most_of_chunk, most_of_read, names_some, offset_index_of, opened_locations, opened_walked, pages_walked, taken_of_chunk, taken_of_column, taken_of_read, with_dictionary_page}
+use Rattle.parquet_scan.specs.Counting.{column_taken}
 use Rattle.parquet_scan.specs.Located.{entry_place}
 use Rattle.parquet_scan.specs.Pages.{locations, rows_at}
 use Rattle.parquet_scan.specs.Rows.{column_named}
-use Rattle.parquet_scan.specs.Scan.{RisesBy}
-use Rattle.parquet_scan.proofs.CellLemmas.{chunk_fits, walked}
+use Rattle.parquet_scan.specs.Scan.{RisesBy, RisesJustBy}
 use Rattle.parquet_scan.proofs.LocatedLemmas.{AreEntries, any_row, holds_some}
 use Rattle.parquet_scan.proofs.LocationLemmas.{HaveRows, have_rows}
-use Rattle.parquet_scan.proofs.OpenedLemmas.{IsSelected, rows_of_selected}
+use Rattle.parquet_scan.proofs.OpenedLemmas.{AreParts, IsSelected, reading_is, rows_of_selected, same_reading}
 use Rattle.parquet_scan.proofs.PairLemmas.{pair_at}
 
 -- ---- counts that rise
@@ -84,76 +82,10 @@ pub rises_pairs : {X Y : Type 0} (told : Option (List ℕ)) (cost : List ℕ →
 rises_pairs None cost xs ys i start now h so_far = tt
 rises_pairs (Some bytes) cost xs ys i start now h so_far = omega (arith, so_far, no_pair_left (cost bytes) xs ys i h)
 
--- ---- pages that are lent
-
--- there is at most one page in each part
-few_parts : (type : PrimitiveType) (parts : List (FilteredPage × List ℕ)) → length (lent_parts type parts).pages ≤ length parts
-unfolding lent_parts
-few_parts type [] = omega arith
-few_parts type (wanted ∷ others) = by (wanted_page wanted.0 wanted.1) (few_parts type others) where
-  by : (o : Option ChunkPage) → length (lent_parts type others).pages ≤ length others → length (if_there type wanted.0 o (lent_parts type others)).pages ≤ length (wanted ∷ others)
-  by None few = omega arith
-  by (Some page) few = omega (arith, few)
-
--- and one dictionary before them
-pub few_located : (type : PrimitiveType) (before : Dictionary) (parts : List (FilteredPage × List ℕ)) → length (located_lent type before parts).pages ≤ length parts + 1
-unfolding located_lent
-few_located type before [] = omega arith
-few_located type NoDictionary (wanted ∷ others) = omega (arith, few_parts type (wanted ∷ others))
-few_located type Undefined (wanted ∷ others) = omega arith
-few_located type (Defined page) (wanted ∷ others) = by (has_plain_entries page.encoding) where
-  by : (b : Bool) → length (if b then in_front (dictionary_of page) (lent_parts type (wanted ∷ others)) else record { pages = []; causes = NotYetImplemented ∷ [] }).pages ≤ length (wanted ∷ others) + 1
-  by true = omega (arith, few_parts type (wanted ∷ others))
-  by false = omega arith
-
--- ---- pages of a chunk that are walked over
-
--- a page that begins among so many rows holds one of them, or has none
-is_walked_over : (n start row : ℕ) (page : ChunkPage) → row + header_values page.header ≤ n → is_walked (range_with_len 0 n) (record { start = start; first_row = row; page = page }) ≡ true
-is_walked_over n start row page fits = elim (cases_lt 0 (header_values page.header)) [
-  | inl more ↦ or_second (header_values page.header == 0) (list_any (holds (interval row (header_values page.header))) (range_with_len 0 n))
-      (any_row (interval row (header_values page.header)) 0 n ∙ lt-ltb (max row 0) (min (row + header_values page.header) (0 + n)) (omega (arith, more, fits)))
-  | inr none ↦ ap (λ b. b || list_any (holds (interval row (header_values page.header))) (range_with_len 0 n)) (eq-eqb (header_values page.header) 0 (omega (arith, none)))
-] where
-  or_second : (a b : Bool) → b ≡ true → (a || b) ≡ true
-  or_second true b e = refl
-  or_second false b e = e
-
-all_walked : (n start row : ℕ) (pages : List ChunkPage) → row + sum_by values_of pages ≤ n → length (filter (is_walked (range_with_len 0 n)) (placed_pages start row pages)) ≡ length pages
-all_walked n start row [] fits = refl
-all_walked n start row (page ∷ pages) fits =
-    let sum = sum_by-cons values_of page pages in
-    let others = placed_pages (start + page.size) (row + header_values page.header) pages in
-    let placed : PlacedPage = record { start = start; first_row = row; page = page } in
-    ap (λ b. length (cond b (placed ∷ filter (is_walked (range_with_len 0 n)) others) (filter (is_walked (range_with_len 0 n)) others))) (is_walked_over n start row page (omega (arith, fits, sum)))
-    ∙ (let rest = all_walked n (start + page.size) (row + header_values page.header) pages (omega (arith, fits, sum)) in omega (arith, rest))
-
--- what is lent of a walk: its pages, and a dictionary
-behind_walked : (type : PrimitiveType) (dictionary : Dictionary) (walk : Walk) (start n : ℕ) → sum_by values_of walk.pages ≤ n
-    → length (behind_dictionary dictionary (lent_data type walk)).pages ≤ length (filter (is_walked (range_with_len 0 n)) (placed_pages start 0 walk.pages)) + 1
-behind_walked type NoDictionary walk start n fits = omega (arith, length-map walk.pages (data_of type None), all_walked n start 0 walk.pages (omega (arith, fits)))
-behind_walked type Undefined walk start n fits = omega arith
-behind_walked type (Defined page) walk start n fits = by (has_plain_entries page.encoding) where
-  by : (b : Bool) → length (if b then in_front (dictionary_of page) (lent_data type walk) else record { pages = []; causes = NotYetImplemented ∷ [] }).pages ≤ length (filter (is_walked (range_with_len 0 n)) (placed_pages start 0 walk.pages)) + 1
-  by true = omega (arith, length-map walk.pages (data_of type None), all_walked n start 0 walk.pages (omega (arith, fits)))
-  by false = omega arith
-
-chunk_walked : (type : PrimitiveType) (n : ℕ) (chunk : List ℕ) → length (chunk_lent type n chunk).pages ≤ length (filter (is_walked (range_with_len 0 n)) (pages_of_chunk n chunk)) + 1
-unfolding chunk_lent
-chunk_walked type zero chunk = omega arith
-chunk_walked type (suc more) chunk = behind_walked type (chunk_dictionary chunk) (chunk_pages (suc more) chunk) (dictionary_size chunk) (suc more) (chunk_fits (suc more) chunk)
-
--- what is lent of a chunk that was read
-pub lent_walked : (told : Option (List ℕ)) (group : RowGroupMetaData) (column : ColumnChunkMetaData) (chunk : List ℕ) (before now : ℕ)
-    → IfSome told (λ bytes. option_map (bytes_at bytes) (chunk_of bytes group column) ≡ Some chunk) → column.num_values ≡ group.num_rows
-    → now ≡ before + length (chunk_lent column.descriptor.primitive_type column.num_values chunk).pages → RisesBy told before now (λ bytes. lent_of_chunk false bytes group (every_row group) column)
-lent_walked None group column chunk before now found counted e = tt
-lent_walked (Some bytes) group column chunk before now found counted e =
-    let few = chunk_walked column.descriptor.primitive_type column.num_values chunk in
-    let rows : every_row group ≡ range_with_len 0 column.num_values = ap (range_with_len 0) (sym counted) in
-    let same : lent_of_chunk false bytes group (every_row group) column ≡ length (filter (is_walked (range_with_len 0 column.num_values)) (pages_of_chunk column.num_values chunk)) + 1
-    = λ i. length (filter (is_walked (rows i)) (walked bytes column (chunk_of bytes group column) chunk found i)) + 1 in
-    omega (arith, e, few, same)
+-- a count that is one of the bytes
+pub just_told : (told : Option (List ℕ)) (before now count : ℕ) (whole : List ℕ → ℕ) → IfSome told (λ bytes. count ≡ whole bytes) → now ≡ before + count → RisesJustBy told before now whole
+just_told None before now count whole same e = tt
+just_told (Some bytes) before now count whole same e = omega (arith, same, e)
 
 -- ---- pages of a chunk that are located
 
@@ -228,10 +160,21 @@ module _ (group : RowGroupMetaData) (column : ColumnChunkMetaData) (intervals : 
       subst (λ named. AreAsLong named (filter is_wanted entries)) (sym (opened_at bytes told))
       (wanted_as_long intervals given_locations (have.first ∷ have.others) entries (rows_of_selected group intervals given_locations entries selected))
 
-  pub lent_located : (told : Option (List ℕ)) (before now : ℕ) → IfSome told (λ bytes. locations bytes column ≡ given_locations) → now ≤ before + (length (filter is_wanted entries) + 1)
-      → RisesBy told before now (λ bytes. lent_of_chunk true bytes group (rows_in intervals) column)
-  lent_located None before now told e = tt
-  lent_located (Some bytes) before now told e = omega (arith, e, (as_long bytes told).count)
+  -- The opened pages are lent, and where there is one, the dictionary in the part before all of them.
+  pub lent_located : (told : Option (List ℕ)) (data_type : DataType) (chunk : Place) (before : List ℕ) (bodies : List (List ℕ)) → IfSome told (λ bytes. chunk_of bytes group column ≡ Some chunk)
+      → IfSome told (λ bytes. locations bytes column ≡ given_locations) → IfSome told (λ bytes. AreParts bytes chunk entries before bodies) → length bodies ≡ length (filter is_wanted entries)
+      → IfSome told (λ bytes. with_dictionary_page (dictionary_in before) (length (zip (filter is_wanted entries) bodies)) ≡ lent_of_chunk true bytes group (rows_in intervals) column)
+  lent_located None data_type chunk before bodies placed told parts counted = tt
+  lent_located (Some bytes) data_type chunk before bodies placed told parts counted =
+      let count : length (zip (filter is_wanted entries) bodies) ≡ length (opened_locations bytes group (rows_in intervals) column)
+      = omega (arith, length-zip (filter is_wanted entries) bodies, counted, (as_long bytes told).count) in
+      let reading = reading_is group column data_type intervals chunk given_locations entries selected bytes placed told in
+      ap (with_dictionary_page (dictionary_in before)) count
+      ∙ by (length (opened_locations bytes group (rows_in intervals) column))
+      (λ some. sym (ap (λ (reading : Reading). reading.dictionary) (reading ∙ same_reading None group column data_type intervals chunk given_locations entries before bodies bytes parts (omega (arith, some, (as_long bytes told).count))))) where
+        by : (n : ℕ) → (0 < n → dictionary_in before ≡ dictionary_by_locations bytes group column) → with_dictionary_page (dictionary_in before) n ≡ with_dictionary_page (dictionary_by_locations bytes group column) n
+        by zero same = refl
+        by (suc n) same = ap (λ dictionary. with_dictionary_page dictionary (suc n)) (same (omega arith))
 
   located_taken : (bytes : List ℕ) (chunk : Place) (b : Bool) → chunk_of bytes group column ≡ Some chunk → locations bytes column ≡ given_locations → (b ≡ true → 0 < length (filter is_wanted entries))
       → (if b then first_start entries - chunk.offset else 0) + sum_by (λ (entry : FilteredPage). entry.length) (filter is_wanted entries) ≤ taken_of_chunk true bytes group (rows_in intervals) column
@@ -255,19 +198,14 @@ module _ (group : RowGroupMetaData) (column : ColumnChunkMetaData) (intervals : 
 -- ---- a column as it is read, and the column of a name
 
 pub lent_as_read : (told : Option (List ℕ)) (by_pages : Bool) (group : RowGroupMetaData) (rows : List ℕ) (data_type : DataType) (column : ColumnChunkMetaData) → is_null_type data_type ≡ false
-    → IfSome told (λ bytes. lent_of_chunk by_pages bytes group rows column ≤ lent_of_read by_pages bytes group rows data_type column)
+    → IfSome told (λ bytes. lent_of_read by_pages bytes group rows data_type column ≡ lent_of_chunk by_pages bytes group rows column)
 lent_as_read None by_pages group rows data_type column not_null = tt
-lent_as_read (Some bytes) by_pages group rows data_type column not_null = omega (arith, ap (λ b. if b then 0 else lent_of_chunk by_pages bytes group rows column) not_null)
+lent_as_read (Some bytes) by_pages group rows data_type column not_null = ap (λ b. if b then 0 else lent_of_chunk by_pages bytes group rows column) not_null
 
 pub taken_as_read : (told : Option (List ℕ)) (by_pages : Bool) (index : ℕ) (group : RowGroupMetaData) (rows : List ℕ) (data_type : DataType) (column : ColumnChunkMetaData) → is_null_type data_type ≡ false
     → IfSome told (λ bytes. index + taken_of_chunk by_pages bytes group rows column ≤ index + taken_of_read by_pages bytes group rows data_type column)
 taken_as_read None by_pages index group rows data_type column not_null = tt
 taken_as_read (Some bytes) by_pages index group rows data_type column not_null = omega (arith, ap (λ b. if b then 0 else taken_of_chunk by_pages bytes group rows column) not_null)
-
-pub lent_named : (told : Option (List ℕ)) (by_pages : Bool) (group : RowGroupMetaData) (rows : List ℕ) (field : Field) (column : ColumnChunkMetaData) → column_named group field.name ≡ Some column
-    → IfSome told (λ bytes. lent_of_read by_pages bytes group rows field.data_type column ≤ lent_of_column by_pages bytes group rows field)
-lent_named None by_pages group rows field column named = tt
-lent_named (Some bytes) by_pages group rows field column named = omega (arith, ap (λ o. option_map_or (lent_of_read by_pages bytes group rows field.data_type) o 0) named)
 
 pub taken_named : (told : Option (List ℕ)) (by_pages : Bool) (group : RowGroupMetaData) (rows : List ℕ) (field : Field) (column : ColumnChunkMetaData) → column_named group field.name ≡ Some column
     → IfSome told (λ bytes. (if by_pages then offset_index_length column else 0) + taken_of_read by_pages bytes group rows field.data_type column ≤ column_taken by_pages bytes group rows field)
@@ -280,3 +218,49 @@ taken_named (Some bytes) by_pages group rows field column named =
           → (if b then offset_index_length column else 0) + taken_of_read by_pages bytes group rows field.data_type column ≤ (if b then offset_index_of group field else 0) + taken_of_column by_pages bytes group rows field
       by true index own = omega (arith, index, own)
       by false index own = omega (arith, own)
+
+-- ---- no more pages are lent than the bound says
+
+with_one : (dictionary : Dictionary) (pages : ℕ) → with_dictionary_page dictionary pages ≤ pages + 1
+with_one _ zero = omega arith
+with_one NoDictionary (suc pages) = omega arith
+with_one Undefined (suc pages) = omega arith
+with_one (Defined page) (suc pages) = omega arith
+
+-- a page that begins among so many rows holds one of them, or has none
+is_walked_over : (n : ℕ) (placed : PlacedPage) → begins_below n placed ≡ true → is_walked (range_with_len 0 n) placed ≡ true
+is_walked_over n placed below = elim (cases_lt 0 count) [
+  | inl more ↦ or_right (count == 0) (list_any (holds (interval row count)) (range_with_len 0 n))
+      (any_row (interval row count) 0 n ∙ lt-ltb (max row 0) (min (row + count) (0 + n)) (omega (arith, more, ltb-true row n below)))
+  | inr none ↦ ap (λ b. b || list_any (holds (interval row count)) (range_with_len 0 n)) (eq-eqb count 0 (omega (arith, none)))
+] where
+  row : ℕ
+  row = placed.first_row
+
+  count : ℕ
+  count = header_values placed.page.header
+
+fewer-pass : {X : Type 0} (test other : X → Bool) (xs : List X) → ((x : X) → test x ≡ true → other x ≡ true) → length (filter test xs) ≤ length (filter other xs)
+fewer-pass test other [] passes = omega arith
+fewer-pass {X} test other (x ∷ xs) passes = by (test x) (other x) refl refl (fewer-pass test other xs passes) where
+  by : (b c : Bool) → test x ≡ b → other x ≡ c → length (filter test xs) ≤ length (filter other xs) → length (cond b (x ∷ filter test xs) (filter test xs)) ≤ length (cond c (x ∷ filter other xs) (filter other xs))
+  by true true e k rest = omega (arith, rest)
+  by true false e k rest = absurd (true≢false (sym (passes x e) ∙ k))
+  by false true e k rest = omega (arith, rest)
+  by false false e k rest = rest
+
+most_of : (by_pages : Bool) (bytes : List ℕ) (group : RowGroupMetaData) (rows : List ℕ) (column : ColumnChunkMetaData) → (by_pages ≡ false → rows ≡ range_with_len 0 (length rows))
+    → lent_of_chunk by_pages bytes group rows column ≤ most_of_chunk by_pages bytes group rows column
+most_of true bytes group rows column first = with_one (dictionary_by_locations bytes group column) (length (opened_locations bytes group rows column))
+most_of false bytes group rows column first =
+    let few = fewer-pass (begins_below (length rows)) (is_walked (range_with_len 0 (length rows))) (walked_pages bytes group column) (is_walked_over (length rows)) in
+    let same : length (filter (is_walked (range_with_len 0 (length rows))) (walked_pages bytes group column)) ≡ length (pages_walked bytes group rows column)
+    = ap (λ rows. length (filter (is_walked rows) (walked_pages bytes group column))) (sym (first refl)) in
+    omega (arith, few, same, with_one (walked_dictionary bytes group column) (length (opened_walked bytes group rows column)))
+
+pub lent_most : (by_pages : Bool) (bytes : List ℕ) (group : RowGroupMetaData) (rows : List ℕ) (data_type : DataType) (column : ColumnChunkMetaData) → (by_pages ≡ false → rows ≡ range_with_len 0 (length rows))
+    → lent_of_read by_pages bytes group rows data_type column ≤ most_of_read by_pages bytes group rows data_type column
+lent_most by_pages bytes group rows data_type column first = by (is_null_type data_type) where
+  by : (b : Bool) → (if b then 0 else lent_of_chunk by_pages bytes group rows column) ≤ (if b then 0 else most_of_chunk by_pages bytes group rows column)
+  by true = omega arith
+  by false = most_of by_pages bytes group rows column first

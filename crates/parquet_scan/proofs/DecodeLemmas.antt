@@ -1,81 +1,36 @@
--- The rows of pages that are decoded behind each other.
-use Rattle.std.proofs.Common.{◌≡◌, ◌∙◌, ℕ, Bool, true, false, List, [], ◌∷◌, ◌++◌, map, Option, refl, sym, ap, subst, inr, append_assoc, append-nil}
-use Rattle.std.proofs.lemmas.Bool.{eqb-true, and_parts, not-true}
-use Rattle.std.specs.Prelude.{◌==◌, ◌&&◌, ◌||◌, not, is_some, None, Result, if◌then◌else◌}
-use Rattle.columns_core.specs.Causes.{Cause, NotYetImplemented, IsOneOf, cause_of, is_empty}
+-- The arrays of a column, by the definitions of a scan.
+use Rattle.std.proofs.Common.{◌≡◌, ◌∙◌, ℕ, ◌+◌, ◌-◌, ◌^◌, ◌≤◌, Bool, true, false, List, [], ◌∷◌, length, map, take, Option, ap, ap₂, refl, subst, sym}
+use Rattle.std.proofs.lemmas.Bool.{and_parts, not-true}
+use Rattle.std.specs.Prelude.{◌&&◌, ◌||◌, not, is_some, min, All, None, Some, Result, Ok, Err, IfErr, IfOk, IfSome, OnOk, if◌then◌else◌, sum_by}
+use Rattle.std.specs.Option.{option_map_or}
+use Rattle.columns_core.specs.Array.{cells, data_type_of}
+use Rattle.columns_core.specs.Causes.{NotYetImplemented}
 use Rattle.columns_core.specs.Types.{Layer}
-use Rattle.columns_core.specs.declared.data_type.DataType.{DataType, Interval, out-DataType}
+use Rattle.columns_core.specs.declared.array.Array.{Array}
+use Rattle.columns_core.specs.declared.data_type.DataType.{DataType, out-DataType}
 use Rattle.columns_core.specs.declared.data_type.DataType.TheOpen.{DataType-F}
-use Rattle.columns_core.specs.declared.data_type.IntervalUnit.{IntervalUnit}
-use Rattle.columns_core.specs.declared.data_type.IntervalUnit.TheVariants.{YearMonth, DayTime}
-use Rattle.columns_core.specs.declared.cell.Cell.{Cell}
 use Rattle.columns_core.specs.declared.error.Error.{Error}
-use Rattle.parquet_base.specs.Reading.{given}
+use Rattle.parquet_base.specs.Pieces.{cut}
 use Rattle.parquet_meta.specs.declared.metadata.PhysicalType.{PhysicalType}
+use Rattle.parquet_meta.specs.declared.metadata.PhysicalType.TheVariants.{Boolean, Int32, Int64, Int96, Float, Double, ByteArray, FixedLenByteArray}
 use Rattle.parquet_meta.specs.declared.metadata.PrimitiveLogicalType.{PrimitiveLogicalType}
 use Rattle.parquet_meta.specs.declared.metadata.PrimitiveType.{PrimitiveType}
-use Rattle.parquet_page.specs.Content.{Content, DataContent, DictContent, DataOf, DictOf}
-use Rattle.page_decoding.specs.Column.{DataPagesAre, entries_behind, followed_by, page_rows, rows}
-use Rattle.page_decoding.specs.Outcome.{Outcome, Given, IsCausedBy, causes_in, refused}
-use Rattle.flat_values.specs.Conversion.{Conversion, Months, DaysAndMilliseconds}
-use Rattle.flat_values.specs.Pairs.{conversion, conversion_at, from_fixed, from_physical, is_repeated}
+use Rattle.parquet_page.specs.Content.{Content, DataOf, DictOf}
+use Rattle.parquet_page.specs.Lending.{AreOfType, DataPagesAre}
+use Rattle.page_decoding.specs.Bytes.{IsCausedByChunks, cell_bytes, fits_most}
+use Rattle.page_decoding.specs.Outcome.{Given}
+use Rattle.flat_values.specs.Arrays.{decoding_by}
+use Rattle.flat_values.specs.ColumnLeft.{ColumnLeft, wanted}
+use Rattle.flat_values.specs.Conversion.{Conversion}
+use Rattle.flat_values.specs.MostBytes.{most_bytes, most_bytes_at}
+use Rattle.flat_values.specs.Pairs.{conversion, conversion_at, from_boolean, from_byte_array, from_fixed, from_int32, from_int64, from_int96, from_physical, is_repeated}
+use Rattle.flat_binary.specs.Built.{collected_by, is_built_pair, is_byte_array, is_dictionary, is_dictionary_at, is_null_at, is_null_type}
+use Rattle.flat_binary.specs.Collected.{AreCollected, Collects}
+use Rattle.flat_binary.specs.Left.{Supply, converted_left, decoded_left}
+use Rattle.flat_binary.specs.PagesWanted.{pages_wanted}
 use Rattle.parquet_scan.specs.Causes.{pair_causes}
-use Rattle.parquet_scan.specs.Cells.{is_null_at, is_null_type}
-use Rattle.parquet_scan.specs.NotBuilt.{is_built_pair, is_byte_array, is_dictionary, is_dictionary_at}
-use Rattle.page_decoding.proofs.NextLemmas.{given-whole}
-use Rattle.page_decoding.proofs.RowLemmas.{caused-left, caused-right}
+use Rattle.parquet_scan.specs.Decoded.{column_rows, pages_by, pages_for, rows_by}
 use Rattle.parquet_page.proofs.SpelledLemmas.{none_of}
-
--- ---- the data pages among pages
-
-pub first_is : (P : DataContent → Type 0) (pages rest : List Content) (page : Content) → pages ≡ page ∷ rest → DataPagesAre P pages → DataPagesAre P (page ∷ []) × DataPagesAre P rest
-first_is P pages rest page e are = let Q : List Content → Type 0 = λ xs. DataPagesAre P xs in split page (subst Q e are) where
-  split : (page : Content) → DataPagesAre P (page ∷ rest) → DataPagesAre P (page ∷ []) × DataPagesAre P rest
-  split (DataOf only) are = ((are.0, tt), are.1)
-  split (DictOf dict) are = (tt, are)
-
--- ---- rows
-
-wrong_first : (goes_on : Bool) (first later : List Outcome) (error : Error) → IsCausedBy first error → IsCausedBy (if goes_on then first ++ later else first) error
-wrong_first true first later error told = caused-left first later error told
-wrong_first false first later error told = told
-
-wrong_refused : (causes : List Cause) (error : Error) → IsOneOf causes (cause_of error) → IsCausedBy (refused causes) error
-wrong_refused [] error wrong = inr wrong
-wrong_refused (cause ∷ causes) error wrong = let P : List Cause → Type 0 = λ found. IsOneOf found (cause_of error) in inr (subst P (sym (append-nil (cause ∷ causes))) wrong)
-
-module _ (entries : DictContent → Result (List Cell) (List Cause)) (outcomes : Option (List Cell) → DataContent → List Outcome) where
-  -- A page that is taken adds its rows to those before it, which stand in front of all that are left.
-  pub rows_taken : (dictionary behind : Option (List Cell)) (before after : List Cell) (page : Content) (pages rest : List Content) (causes causes_now : List Cause) (all : List Outcome) → pages ≡ page ∷ rest → causes_now ≡ causes
-      → behind ≡ entries_behind entries outcomes dictionary page → map Given after ≡ map Given before ++ page_rows entries outcomes dictionary page → map Given before ++ rows entries outcomes dictionary pages causes ≡ all
-      → map Given after ++ rows entries outcomes behind rest causes_now ≡ all
-  rows_taken dictionary behind before after page pages rest causes causes_now all first same known added whole =
-      let own = page_rows entries outcomes dictionary page in
-      let later = rows entries outcomes (entries_behind entries outcomes dictionary page) rest causes in
-      let goes_on : own ++ later ≡ followed_by own later = sym (ap (λ found. if is_empty found then own ++ later else own) (given-whole before after own added)) in
-      (λ i. map Given after ++ rows entries outcomes (known i) rest (same i))
-      ∙ ap (λ xs. xs ++ later) added
-      ∙ append_assoc (map Given before) own later
-      ∙ ap (λ xs. map Given before ++ xs) (goes_on ∙ ap (λ left. rows entries outcomes dictionary left causes) (sym first))
-      ∙ whole
-
-  -- What is wrong with the next page is wrong with all rows.
-  pub wrong_page : (dictionary : Option (List Cell)) (before : List Cell) (page : Content) (pages rest : List Content) (causes : List Cause) (all : List Outcome) (error : Error) → pages ≡ page ∷ rest
-      → map Given before ++ rows entries outcomes dictionary pages causes ≡ all → IsCausedBy (page_rows entries outcomes dictionary page) error → IsCausedBy all error
-  wrong_page dictionary before page pages rest causes all error first whole told =
-      let own = page_rows entries outcomes dictionary page in
-      let later = rows entries outcomes (entries_behind entries outcomes dictionary page) rest causes in
-      let same : map Given before ++ followed_by own later ≡ all = ap (λ left. map Given before ++ rows entries outcomes dictionary left causes) (sym first) ∙ whole in
-      let P : List Outcome → Type 0 = λ xs. IsCausedBy xs error in
-      subst P same (caused-right (map Given before) (followed_by own later) error (wrong_first (is_empty (causes_in own)) own later error told))
-
-  -- So is what is wrong behind the last page.
-  pub wrong_end : (dictionary : Option (List Cell)) (before : List Cell) (pages : List Content) (causes : List Cause) (all : List Outcome) (error : Error) → pages ≡ []
-      → map Given before ++ rows entries outcomes dictionary pages causes ≡ all → IsOneOf causes (cause_of error) → IsCausedBy all error
-  wrong_end dictionary before pages causes all error none whole wrong =
-      let same : map Given before ++ refused causes ≡ all = ap (λ left. map Given before ++ rows entries outcomes dictionary left causes) (sym none) ∙ whole in
-      let P : List Outcome → Type 0 = λ xs. IsCausedBy xs error in
-      subst P same (caused-right (map Given before) (refused causes) error (wrong_refused causes error wrong))
 
 -- ---- pairs of types
 
@@ -89,12 +44,12 @@ found_only true rule some = cc
 found_only false rule some = refl
 
 -- A pair that is carried has the conversion of its types, where it is read neither as nulls nor as a dictionary.
-pub record IsCarried (stored : PrimitiveType) (data_type : DataType) : Type 0 where
-  pub rule : conversion stored data_type ≡ from_physical stored.physical_type stored.logical_type (out-DataType data_type)
-  pub some : is_some (from_physical stored.physical_type stored.logical_type (out-DataType data_type)) ≡ true
-  pub built : is_byte_array stored.physical_type ≡ false
+record IsCarried (stored : PrimitiveType) (data_type : DataType) : Type 0 where
+  rule : conversion stored data_type ≡ from_physical stored.physical_type stored.logical_type (out-DataType data_type)
+  some : is_some (from_physical stored.physical_type stored.logical_type (out-DataType data_type)) ≡ true
+  built : is_byte_array stored.physical_type ≡ false
 
-pub is_carried : (stored : PrimitiveType) (data_type : DataType) → pair_causes stored data_type ≡ [] → is_null_type data_type ≡ false → IsCarried stored data_type
+is_carried : (stored : PrimitiveType) (data_type : DataType) → pair_causes stored data_type ≡ [] → is_null_type data_type ≡ false → IsCarried stored data_type
 is_carried stored data_type none present =
     let carried = and_parts (is_built_pair stored data_type) (is_some (conversion stored data_type)) (none_of (is_built_pair stored data_type && is_some (conversion stored data_type)) NotYetImplemented none) in
     let values = and_parts (not (is_byte_array stored.physical_type)) (not (is_dictionary data_type)) (sym (ap (λ nulls. nulls || (not (is_byte_array stored.physical_type) && not (is_dictionary data_type))) present) ∙ carried.0) in
@@ -106,26 +61,129 @@ is_carried stored data_type none present =
       built = not-true (is_byte_array stored.physical_type) values.0;
     }
 
-given_where : (test : Bool) (rule : Conversion) → is_some (given test rule) ≡ true → test ≡ true
-given_where true rule some = refl
-given_where false rule some = cc
+-- ---- types with places for bytes
 
-interval_size_at : (size : ℕ) (unit : IntervalUnit) → is_some (from_fixed size (DataType-F.Interval unit)) ≡ true → size ≡ 12
-interval_size_at size YearMonth some = eqb-true size 12 (given_where (size == 12) Months some)
-interval_size_at size DayTime some = eqb-true size 12 (given_where (size == 12) DaysAndMilliseconds some)
+none_some : (rule : Option Conversion) → rule ≡ None → is_some rule ≡ true → ⊥
+none_some rule none some = absurd_of (sym (ap is_some none) ∙ some) where
+  absurd_of : false ≡ true → ⊥
+  absurd_of e = cc
 
--- Intervals are carried in byte strings of 12 bytes alone.
-pub interval_size : (size : ℕ) (data_type : DataType) (unit : IntervalUnit) → data_type ≡ Interval unit → is_some (from_fixed size (out-DataType data_type)) ≡ true → size ≡ 12
-unfolding out-DataType denote.Hole.Carrier.out
-interval_size size data_type unit is some =
-    let P : DataType → Type 0 = λ type. is_some (from_fixed size (out-DataType type)) ≡ true in
-    interval_size_at size unit (subst P is some)
+-- a type that byte strings alone are read as
+only_bytes : (layer : Layer) → from_boolean layer ≡ None → from_int32 layer ≡ None → ((logical : Option PrimitiveLogicalType) → from_int64 logical layer ≡ None) → from_int96 layer ≡ None → ((size : ℕ) → from_fixed size layer ≡ None)
+    → (physical : PhysicalType) (logical : Option PrimitiveLogicalType) → is_byte_array physical ≡ false → is_some (from_physical physical logical layer) ≡ true → ⊥
+only_bytes layer boolean int32 int64 int96 fixed Boolean logical built some = none_some (from_boolean layer) boolean some
+only_bytes layer boolean int32 int64 int96 fixed Int32 logical built some = none_some (from_int32 layer) int32 some
+only_bytes layer boolean int32 int64 int96 fixed Int64 logical built some = none_some (from_int64 logical layer) (int64 logical) some
+only_bytes layer boolean int32 int64 int96 fixed Int96 logical built some = none_some (from_int96 layer) int96 some
+only_bytes layer boolean int32 int64 int96 fixed Float logical built some = none_some None refl some
+only_bytes layer boolean int32 int64 int96 fixed Double logical built some = none_some None refl some
+only_bytes layer boolean int32 int64 int96 fixed ByteArray logical built some = no_true built where
+  no_true : true ≡ false → ⊥
+  no_true e = cc
+only_bytes layer boolean int32 int64 int96 fixed (FixedLenByteArray size) logical built some = none_some (from_fixed size layer) (fixed size) some
 
-abbrev pub HaveType : List Content → PhysicalType → Type 0
-HaveType pages type = DataPagesAre (λ page. page.type.physical_type ≡ type) pages
+no_most : (physical : PhysicalType) (logical : Option PrimitiveLogicalType) (layer : Layer) → is_byte_array physical ≡ false → is_some (from_physical physical logical layer) ≡ true → most_bytes_at layer ≡ None
+no_most physical logical DataType-F.Utf8 built some = absurd (only_bytes DataType-F.Utf8 refl refl (λ _. refl) refl (λ _. refl) physical logical built some)
+no_most physical logical DataType-F.LargeUtf8 built some = absurd (only_bytes DataType-F.LargeUtf8 refl refl (λ _. refl) refl (λ _. refl) physical logical built some)
+no_most physical logical DataType-F.Binary built some = absurd (only_bytes DataType-F.Binary refl refl (λ _. refl) refl (λ _. refl) physical logical built some)
+no_most physical logical DataType-F.LargeBinary built some = absurd (only_bytes DataType-F.LargeBinary refl refl (λ _. refl) refl (λ _. refl) physical logical built some)
+no_most physical logical layer built some = refl
+
+-- ---- what is left of a column
+
+-- a column whose pages are all to come, by the definitions of a scan
+pub record IsWhole (stored : PrimitiveType) (data_type : DataType) (size : Option ℕ) (rows : ℕ) (supply : Supply) (left : ColumnLeft) : Type 0 where
+  pub typed : left.data_type ≡ data_type
+  pub most : left.decoding.most_bytes ≡ most_bytes data_type
+  pub cut_by : left.size ≡ size
+  pub rows_left : wanted left ≡ take rows (column_rows stored data_type supply.pages supply.causes)
+  pub pages_left : pages_wanted left.decoding.entries left.decoding.outcomes left.standing.dictionary left.standing.remaining left.pages ≡ pages_for stored data_type rows supply.pages
+  pub lent : left.lent ≡ supply.lent
+
+chosen : (found : Option Conversion) → is_some found ≡ true → (rule : Conversion) × (found ≡ Some rule)
+chosen None some = absurd (none_some None refl some)
+chosen (Some rule) some = (rule, refl)
+
+whole_by : (stored : PrimitiveType) (data_type : DataType) (size : Option ℕ) (rows : ℕ) (supply : Supply) (rule : Conversion) → most_bytes data_type ≡ None → conversion stored data_type ≡ Some rule
+    → IsWhole stored data_type size rows supply (decoded_left (decoding_by None rule stored.physical_type) data_type size rows supply)
+whole_by stored data_type size rows supply rule none converted = record {
+  typed = refl;
+  most = sym none;
+  cut_by = refl;
+  rows_left = ap (λ found. take rows (option_map_or (rows_by stored.physical_type supply.pages supply.causes) found [])) (sym converted);
+  pages_left = ap (λ found. option_map_or (pages_by stored.physical_type rows supply.pages) found []) (sym converted);
+  lent = refl;
+}
+
+-- A column of a pair that is carried has a conversion, and is read by it.
+pub is_whole : (stored : PrimitiveType) (data_type : DataType) (size : Option ℕ) (rows : ℕ) (supply : Supply) → pair_causes stored data_type ≡ [] → is_null_type data_type ≡ false
+    → (rule : Conversion) × ((from_physical stored.physical_type stored.logical_type (out-DataType data_type) ≡ Some rule) × IsWhole stored data_type size rows supply (converted_left stored.physical_type data_type size rows supply rule))
+is_whole stored data_type size rows supply none present =
+    let carried = is_carried stored data_type none present in
+    let pair = chosen (from_physical stored.physical_type stored.logical_type (out-DataType data_type)) carried.some in
+    let most = no_most stored.physical_type stored.logical_type (out-DataType data_type) carried.built carried.some in
+    let P : Option ℕ → Type 0 = λ most. IsWhole stored data_type size rows supply (decoded_left (decoding_by most pair.0 stored.physical_type) data_type size rows supply) in
+    (pair.0, (pair.1, subst P (sym most) (whole_by stored data_type size rows supply pair.0 most (carried.rule ∙ pair.1))))
 
 -- pages of a column have its type
-pub of_type : (stored : PrimitiveType) (pages : List Content) → DataPagesAre (λ page. page.type ≡ stored) pages → HaveType pages stored.physical_type
+pub of_type : (stored : PrimitiveType) (pages : List Content) → AreOfType stored pages → DataPagesAre (λ page. page.type.physical_type ≡ stored.physical_type) pages
 of_type stored [] are = tt
 of_type stored (DataOf page ∷ pages) are = (ap (λ (type : PrimitiveType). type.physical_type) are.0, of_type stored pages are.1)
 of_type stored (DictOf page ∷ pages) are = of_type stored pages are
+
+-- ---- all arrays of a column
+
+-- what all arrays of a column are, by the definitions of a scan
+pub record IsDecoded {X : Type 0} (arrays : X → List Array) (count : X → ℕ) (stored : PrimitiveType) (data_type : DataType) (size : Option ℕ) (rows : ℕ) (supply : Supply) (result : Result X Error) (steps steps_now : ℕ) : Type 0 where
+  pub typed : IfOk result (λ found. All (λ array. data_type_of array ≡ data_type) (arrays found))
+  pub chunks : IfOk result (λ found. map (λ array. map Given (cells array)) (arrays found) ≡ cut size (take rows (column_rows stored data_type supply.pages supply.causes)))
+  pub fits : IfOk result (λ found. All (λ array. fits_most (most_bytes data_type) (sum_by cell_bytes (cells array)) ≡ true) (arrays found))
+  pub cause : IfErr result (IsCausedByChunks (most_bytes data_type) size (take rows (column_rows stored data_type supply.pages supply.causes)))
+  pub later : steps ≤ steps_now
+  pub counted : IfOk result (λ found. count found ≡ min (steps_now - steps) (2 ^ 64 - 1))
+  pub lent : OnOk result (steps_now ≡ steps + length (pages_for stored data_type rows supply.pages))
+
+if_ok : {X : Type 0} (result : Result X Error) (P Q : X → Type 0) → ((found : X) → P found → Q found) → IfOk result P → IfOk result Q
+if_ok (Ok found) P Q goes holds = goes found holds
+if_ok (Err error) P Q goes holds = tt
+
+if_err : {X : Type 0} (result : Result X Error) (P Q : Error → Type 0) → ((error : Error) → P error → Q error) → IfErr result P → IfErr result Q
+if_err (Ok found) P Q goes holds = tt
+if_err (Err error) P Q goes holds = goes error holds
+
+decoded_by : {X : Type 0} (arrays : X → List Array) (count : X → ℕ) (stored : PrimitiveType) (data_type : DataType) (size : Option ℕ) (rows : ℕ) (supply : Supply) (left : ColumnLeft) (result : Result X Error) (steps steps_now : ℕ)
+    → IsWhole stored data_type size rows supply left → Collects arrays count left result steps steps_now → IsDecoded arrays count stored data_type size rows supply result steps steps_now
+decoded_by arrays count stored data_type size rows supply left result steps steps_now whole collects =
+    let C = AreCollected left in
+    let T : DataType → List Array → Type 0 = λ type items. All (λ array. data_type_of array ≡ type) items in
+    let F : Option ℕ → List Array → Type 0 = λ most items. All (λ array. fits_most most (sum_by cell_bytes (cells array)) ≡ true) items in
+    let all = take rows (column_rows stored data_type supply.pages supply.causes) in
+    record {
+      typed = if_ok result (λ found. C (arrays found)) (λ found. T data_type (arrays found)) (λ found is. subst (λ type. T type (arrays found)) whole.typed is.typed) collects.collected;
+      chunks = if_ok result (λ found. C (arrays found)) (λ found. map (λ array. map Given (cells array)) (arrays found) ≡ cut size all)
+          (λ found is. is.chunks ∙ ap₂ (λ size rows. cut size rows) whole.cut_by whole.rows_left) collects.collected;
+      fits = if_ok result (λ found. C (arrays found)) (λ found. F (most_bytes data_type) (arrays found)) (λ found is. subst (λ most. F most (arrays found)) whole.most is.fits) collects.collected;
+      cause = if_err result (IsCausedByChunks left.decoding.most_bytes left.size (wanted left)) (IsCausedByChunks (most_bytes data_type) size all)
+          (λ error told. subst (λ rows. IsCausedByChunks (most_bytes data_type) size rows error) whole.rows_left
+          (subst (λ size. IsCausedByChunks (most_bytes data_type) size (wanted left) error) whole.cut_by
+          (subst (λ most. IsCausedByChunks most left.size (wanted left) error) whole.most told)))
+          collects.cause;
+      later = collects.later;
+      counted = collects.counted;
+      lent = subst (λ n. OnOk result (steps_now ≡ steps + n)) (ap length whole.pages_left) collects.lent;
+    }
+
+-- A column of a pair that is carried, collected by its conversion.
+pub is_decoded : {X : Type 0} (arrays : X → List Array) (count : X → ℕ) (stored : PrimitiveType) (data_type own : DataType) (logical : Option PrimitiveLogicalType) (size : Option ℕ) (rows : ℕ) (supply : Supply) (result : Result X Error) (steps steps_now : ℕ)
+    → pair_causes stored data_type ≡ [] → is_null_type data_type ≡ false → logical ≡ stored.logical_type → own ≡ data_type
+    → IfSome (collected_by stored.physical_type logical own) (λ rule. Collects arrays count (converted_left stored.physical_type own size rows supply rule) result steps steps_now)
+    → IsDecoded arrays count stored data_type size rows supply result steps steps_now
+is_decoded arrays count stored data_type own logical size rows supply result steps steps_now none present same copy collects =
+    let pair = is_whole stored data_type size rows supply none present in
+    let W : DataType → Type 0 = λ type. IfSome (collected_by stored.physical_type logical type) (λ rule. Collects arrays count (converted_left stored.physical_type type size rows supply rule) result steps steps_now) in
+    let R : Conversion → Type 0 = λ rule. Collects arrays count (converted_left stored.physical_type data_type size rows supply rule) result steps steps_now in
+    let L : Option PrimitiveLogicalType → Type 0 = λ logical. IfSome (from_physical stored.physical_type logical (out-DataType data_type)) R in
+    let B : Bool → Type 0 = λ bytes. IfSome (if bytes then None else from_physical stored.physical_type logical (out-DataType data_type)) R in
+    let found : IfSome (from_physical stored.physical_type stored.logical_type (out-DataType data_type)) R = subst L same (subst B (is_carried stored data_type none present).built (subst W copy collects)) in
+    let by : R pair.0 = subst (λ rule. IfSome rule R) pair.1.0 found in
+    decoded_by arrays count stored data_type size rows supply (converted_left stored.physical_type data_type size rows supply pair.0) result steps steps_now pair.1.1 by

@@ -1,26 +1,33 @@
 -- What a scan costs in all, by the groups of the file.
-use Rattle.std.proofs.Common.{◌≡◌, ℕ, suc, ◌+◌, ◌≤◌, Bool, true, false, cond, List, [], ◌∷◌, length, map, refl, sym, subst, ◌∙◌, ap, arith}
+use Rattle.std.proofs.Common.{◌≡◌, ℕ, suc, ◌+◌, ◌-◌, ◌≤◌, Bool, true, false, cond, List, [], ◌∷◌, length, map, drop, take, get_or, min, refl, sym, subst, ◌∙◌, ap, arith}
 use Rattle.std.specs.Prelude.{All, Option, Some, None, option_map, sum_by, filter, zip, ◌&&◌, nat_lt, IfSome, IfOk, OnOk, IsTrue, Result, Ok, Err, if◌then◌else◌}
-use Rattle.std.specs.List.{AllZip}
+use Rattle.std.specs.List.{AllByRecursion, AllZip, range_with_len}
+use Rattle.std.specs.Option.{option_map_or}
+use Rattle.std.proofs.lemmas.Bool.{and_parts, true≢false}
+use Rattle.std.proofs.lemmas.List.FromFn.{length-range_with_len}
 use Rattle.std.proofs.lemmas.List.Sums.{sum_by-cons}
 use Rattle.columns_core.specs.declared.data_type.Field.{Field}
 use Rattle.columns_core.specs.declared.error.Error.{Error}
+use Rattle.parquet_base.specs.Intervals.{rows_of}
 use Rattle.parquet_base.specs.declared.interval.Interval.{Interval}
 use Rattle.parquet_base.proofs.SegmentLemmas.{covers-maximal_runs}
 use Rattle.parquet_meta.specs.File.{footer, most_taken}
+use Rattle.parquet_meta.specs.declared.metadata.ColumnChunkMetaData.{ColumnChunkMetaData}
 use Rattle.parquet_meta.specs.declared.metadata.FileMetaData.{FileMetaData}
 use Rattle.parquet_meta.specs.declared.metadata.RowGroupMetaData.{RowGroupMetaData}
-use Rattle.parquet_scan.specs.Causes.{IsValid, metadata_causes}
-use Rattle.parquet_scan.specs.Costs.{all_index_bytes, column_index_of, index_bytes, lent_of_group, most_bytes, most_pages, offset_index_of, taken_of_column, taken_of_group}
-use Rattle.parquet_scan.specs.Counting.{are_pruned, column_taken, columns_taken, indexes_taken, is_read, kept_if, kept_of_groups, lent_of_groups, rows_read, scan_taken, taken_if_read}
+use Rattle.parquet_scan.specs.Causes.{IsValid}
+use Rattle.parquet_scan.specs.Costs.{all_index_bytes, bytes_behind_footer, index_bytes, lent_of_column, lent_of_group, lent_of_read, most_bytes, most_of_column, most_of_group, most_of_read, most_pages, offset_index_of, pages_lent, taken_of_column, taken_of_group}
+use Rattle.parquet_scan.specs.Counting.{are_shaped, column_taken, columns_taken, indexes_taken, indexes_taken_of_groups, is_read, is_shaped, lent_of_groups, taken_if_read, taken_of_groups}
 use Rattle.parquet_scan.specs.Request.{Request, is_legal}
-use Rattle.parquet_scan.specs.Rows.{File, file_of, file_with, first_rows, gives_rows, group_counts, groups_read, intervals, kept, kept_rows, prunes_pages}
-use Rattle.parquet_scan.specs.Scan.{HoldsMet, IsSound, OnFile, RisesBy, kept_groups}
+use Rattle.parquet_scan.specs.Rows.{File, column_named, file_of, file_with, first_rows, gives_rows, group_counts, groups_of, groups_read, intervals, kept, kept_rows, pages_keep, prunes_pages}
+use Rattle.parquet_scan.specs.Scan.{HoldsMet, IsSound, OnFile, RisesBy, RisesJustBy, kept_groups}
 use Rattle.parquet_scan.specs.Truth.{KeepsMet, LosesNoRow}
 use Rattle.parquet_scan.specs.declared.scanning.GroupKept.{GroupKept}
-use Rattle.parquet_scan.proofs.FileLemmas.{built_limit}
-use Rattle.parquet_scan.proofs.KeptLemmas.{one_group}
-use Rattle.parquet_scan.proofs.ScanLemmas.{no_runs, same_pruning}
+use Rattle.parquet_scan.proofs.ClippedLemmas.{first_of_range}
+use Rattle.parquet_scan.proofs.CostLemmas.{lent_most}
+use Rattle.parquet_scan.proofs.FileLemmas.{AreGiven, counting, gives_as, pruned, rows_given}
+use Rattle.parquet_scan.proofs.GivenCells.{counts_by, some_taken}
+use Rattle.parquet_scan.proofs.KeptLemmas.{all_or_none}
 use Rattle.parquet_scan.proofs.Sound.{loses_no_row_of_valid_files}
 
 -- ---- sums over groups that are read
@@ -32,21 +39,25 @@ sum_filter {X} f test (x ∷ xs) = by (test x) (sum_filter f test xs) ∙ sym (s
   by true rest = sum_by-cons f x (filter test xs) ∙ ap (λ n. f x + n) rest
   by false rest = rest ∙ omega arith
 
--- what is so of a group that is read, and nothing of others
-abbrev if_read : Bool → (RowGroupMetaData × List ℕ → ℕ) → RowGroupMetaData × GroupKept → ℕ
-if_read by_pages give group = if is_read group then give (group.0, rows_read by_pages group.0 (group.1).intervals) else 0
-
 -- the groups that give rows are those that are read
-sum_read : (request : Request) (file : File) (give : RowGroupMetaData × List ℕ → ℕ) (groups : List RowGroupMetaData) → let by_pages = prunes_pages request file.metadata.row_groups in
-    sum_by (λ (read : RowGroupMetaData × List ℕ). if gives_rows read then give read else 0) (zip groups (map (kept_rows request file) groups))
-    ≡ sum_by (if_read by_pages give) (zip groups (kept_of_groups by_pages request.bounds file.bytes groups (map (group_counts request) groups)))
-sum_read request file give [] = refl
-sum_read request file give (group ∷ groups) =
-    let by_pages = prunes_pages request file.metadata.row_groups in
-    let here = one_group by_pages request.bounds file.bytes group (group_counts request group) (λ rows. give (group, rows)) 0 in
-    sum_by-cons (λ (read : RowGroupMetaData × List ℕ). if gives_rows read then give read else 0) (group, kept_rows request file group) (zip groups (map (kept_rows request file) groups))
-    ∙ (λ i. sym here i + sum_read request file give groups i)
-    ∙ sym (sum_by-cons (if_read by_pages give) (group, kept_if by_pages request.bounds file.bytes (group, group_counts request group)) (zip groups (kept_of_groups by_pages request.bounds file.bytes groups (map (group_counts request) groups))))
+sum_read : (give : RowGroupMetaData × List ℕ → ℕ) (groups : List RowGroupMetaData) (given : List (List Interval)) → are_shaped groups given ≡ true
+    → sum_by give (filter gives_rows (zip groups (map rows_of given))) ≡ sum_by (λ (group : RowGroupMetaData × List Interval). if is_read group then give (group.0, rows_of group.1) else 0) (zip groups given)
+sum_read give [] given shaped = refl
+sum_read give (group ∷ groups) [] shaped = refl
+sum_read give (group ∷ groups) (runs ∷ given) shaped =
+    let parts = and_parts _ _ shaped in
+    ap (λ b. sum_by give (cond b ((group, rows_of runs) ∷ filter gives_rows (zip groups (map rows_of given))) (filter gives_rows (zip groups (map rows_of given))))) (gives_as group runs parts.0)
+    ∙ by (is_read (group, runs)) (sum_read give groups given parts.1)
+    ∙ sym (sum_by-cons if_read (group, runs) (zip groups given)) where
+      if_read : RowGroupMetaData × List Interval → ℕ
+      if_read = λ (group : RowGroupMetaData × List Interval). if is_read group then give (group.0, rows_of group.1) else 0
+
+      others : List (RowGroupMetaData × List ℕ)
+      others = filter gives_rows (zip groups (map rows_of given))
+
+      by : (b : Bool) → sum_by give others ≡ sum_by if_read (zip groups given) → sum_by give (cond b ((group, rows_of runs) ∷ others) others) ≡ (if b then give (group, rows_of runs) else 0) + sum_by if_read (zip groups given)
+      by true e = sum_by-cons give (group, rows_of runs) others ∙ ap (λ n. give (group, rows_of runs) + n) e
+      by false e = e ∙ omega arith
 
 -- ---- what is taken
 
@@ -65,48 +76,67 @@ columns_split false bytes group rows (field ∷ fields) =
 abbrev index_if : Request → Bool → RowGroupMetaData → ℕ
 index_if request by_pages group = if by_pages && group_counts request group then index_bytes request group else 0
 
--- of one group
-group_taken : (request : Request) (bytes : List ℕ) (by_pages : Bool) (group : RowGroupMetaData) (counts : Bool)
-    → indexes_taken by_pages request.fields request.bounds (group, counts) + taken_if_read by_pages request.fields bytes (group, kept_if by_pages request.bounds bytes (group, counts))
-    ≤ (if by_pages && counts then index_bytes request group else 0) + if_read by_pages (taken_of_group by_pages request.fields bytes) (group, kept_if by_pages request.bounds bytes (group, counts))
-group_taken request bytes true group true =
-    by (is_read (group, kept_if true request.bounds bytes (group, true))) (columns_split true bytes group (rows_read true group (kept_if true request.bounds bytes (group, true)).intervals) request.fields) where
-      by : (b : Bool) → let read : RowGroupMetaData × List ℕ = (group, rows_read true group (kept_if true request.bounds bytes (group, true)).intervals) in
-          columns_taken true request.fields bytes read ≡ sum_by (offset_index_of group) request.fields + taken_of_group true request.fields bytes read
-          → sum_by (offset_index_of group) request.fields + sum_by (column_index_of group) request.bounds + (if b then columns_taken true request.fields bytes read else 0)
-          ≤ index_bytes request group + (if b then taken_of_group true request.fields bytes read else 0)
-      by true split = omega (arith, split)
-      by false split = omega arith
-group_taken request bytes true group false =
-    let unread : is_read (group, kept_if true request.bounds bytes (group, false)) ≡ false = ap (λ (runs : List Interval). nat_lt 0 (length runs)) (no_runs group.num_rows) in
-    omega (arith, ap (λ b. if b then columns_taken true request.fields bytes (group, rows_read true group (kept_if true request.bounds bytes (group, false)).intervals) else 0) unread)
-group_taken request bytes false group counts =
-    by (is_read (group, kept_if false request.bounds bytes (group, counts))) (columns_split false bytes group (rows_read false group (kept_if false request.bounds bytes (group, counts)).intervals) request.fields) where
-      by : (b : Bool) → let read : RowGroupMetaData × List ℕ = (group, rows_read false group (kept_if false request.bounds bytes (group, counts)).intervals) in
-          columns_taken false request.fields bytes read ≡ 0 + taken_of_group false request.fields bytes read
-          → 0 + (if b then columns_taken false request.fields bytes read else 0) ≤ 0 + (if b then taken_of_group false request.fields bytes read else 0)
-      by true split = omega (arith, split)
-      by false split = omega arith
+-- of one group, which is read only where it counts
+group_taken : (request : Request) (bytes : List ℕ) (by_pages : Bool) (group : RowGroupMetaData) (runs : List Interval) (counts read : Bool) → (read ≡ true → counts ≡ true)
+    → indexes_taken by_pages request.fields request.bounds (group, counts) + (if read then columns_taken by_pages request.fields bytes (group, rows_of runs) else 0)
+    ≤ (if by_pages && counts then index_bytes request group else 0) + (if read then taken_of_group by_pages request.fields bytes (group, rows_of runs) else 0)
+group_taken request bytes true group runs true true needs = omega (arith, columns_split true bytes group (rows_of runs) request.fields)
+group_taken request bytes true group runs true false needs = omega arith
+group_taken request bytes true group runs false true needs = absurd (true≢false (sym (needs refl)))
+group_taken request bytes true group runs false false needs = omega arith
+group_taken request bytes false group runs counts true needs = omega (arith, columns_split false bytes group (rows_of runs) request.fields)
+group_taken request bytes false group runs counts false needs = omega arith
 
--- of all groups
-groups_taken : (request : Request) (bytes : List ℕ) (by_pages : Bool) (groups : List RowGroupMetaData) → let counts = map (group_counts request) groups in
-    let kept = kept_of_groups by_pages request.bounds bytes groups counts in
-    scan_taken by_pages request.fields request.bounds bytes groups counts ≤ sum_by (index_if request by_pages) groups + sum_by (if_read by_pages (taken_of_group by_pages request.fields bytes)) (zip groups kept)
-groups_taken request bytes by_pages [] = omega arith
-groups_taken request bytes by_pages (group ∷ groups) =
-    let counts = group_counts request group in
-    let others = map (group_counts request) groups in
-    let kept = kept_if by_pages request.bounds bytes (group, counts) in
-    let kept_others = kept_of_groups by_pages request.bounds bytes groups others in
-    omega (
-      arith,
-      group_taken request bytes by_pages group counts,
-      groups_taken request bytes by_pages groups,
-      sum_by-cons (indexes_taken by_pages request.fields request.bounds) (group, counts) (zip groups others),
-      sum_by-cons (taken_if_read by_pages request.fields bytes) (group, kept) (zip groups kept_others),
-      sum_by-cons (index_if request by_pages) group groups,
-      sum_by-cons (if_read by_pages (taken_of_group by_pages request.fields bytes)) (group, kept) (zip groups kept_others),
-    )
+module _ (request : Request) (metadata : FileMetaData) (bytes : List ℕ) where
+  abbrev this : File
+  this = file_with bytes metadata
+
+  abbrev is_pruned : Bool
+  is_pruned = pruned request metadata
+
+  -- a group that gives rows counts
+  read_counts : (group : RowGroupMetaData) (runs : List Interval) (kept : List ℕ) → is_shaped (group, runs) ≡ true → kept ≡ kept_rows request this group → (nat_lt 0 (length (rows_of runs)) ≡ true → nat_lt 0 (length kept) ≡ true) → is_read (group, runs) ≡ true → group_counts request group ≡ true
+  read_counts group runs kept shaped are from read =
+      counts_by request this group (group_counts request group) refl (ap (λ kept. nat_lt 0 (length kept)) (sym are) ∙ from (gives_as group runs shaped ∙ read))
+
+  abbrev take_all : List RowGroupMetaData → List (List Interval) → ℕ
+  take_all groups given = sum_by (λ (group : RowGroupMetaData × List Interval). if is_read group then taken_of_group is_pruned request.fields bytes (group.0, rows_of group.1) else 0) (zip groups given)
+
+  one_taken : (group : RowGroupMetaData) (runs : List Interval) (groups : List RowGroupMetaData) (given : List (List Interval)) → (is_read (group, runs) ≡ true → group_counts request group ≡ true)
+      → indexes_taken_of_groups is_pruned request.fields request.bounds groups (map (group_counts request) groups) + taken_of_groups is_pruned request.fields bytes groups given
+      ≤ sum_by (index_if request is_pruned) groups + take_all groups given
+      → indexes_taken_of_groups is_pruned request.fields request.bounds (group ∷ groups) (map (group_counts request) (group ∷ groups)) + taken_of_groups is_pruned request.fields bytes (group ∷ groups) (runs ∷ given)
+      ≤ sum_by (index_if request is_pruned) (group ∷ groups) + take_all (group ∷ groups) (runs ∷ given)
+  one_taken group runs groups given needs others =
+      let counts = map (group_counts request) groups in
+      omega (
+        arith,
+        group_taken request bytes is_pruned group runs (group_counts request group) (is_read (group, runs)) needs,
+        others,
+        sum_by-cons (indexes_taken is_pruned request.fields request.bounds) (group, group_counts request group) (zip groups counts),
+        sum_by-cons (taken_if_read is_pruned request.fields bytes) (group, runs) (zip groups given),
+        sum_by-cons (index_if request is_pruned) group groups,
+        sum_by-cons (λ (group : RowGroupMetaData × List Interval). if is_read group then taken_of_group is_pruned request.fields bytes (group.0, rows_of group.1) else 0) (group, runs) (zip groups given),
+      )
+
+  -- of all groups
+  groups_taken : (limit : Option ℕ) (groups : List RowGroupMetaData) (given : List (List Interval)) → are_shaped groups given ≡ true → map rows_of given ≡ first_rows limit (map (kept_rows request this) groups)
+      → indexes_taken_of_groups is_pruned request.fields request.bounds groups (map (group_counts request) groups) + taken_of_groups is_pruned request.fields bytes groups given
+      ≤ sum_by (index_if request is_pruned) groups + take_all groups given
+  groups_taken limit [] given shaped e = omega arith
+  groups_taken limit (group ∷ groups) [] shaped e = absurd (no_rows limit e) where
+    no_rows : (limit : Option ℕ) → [] ≡ first_rows limit (map (kept_rows request this) (group ∷ groups)) → ⊥
+    no_rows None e = cc
+    no_rows (Some left) e = cc
+  groups_taken None (group ∷ groups) (runs ∷ given) shaped e =
+      let parts = and_parts _ _ shaped in
+      one_taken group runs groups given (λ read. read_counts group runs (rows_of runs) parts.0 (ap (λ rows. get_or rows 0 []) e) (λ some. some) read) (groups_taken None groups given parts.1 (ap (drop 1) e))
+  groups_taken (Some left) (group ∷ groups) (runs ∷ given) shaped e =
+      let parts = and_parts _ _ shaped in
+      let own : rows_of runs ≡ take left (kept_rows request this group) = ap (λ rows. get_or rows 0 []) e in
+      one_taken group runs groups given
+      (λ read. read_counts group runs (kept_rows request this group) parts.0 refl (λ some. some_taken left (kept_rows request this group) (ap (λ rows. nat_lt 0 (length rows)) (sym own) ∙ some)) read)
+      (groups_taken (Some (left - length (kept_rows request this group))) groups given parts.1 (ap (drop 1) e))
 
 none_in_all : {X : Type 0} (xs : List X) → sum_by (λ (x : X). 0) xs ≡ 0
 none_in_all [] = refl
@@ -139,54 +169,119 @@ is_sound request bytes legal valid = sound_at request bytes (footer bytes) (lose
 
 -- ---- of a scan
 
-module _ (request : Request) (metadata : FileMetaData) (counts : List Bool) (none : metadata_causes request metadata ≡ []) (counted : counts ≡ map (group_counts request) metadata.row_groups) where
-  abbrev by_pages : Bool
-  by_pages = are_pruned request.bounds request.fields metadata.row_groups counts
+module _ (request : Request) (metadata : FileMetaData) (kept : List GroupKept) (given : List (List Interval)) where
+  pub lent_told : (told : Option (List ℕ)) (before now : ℕ) → AreGiven request metadata told kept given
+      → RisesJustBy told before now (λ bytes. lent_of_groups (pruned request metadata) request.fields bytes metadata.row_groups given)
+      → RisesJustBy told before now (λ bytes. pages_lent request (file_with bytes metadata))
+  lent_told None before now are h = tt
+  lent_told (Some bytes) before now are h =
+      let give = lent_of_group (pruned request metadata) request.fields bytes in
+      let same : pages_lent request (file_with bytes metadata) ≡ lent_of_groups (pruned request metadata) request.fields bytes metadata.row_groups given
+      = ap (λ rows. sum_by give (filter gives_rows (zip metadata.row_groups rows))) (rows_given request metadata kept given bytes are) ∙ sum_read give metadata.row_groups given are.shaped in
+      omega (arith, h, same)
 
-  -- a sum over the groups that give rows
-  sum_at : (bytes : List ℕ) (give : Bool → RowGroupMetaData × List ℕ → ℕ)
-      → sum_by (give (prunes_pages request metadata.row_groups)) (groups_read request (file_with bytes metadata))
-      ≡ sum_by (if_read by_pages (give by_pages)) (zip metadata.row_groups (kept_of_groups by_pages request.bounds bytes metadata.row_groups counts))
-  sum_at bytes give =
-      let file = file_with bytes metadata in
+  pub taken_told : (told : Option (List ℕ)) (before mid now : ℕ) → AreGiven request metadata told kept given
+      → mid ≤ before + indexes_taken_of_groups (pruned request metadata) request.fields request.bounds metadata.row_groups (counting request metadata)
+      → RisesBy told mid now (λ bytes. taken_of_groups (pruned request metadata) request.fields bytes metadata.row_groups given)
+      → RisesBy told before now (λ bytes. bytes_behind_footer request (file_with bytes metadata))
+  taken_told None before mid now are first h = tt
+  taken_told (Some bytes) before mid now are first h =
       let groups = metadata.row_groups in
-      ap (λ limit. sum_by (give (prunes_pages request groups)) (filter gives_rows (zip groups (first_rows limit (map (kept_rows request file) groups))))) (built_limit request metadata none)
-      ∙ sum_filter (give (prunes_pages request groups)) gives_rows (zip groups (map (kept_rows request file) groups))
-      ∙ sum_read request file (give (prunes_pages request groups)) groups
-      ∙ ap (λ b. sum_by (if_read b (give b)) (zip groups (kept_of_groups b request.bounds bytes groups (map (group_counts request) groups)))) (sym (same_pruning request groups counts counted))
-      ∙ ap (λ counts. sum_by (if_read by_pages (give by_pages)) (zip groups (kept_of_groups by_pages request.bounds bytes groups counts))) (sym counted)
+      let b = pruned request metadata in
+      let give = taken_of_group b request.fields bytes in
+      let rows = rows_given request metadata kept given bytes are in
+      let reads : sum_by give (groups_read request (file_with bytes metadata)) ≡ take_all request metadata bytes groups given
+      = ap (λ rows. sum_by give (filter gives_rows (zip groups rows))) rows ∙ sum_read give groups given are.shaped in
+      let indexes : sum_by (index_if request b) groups ≡ all_index_bytes request (file_with bytes metadata) = indexes_are request b groups in
+      omega (arith, first, h, groups_taken request metadata bytes request.limit groups given are.shaped (sym rows), reads, indexes)
 
-  pages_at : (bytes : List ℕ) → most_pages request (file_with bytes metadata) ≡ lent_of_groups by_pages request.fields bytes metadata.row_groups (kept_of_groups by_pages request.bounds bytes metadata.row_groups counts)
-  pages_at bytes = sum_at bytes (λ b. lent_of_group b request.fields bytes)
+-- ---- no more pages are lent than are counted
 
-  pub most_lent : {X : Type 0} (r : Result X Error) (told : Option (List ℕ)) (before now : ℕ) → IfSome told (λ bytes. footer bytes ≡ Some metadata)
-      → OnOk r (RisesBy told before now (λ bytes. lent_of_groups by_pages request.fields bytes metadata.row_groups (kept_of_groups by_pages request.bounds bytes metadata.row_groups counts)))
-      → IfOk r (λ _. OnFile told (λ file. now ≤ before + most_pages request file))
-  most_lent (Err e) told before now at k = tt
-  most_lent (Ok x) None before now at k = tt
-  most_lent (Ok x) (Some bytes) before now at k =
-      subst (λ (o : Option FileMetaData). IfSome (option_map (file_with bytes) o) (λ file. now ≤ before + most_pages request file)) (sym at)
-      (omega (arith, k, pages_at bytes))
+most_of_fields : (by_pages : Bool) (bytes : List ℕ) (group : RowGroupMetaData) (rows : List ℕ) (fields : List Field) → (by_pages ≡ false → rows ≡ range_with_len 0 (length rows))
+    → lent_of_group by_pages fields bytes (group, rows) ≤ most_of_group by_pages fields bytes (group, rows)
+most_of_fields by_pages bytes group rows [] first = omega arith
+most_of_fields by_pages bytes group rows (field ∷ fields) first =
+    omega (
+      arith,
+      most_of_fields by_pages bytes group rows fields first,
+      by (column_named group field.name),
+      sum_by-cons (lent_of_column by_pages bytes group rows) field fields,
+      sum_by-cons (most_of_column by_pages bytes group rows) field fields,
+    ) where
+      by : (o : Option ColumnChunkMetaData) → option_map_or (lent_of_read by_pages bytes group rows field.data_type) o 0 ≤ option_map_or (most_of_read by_pages bytes group rows field.data_type) o 0
+      by None = omega arith
+      by (Some column) = lent_most by_pages bytes group rows field.data_type column first
 
-  bytes_at : (bytes : List ℕ) → scan_taken by_pages request.fields request.bounds bytes metadata.row_groups counts
-      ≤ all_index_bytes request (file_with bytes metadata) + sum_by (taken_of_group (prunes_pages request metadata.row_groups) request.fields bytes) (groups_read request (file_with bytes metadata))
-  bytes_at bytes =
-      let groups = metadata.row_groups in
-      let most = subst (λ (counts : List Bool). scan_taken by_pages request.fields request.bounds bytes groups counts
-      ≤ sum_by (index_if request by_pages) groups + sum_by (if_read by_pages (taken_of_group by_pages request.fields bytes)) (zip groups (kept_of_groups by_pages request.bounds bytes groups counts)))
-      (sym counted) (groups_taken request bytes by_pages groups) in
-      let indexes : sum_by (index_if request by_pages) groups ≡ all_index_bytes request (file_with bytes metadata)
-      = indexes_are request by_pages groups ∙ ap (λ b. if b then sum_by (index_bytes request) (filter (group_counts request) groups) else 0) (same_pruning request groups counts counted) in
-      omega (arith, most, indexes, sum_at bytes (λ b. taken_of_group b request.fields bytes))
+sum_less : {X : Type 0} (f g : X → ℕ) (xs : List X) → AllByRecursion (λ x. f x ≤ g x) xs → sum_by f xs ≤ sum_by g xs
+sum_less f g [] less = omega arith
+sum_less f g (x ∷ xs) less = omega (arith, less.0, sum_less f g xs less.1, sum_by-cons f x xs, sum_by-cons g x xs)
 
-  pub all_taken : {X : Type 0} (r : Result X Error) (told : Option (List ℕ)) (before mid now : ℕ) → IfSome told (λ bytes. footer bytes ≡ Some metadata) → mid ≤ before + most_taken told
-      → OnOk r (RisesBy told mid now (λ bytes. scan_taken by_pages request.fields request.bounds bytes metadata.row_groups counts))
-      → IfOk r (λ _. OnFile told (λ file. now ≤ before + most_bytes request file))
-  all_taken (Err e) told before mid now at first k = tt
-  all_taken (Ok x) None before mid now at first k = tt
-  all_taken (Ok x) (Some bytes) before mid now at first k =
-      subst (λ (o : Option FileMetaData). IfSome (option_map (file_with bytes) o) (λ file. now ≤ before + most_bytes request file)) (sym at)
-      (omega (arith, first, k, bytes_at bytes))
+-- Where rows are not pruned by pages, those that a group gives are its first.
+abbrev pub GivesFirst : Bool → RowGroupMetaData × List ℕ → Type 0
+GivesFirst by_pages read = by_pages ≡ false → read.1 ≡ range_with_len 0 (length read.1)
+
+-- of groups that give their first rows
+first_in : (by_pages : Bool) (group : RowGroupMetaData) (rows : List ℕ) (gives : Bool) (others : List (RowGroupMetaData × List ℕ)) → GivesFirst by_pages (group, rows) → AllByRecursion (GivesFirst by_pages) others
+    → AllByRecursion (GivesFirst by_pages) (cond gives ((group, rows) ∷ others) others)
+first_in by_pages group rows true others first rest = (first, rest)
+first_in by_pages group rows false others first rest = rest
+
+first_taken : (left n : ℕ) (rows : List ℕ) → rows ≡ range_with_len 0 n → take left rows ≡ range_with_len 0 (length (take left rows))
+first_taken left n rows are =
+    let some : take left rows ≡ range_with_len 0 (min n left) = ap (take left) are ∙ first_of_range left n in
+    let count : min n left ≡ length (take left rows) = omega (arith, ap length some, length-range_with_len 0 (min n left)) in
+    some ∙ ap (range_with_len 0) count
+
+-- the rows of a group that counts are all of it where rows are not pruned by pages, and those of others none
+kept_first : (request : Request) (file : File) (group : RowGroupMetaData) → prunes_pages request (groups_of file) ≡ false → (n : ℕ) × (kept_rows request file group ≡ range_with_len 0 n)
+kept_first request file group whole =
+    by (group_counts request group) (λ i. filter (λ row. group_counts request group && pages_keep (whole i) request.bounds file.bytes group row) (range_with_len 0 group.num_rows)) where
+      by : (counts : Bool) → kept_rows request file group ≡ filter (λ row. counts && true) (range_with_len 0 group.num_rows) → (n : ℕ) × (kept_rows request file group ≡ range_with_len 0 n)
+      by true e = (group.num_rows, e ∙ all_or_none true (range_with_len 0 group.num_rows))
+      by false e = (0, e ∙ all_or_none false (range_with_len 0 group.num_rows))
+
+pub all_first : (request : Request) (file : File) (group : RowGroupMetaData) → GivesFirst (prunes_pages request (groups_of file)) (group, kept_rows request file group)
+all_first request file group whole = let kept = kept_first request file group whole in kept.1 ∙ ap (range_with_len 0) (sym (ap length kept.1 ∙ length-range_with_len 0 kept.0))
+
+pub some_first : (request : Request) (file : File) (group : RowGroupMetaData) (left : ℕ) → GivesFirst (prunes_pages request (groups_of file)) (group, take left (kept_rows request file group))
+some_first request file group left whole = let kept = kept_first request file group whole in first_taken left kept.0 (kept_rows request file group) kept.1
+
+reads_first : (request : Request) (file : File) (limit : Option ℕ) (groups : List RowGroupMetaData)
+    → AllByRecursion (GivesFirst (prunes_pages request (groups_of file))) (filter gives_rows (zip groups (first_rows limit (map (kept_rows request file) groups))))
+reads_first request file None [] = tt
+reads_first request file (Some left) [] = tt
+reads_first request file None (group ∷ groups) =
+    let rows = kept_rows request file group in
+    first_in (prunes_pages request (groups_of file)) group rows (gives_rows (group, rows)) _ (all_first request file group) (reads_first request file None groups)
+reads_first request file (Some left) (group ∷ groups) =
+    let rows = kept_rows request file group in
+    first_in (prunes_pages request (groups_of file)) group (take left rows) (gives_rows (group, take left rows)) _ (some_first request file group left) (reads_first request file (Some (left - length rows)) groups)
+
+all_most : (by_pages : Bool) (fields : List Field) (bytes : List ℕ) (reads : List (RowGroupMetaData × List ℕ)) → AllByRecursion (GivesFirst by_pages) reads
+    → AllByRecursion (λ read. lent_of_group by_pages fields bytes read ≤ most_of_group by_pages fields bytes read) reads
+all_most by_pages fields bytes [] first = tt
+all_most by_pages fields bytes (read ∷ reads) first = (most_of_fields by_pages bytes read.0 read.1 fields first.0, all_most by_pages fields bytes reads first.1)
+
+fewer_pages : (request : Request) (file : File) → pages_lent request file ≤ most_pages request file
+fewer_pages request file =
+    let by_pages = prunes_pages request (groups_of file) in
+    sum_less (lent_of_group by_pages request.fields file.bytes) (most_of_group by_pages request.fields file.bytes) (groups_read request file)
+    (all_most by_pages request.fields file.bytes (groups_read request file) (reads_first request file request.limit (groups_of file)))
+
+pub at_most : {X : Type 0} (request : Request) (metadata : FileMetaData) (r : Result X Error) (told : Option (List ℕ)) (before now : ℕ)
+    → OnOk r (RisesJustBy told before now (λ bytes. pages_lent request (file_with bytes metadata))) → IfOk r (λ _. IfSome told (λ bytes. now ≤ before + most_pages request (file_with bytes metadata)))
+at_most request metadata (Err e) told before now k = tt
+at_most request metadata (Ok x) None before now k = tt
+at_most request metadata (Ok x) (Some bytes) before now k = omega (arith, k, fewer_pages request (file_with bytes metadata))
+
+-- ---- with the footer
+
+pub all_taken : {X : Type 0} (request : Request) (metadata : FileMetaData) (r : Result X Error) (told : Option (List ℕ)) (before mid now : ℕ) → mid ≤ before + most_taken told
+    → OnOk r (RisesBy told mid now (λ bytes. bytes_behind_footer request (file_with bytes metadata)))
+    → IfOk r (λ _. IfSome told (λ bytes. now ≤ before + most_bytes request (file_with bytes metadata)))
+all_taken request metadata (Err e) told before mid now first k = tt
+all_taken request metadata (Ok x) None before mid now first k = tt
+all_taken request metadata (Ok x) (Some bytes) before mid now first k = omega (arith, first, k)
 
 sound_as : (request : Request) (o : Option File) (runs : List (ℕ × List Interval)) → IfSome o (λ file. runs ≡ kept_groups request file) → IfSome o (λ file. IsSound request file (kept_groups request file)) → IfSome o (λ file. IsSound request file runs)
 sound_as request None runs same sound = tt

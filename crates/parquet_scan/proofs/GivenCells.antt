@@ -25,12 +25,12 @@ use Rattle.parquet_scan.proofs.SoundLists.{if_some}
 
 -- ---- groups that are read count
 
-some_taken : (left : ℕ) (rows : List ℕ) → nat_lt 0 (length (take left rows)) ≡ true → nat_lt 0 (length rows) ≡ true
+pub some_taken : (left : ℕ) (rows : List ℕ) → nat_lt 0 (length (take left rows)) ≡ true → nat_lt 0 (length rows) ≡ true
 some_taken left rows some = lt-ltb 0 (length rows) (omega (arith, ltb-true 0 (length (take left rows)) some, length-take left rows))
 
 module _ (request : Request) (file : File) where
   -- a group with a kept row counts
-  counts_by : (group : RowGroupMetaData) (b : Bool) → group_counts request group ≡ b → nat_lt 0 (length (kept_rows request file group)) ≡ true → b ≡ true
+  pub counts_by : (group : RowGroupMetaData) (b : Bool) → group_counts request group ≡ b → nat_lt 0 (length (kept_rows request file group)) ≡ true → b ≡ true
   counts_by group true e some = refl
   counts_by group false e some =
       let rows = range_with_len 0 group.num_rows in

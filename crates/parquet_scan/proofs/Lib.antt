@@ -1,14 +1,17 @@
 pub mod AnswerLemmas
 pub mod CauseLemmas
 pub mod CellLemmas
+pub mod ClippedLemmas
+pub mod ColumnLemmas
 pub mod CostLemmas
 pub mod DecodeLemmas
 pub mod Exact
+pub mod ExactCounts
 pub mod Examples
 pub mod FileCosts
 pub mod FileLemmas
 pub mod GivenCells
-pub mod GivenLemmas
+pub mod GroupLemmas
 pub mod IndexLemmas
 pub mod KeptLemmas
 pub mod LocatedCells
@@ -19,6 +22,7 @@ pub mod OpenedLemmas
 pub mod Order
 pub mod PageLemmas
 pub mod PairLemmas
+pub mod PieceLemmas
 pub mod PruningLemmas
 pub mod ReadLemmas
 pub mod SameColumns
@@ -28,3 +32,4 @@ pub mod ScanLemmas
 pub mod Sound
 pub mod SoundLists
 pub mod SoundNumbers
+pub mod TurnedLemmas

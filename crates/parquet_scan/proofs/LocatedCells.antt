@@ -29,6 +29,7 @@ use Rattle.flat_values.specs.Conversion.{Value}
 use Rattle.parquet_scan.specs.Cells.{Reading, as_cell, dictionary_by_locations, chunk_of, column_cell, column_item, dictionary_before, is_null_type, item_among, item_at, item_in, item_located, located_item, located_pages, located_reading, rows_of, walked_dictionary, walked_item, walked_pages, walked_reading}
 use Rattle.parquet_scan.specs.Laws.{LocatedCellsAreCells}
 use Rattle.parquet_scan.specs.Pages.{location_rows, locations}
+use Rattle.parquet_scan.proofs.CellLemmas.{sum-placed}
 use Rattle.parquet_scan.specs.Truth.{AreTrueCounts, AreTrueLocations, location_of}
 
 -- ---- lists
@@ -57,13 +58,6 @@ values page = header_values page.header
 
 abbrev placed_values : PlacedPage → ℕ
 placed_values placed = values placed.page
-
-sum-placed : (start row : ℕ) (pages : List ChunkPage) → sum_by placed_values (placed_pages start row pages) ≡ sum_by values pages
-sum-placed start row [] = refl
-sum-placed start row (page ∷ pages) =
-    let first : PlacedPage = record { start = start; first_row = row; page = page } in
-    let rest = placed_pages (start + page.size) (row + values page) pages in
-    omega (arith, sum_by-cons placed_values first rest, sum_by-cons values page pages, sum-placed (start + page.size) (row + values page) pages)
 
 -- a page ends at the first row of what stands behind it
 row_behind : (from start row rows : ℕ) (pages : List ChunkPage) → row + sum_by values pages ≡ rows → next_row (map (location_of from) (placed_pages start row pages)) rows ≡ pos row

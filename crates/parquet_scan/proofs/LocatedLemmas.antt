@@ -1,13 +1,13 @@
 -- Pages that are read by their locations, and the items of the rows in them.
-use Rattle.std.proofs.Common.{◌≡◌, ℕ, zero, suc, ◌+◌, ◌-◌, ◌<◌, ◌≤◌, min, max, Bool, true, false, not, cond, List, [], ◌∷◌, ◌++◌, length, map, take, drop, Option, Some, None, refl, sym, subst, ◌∙◌, ap, arith, inl, inr, append-nil}
+use Rattle.std.proofs.Common.{◌≡◌, ℕ, zero, suc, ◌+◌, ◌-◌, ◌<◌, ◌≤◌, min, max, Bool, true, false, not, cond, List, [], ◌∷◌, ◌++◌, length, map, take, drop, Option, Some, None, refl, sym, subst, ◌∙◌, ap, arith, inl, inr, append-nil, length-append, ap₂}
 use Rattle.std.specs.Prelude.{filter, find, flat_map, slice_get, slice_range, zip, nat_lt, nat_le, ◌==◌, ◌&&◌, ◌||◌, ◌⊎◌, is_some, option_and_then, if◌then◌else◌}
-use Rattle.std.specs.List.{list_all, list_any, range_with_len, cons_option}
+use Rattle.std.specs.List.{AllByRecursion, list_all, list_any, range_with_len, cons_option}
 use Rattle.std.proofs.lemmas.Bool.{le-leb, lt-leb, lt-ltb, le-ltb, leb-true, leb-false, cases_lt, eq-eqb, eqb-true, and_parts, true≢false}
 use Rattle.std.proofs.lemmas.Grind.{flat_map-append}
-use Rattle.std.proofs.lemmas.List.{drop-take, take-take, drop-drop, length-take-le, length-drop, map-append}
+use Rattle.std.proofs.lemmas.List.{drop-take, take-take, drop-drop, length-map, length-take-le, length-drop, map-append}
 use Rattle.std.proofs.lemmas.List.Folds.{list_any-append}
 use Rattle.std.proofs.lemmas.Simd.{map-map}
-use Rattle.columns_core.specs.Causes.{Cause, IsOneOf}
+use Rattle.columns_core.specs.Causes.{Cause, ExternalFormat, IsOneOf, is_empty}
 use Rattle.columns_core.specs.declared.cell.Cell.{Cell}
 use Rattle.parquet_base.specs.Reading.{◌>>=◌, given}
 use Rattle.parquet_base.specs.Intervals.{AreAdjacent, covers, end, holds, is_well_shaped, is_well_shaped_from, overlaps, rows_in_page, rows_of}
@@ -20,26 +20,29 @@ use Rattle.parquet_meta.specs.Places.{after, bytes_at, lies_in, part_at}
 use Rattle.parquet_meta.specs.declared.metadata.PageLocation.{PageLocation}
 use Rattle.parquet_meta.specs.declared.metadata.Place.{Place}
 use Rattle.parquet_page.specs.Chunk.{ChunkPage}
-use Rattle.parquet_page.specs.Content.{header_values}
-use Rattle.parquet_page.specs.Lent.{Lent, if_there, is_wanted, lent_parts, located_lent, wanted_page}
+use Rattle.parquet_page.specs.Content.{Content, header_values}
+use Rattle.parquet_page.specs.Lent.{Lent, behind_dictionary, data_of, if_there, is_wanted, lent_parts, located_lent, wanted_page}
 use Rattle.parquet_page.specs.Located.{page_in}
 use Rattle.parquet_page.specs.Located.{located_page as page_in_chunk}
 use Rattle.parquet_page.specs.Locations.{filtered_page, filtered_pages, located, part_of}
 use Rattle.parquet_page.specs.Selected.{covered_from, selected_of}
 use Rattle.parquet_page.specs.declared.page.FilteredPage.{FilteredPage}
 use Rattle.parquet_encoding.proofs.StepLemmas.{bind_some, given_some}
-use Rattle.page_decoding.specs.Column.{rows}
-use Rattle.page_decoding.specs.Outcome.{Outcome, Given, causes_in}
+use Rattle.page_decoding.specs.Column.{entries_behind, followed_by, page_rows, rows}
+use Rattle.page_decoding.specs.Outcome.{Outcome, Given, Refused, causes_in}
 use Rattle.flat_values.specs.Agreement.{AreEntriesOf}
 use Rattle.flat_values.specs.Conversion.{Conversion, Item, Value}
-use Rattle.flat_values.specs.Outcomes.{dictionary_cells, selected_outcomes}
+use Rattle.flat_values.specs.Outcomes.{dictionary_cells, outcome_of, selected_outcomes}
 use Rattle.flat_values.specs.Pairs.{conversion}
 use Rattle.parquet_scan.specs.Causes.{causes_of_data, causes_of_dictionary, causes_of_found, causes_of_opened, has_dictionary, is_opened, opened_located}
 use Rattle.parquet_scan.specs.Cells.{Reading, dictionary_content, item_at, item_located, items_in, named_page}
-use Rattle.parquet_scan.specs.Decoded.{rows_by}
+use Rattle.parquet_scan.specs.Costs.{with_dictionary_page}
+use Rattle.flat_binary.specs.PagesWanted.{pages_wanted}
+use Rattle.parquet_scan.specs.Decoded.{pages_by, rows_by}
 use Rattle.parquet_scan.specs.Located.{entry_part, entry_place, part_in}
 use Rattle.parquet_scan.proofs.CellLemmas.{causes_behind, causes_if_there, items_there, map_rows}
-use Rattle.parquet_scan.proofs.PageLemmas.{HasWrongItem, IsOver, IsRefused, dictionary_first, first_given, first_wrong, items_many, some_cause}
+use Rattle.parquet_scan.proofs.PageLemmas.{HasWrongItem, IsOver, IsRefused, content_with, dictionary_first, first_given, first_wrong, items_many, page_given, page_refused, some_cause}
+use Rattle.parquet_scan.proofs.PieceLemmas.{AreUnder, under-items, under-refused}
 use Rattle.page_decoding.proofs.RowLemmas.{one_of-left, one_of-right}
 use Rattle.parquet_page.proofs.LocatedLemmas.{wanted_rows}
 
@@ -324,6 +327,10 @@ cells_as cells = map (λ cell. Some (Value cell)) cells
 abbrev pub is_shaped_part : FilteredPage × List ℕ → Bool
 is_shaped_part part = is_well_shaped part.0.selected_rows part.0.num_rows
 
+-- some row of it is selected
+abbrev pub IsSomePart : FilteredPage × List ℕ → Type 0
+IsSomePart part = 0 < length (rows_of part.0.selected_rows)
+
 module _ (reading : Reading) (rule : Conversion) (entries : Option (List Cell)) (pair : conversion reading.stored reading.data_type ≡ Some rule)
     (over : AreEntriesOf rule reading.stored.physical_type (dictionary_content reading.dictionary) entries) (has : has_dictionary reading.dictionary ≡ is_some entries) where
   abbrev lent : List (FilteredPage × List ℕ) → Lent
@@ -332,12 +339,26 @@ module _ (reading : Reading) (rule : Conversion) (entries : Option (List Cell)) 
   abbrev rows_over : Lent → List Outcome
   rows_over others = rows (dictionary_cells rule reading.stored.physical_type) (selected_outcomes rule) entries others.pages others.causes
 
+  abbrev pages_over : ℕ → Lent → List Content
+  pages_over wanted others = pages_wanted (dictionary_cells rule reading.stored.physical_type) (selected_outcomes rule) entries wanted others.pages
+
+  -- where the first page has a row that is wanted, it is lent, and others for what is wanted behind it
+  one_lent : (page : Content) (pages : List Content) (own rest : ℕ) → 0 < own → length (page_rows (dictionary_cells rule reading.stored.physical_type) (selected_outcomes rule) entries page) ≡ own → entries_behind (dictionary_cells rule reading.stored.physical_type) (selected_outcomes rule) entries page ≡ entries
+      → length (pages_over (own + rest) (record { pages = page ∷ pages; causes = [] })) ≡ suc (length (pages_over rest (record { pages = pages; causes = [] })))
+  one_lent page pages own rest some long same =
+      let more : own + rest ≡ suc (own + rest - 1) = omega (arith, some) in
+      let left : suc (own + rest - 1) - own ≡ rest = omega (arith, some) in
+      ap (λ n. length (pages_over n (record { pages = page ∷ pages; causes = [] }))) more
+      ∙ (λ i. suc (length (pages_wanted (dictionary_cells rule reading.stored.physical_type) (selected_outcomes rule) (same i) (suc (own + rest - 1) - long i) pages)))
+      ∙ ap (λ n. suc (length (pages_over n (record { pages = pages; causes = [] })))) left
+
   -- Nothing is wrong with the pages of parts, and each item of theirs that is selected is a value.
   pub record ArePartsGiven (parts : List (FilteredPage × List ℕ)) : Type 0 where
     pub cells : List Cell
     pub none : flat_map (causes_of_found reading) (pages_of parts) ≡ []
     pub outcomes : rows_over (lent parts) ≡ map Given cells
     pub items : parts_items reading parts ≡ cells_as cells
+    pub lent_all : length (pages_over (length cells) (lent parts)) ≡ length parts
 
   -- the items of a page in its part are those that are selected of it
   selected_here : (part : FilteredPage × List ℕ) (page : ChunkPage) (items : List Item) → items_in reading page ≡ Some items → wanted_page part.0 part.1 ≡ Some page → is_shaped_part part ≡ true
@@ -346,10 +367,10 @@ module _ (reading : Reading) (rule : Conversion) (entries : Option (List Cell)) 
       ap (λ o. map (λ row. option_and_then (item_at reading row) o) (rows_of part.0.selected_rows)) here
       ∙ page_items reading page items part.0.selected_rows are (ap (λ n. is_well_shaped part.0.selected_rows n) (wanted_rows part.0 part.1 page here) ∙ shaped)
 
-  part_given : (part : FilteredPage × List ℕ) (others : List (FilteredPage × List ℕ)) → is_shaped_part part ≡ true → (page : ChunkPage) → wanted_page part.0 part.1 ≡ Some page
-      → rows_over (lent (part ∷ others)) ≡ rows_over (if_there reading.stored part.0 (Some page) (lent others))
+  part_given : (part : FilteredPage × List ℕ) (others : List (FilteredPage × List ℕ)) → is_shaped_part part ≡ true → IsSomePart part → (page : ChunkPage) → wanted_page part.0 part.1 ≡ Some page
+      → lent (part ∷ others) ≡ if_there reading.stored part.0 (Some page) (lent others)
       → causes_in (rows_over (if_there reading.stored part.0 (Some page) (lent others))) ≡ [] → (causes_in (rows_over (lent others)) ≡ [] → ArePartsGiven others) → ArePartsGiven (part ∷ others)
-  part_given part others shaped page here same none rest =
+  part_given part others shaped some page here same none rest =
       let later = rows_over (lent others) in
       let first = first_given reading rule entries pair over has (Some part.0.selected_rows) page later none in
       let behind = rest (sym (causes_behind first.cells later) ∙ sym (ap causes_in first.outcomes) ∙ none) in
@@ -358,20 +379,81 @@ module _ (reading : Reading) (rule : Conversion) (entries : Option (List Cell)) 
       record {
         cells = first.cells ++ behind.cells;
         none = λ i. own i ++ behind.none i;
-        outcomes = same ∙ first.outcomes ∙ ap (λ later. map Given first.cells ++ later) behind.outcomes ∙ sym (map-append Given first.cells behind.cells);
+        outcomes = ap rows_over same ∙ first.outcomes ∙ ap (λ later. map Given first.cells ++ later) behind.outcomes ∙ sym (map-append Given first.cells behind.cells);
         items = (λ i. items i ++ behind.items i) ∙ sym (map-append (λ cell. Some (Value cell)) first.cells behind.cells);
+        lent_all =
+            let long : length first.cells ≡ length (rows_of part.0.selected_rows) = sym (length-map first.cells (λ cell. Some (Value cell))) ∙ ap length (sym items) ∙ length-map (rows_of part.0.selected_rows) (λ row. option_and_then (item_at reading row) (wanted_page part.0 part.1)) in
+            ap₂ (λ n (lent : Lent). length (pages_over n lent)) (length-append first.cells behind.cells) same
+            ∙ one_lent (data_of reading.stored (Some part.0.selected_rows) page) (lent others).pages (length first.cells) (length behind.cells) (omega (arith, some, long)) first.long refl
+            ∙ ap suc behind.lent_all;
       }
 
-  parts_given : (parts : List (FilteredPage × List ℕ)) → list_all is_shaped_part parts ≡ true → causes_in (rows_over (lent parts)) ≡ [] → ArePartsGiven parts
+  parts_given : (parts : List (FilteredPage × List ℕ)) → list_all is_shaped_part parts ≡ true → AllByRecursion IsSomePart parts → causes_in (rows_over (lent parts)) ≡ [] → ArePartsGiven parts
   unfolding lent_parts
-  parts_given [] shaped none = record { cells = []; none = refl; outcomes = refl; items = refl }
-  parts_given (part ∷ others) shaped none =
+  parts_given [] shaped some none = record { cells = []; none = refl; outcomes = refl; items = refl; lent_all = refl }
+  parts_given (part ∷ others) shaped some none =
       let each = and_parts (is_shaped_part part) (list_all is_shaped_part others) shaped in
-      by (wanted_page part.0 part.1) refl each.0 none (parts_given others each.1) where
-        by : (o : Option ChunkPage) → wanted_page part.0 part.1 ≡ o → is_shaped_part part ≡ true → causes_in (rows_over (if_there reading.stored part.0 o (lent others))) ≡ []
+      by (wanted_page part.0 part.1) refl each.0 some.0 none (parts_given others each.1 some.1) where
+        by : (o : Option ChunkPage) → wanted_page part.0 part.1 ≡ o → is_shaped_part part ≡ true → IsSomePart part → causes_in (rows_over (if_there reading.stored part.0 o (lent others))) ≡ []
             → (causes_in (rows_over (lent others)) ≡ [] → ArePartsGiven others) → ArePartsGiven (part ∷ others)
-        by None here own none rest = absurd cc
-        by (Some page) here own none rest = part_given part others own page here (ap (λ o. rows_over (if_there reading.stored part.0 o (lent others))) here) none rest
+        by None here own some none rest = absurd cc
+        by (Some page) here own some none rest = part_given part others own some page here (ap (λ o. if_there reading.stored part.0 o (lent others)) here) none rest
+
+  -- The rows are no more than the items of the parts, and none has more bytes than its item.
+  record AreShort (parts : List (FilteredPage × List ℕ)) (outcomes : List Outcome) : Type 0 where
+    few : length outcomes ≤ length (parts_items reading parts)
+    under : AreUnder outcomes (parts_items reading parts)
+
+  part_short : (part : FilteredPage × List ℕ) (others : List (FilteredPage × List ℕ)) → IsSomePart part → (causes : List Cause) → AreShort (part ∷ others) (Refused causes ∷ [])
+  part_short part others some causes = record {
+    few = omega (
+      arith,
+      some,
+      length-map (rows_of part.0.selected_rows) (λ row. option_and_then (item_at reading row) (wanted_page part.0 part.1)),
+      length-append (part_items reading part) (parts_items reading others),
+    );
+    under = under-refused causes (parts_items reading (part ∷ others));
+  }
+
+  page_short : (part : FilteredPage × List ℕ) (others : List (FilteredPage × List ℕ)) → is_shaped_part part ≡ true → IsSomePart part → (page : ChunkPage) → wanted_page part.0 part.1 ≡ Some page → AreShort others (rows_over (lent others))
+      → AreShort (part ∷ others) (rows_over (if_there reading.stored part.0 (Some page) (lent others)))
+  page_short part others shaped some page here rest = go (causes_of_data reading page) refl where
+    later : List Outcome
+    later = rows_over (lent others)
+
+    own : List Outcome
+    own = selected_outcomes rule entries (content_with reading.stored (Some part.0.selected_rows) page)
+
+    both : (goes_on : Bool) (items : List Item) → part_items reading part ≡ map Some items → AreShort (part ∷ others) (if goes_on then map outcome_of items ++ later else map outcome_of items)
+    both true items e = record {
+      few = omega (arith, rest.few, length-append (map outcome_of items) later, length-append (part_items reading part) (parts_items reading others), ap length e, length-map items outcome_of, length-map items Some);
+      under = subst (λ own. AreUnder (map outcome_of items ++ later) (own ++ parts_items reading others)) (sym e) (under-items items later (parts_items reading others) rest.under);
+    }
+    both false items e = record {
+      few = omega (arith, length-append (part_items reading part) (parts_items reading others), ap length e, length-map items outcome_of, length-map items Some);
+      under = subst (λ own. AreUnder (map outcome_of items) (own ++ parts_items reading others)) (sym e)
+          (subst (λ outcomes. AreUnder outcomes (map Some items ++ parts_items reading others)) (append-nil (map outcome_of items)) (under-items items [] (parts_items reading others) tt));
+    }
+
+    go : (causes : List Cause) → causes_of_data reading page ≡ causes → AreShort (part ∷ others) (followed_by own later)
+    go [] e =
+        let given = page_given reading rule entries pair over has page e in
+        let items = selected_of (Some part.0.selected_rows) given.items in
+        subst (λ own. AreShort (part ∷ others) (followed_by own later)) (sym (given.outcomes (Some part.0.selected_rows)))
+        (both (is_empty (causes_in (map outcome_of items))) items (selected_here part page given.items given.are here shaped))
+    go (cause ∷ causes) e =
+        subst (λ own. AreShort (part ∷ others) (followed_by own later)) (sym (page_refused reading rule entries pair over has (Some part.0.selected_rows) page cause causes e)) (part_short part others some (cause ∷ causes))
+
+  parts_short : (parts : List (FilteredPage × List ℕ)) → list_all is_shaped_part parts ≡ true → AllByRecursion IsSomePart parts → AreShort parts (rows_over (lent parts))
+  unfolding lent_parts
+  parts_short [] shaped some = record { few = omega arith; under = tt }
+  parts_short (part ∷ others) shaped some =
+      let each = and_parts (is_shaped_part part) (list_all is_shaped_part others) shaped in
+      by (wanted_page part.0 part.1) refl each.0 some.0 (parts_short others each.1 some.1) where
+        by : (found : Option ChunkPage) → wanted_page part.0 part.1 ≡ found → is_shaped_part part ≡ true → IsSomePart part → AreShort others (rows_over (lent others))
+            → AreShort (part ∷ others) (rows_over (if_there reading.stored part.0 found (lent others)))
+        by None here own some rest = part_short part others some (ExternalFormat ∷ [])
+        by (Some page) here own some rest = page_short part others own some page here rest
 
   abbrev IsWrongOf : List (FilteredPage × List ℕ) → Option Cause → Type 0
   IsWrongOf parts o = IsOneOf (flat_map (causes_of_found reading) (pages_of parts)) o ⊎ IsOneOf (causes_of_parts reading parts) o
@@ -423,16 +505,57 @@ module _ (reading : Reading) (rule : Conversion) (pair : conversion reading.stor
     pub none : causes_of_opened reading (pages_of parts) ≡ []
     pub outcomes : rows_lent parts ≡ map Given cells
     pub items : parts_items reading parts ≡ cells_as cells
+    pub lent_all : length (pages_by reading.stored.physical_type (length cells) (located_lent reading.stored reading.dictionary parts).pages rule) ≡ with_dictionary_page reading.dictionary (length parts)
 
-  pub located_given : (parts : List (FilteredPage × List ℕ)) → list_all is_shaped_part parts ≡ true → causes_in (rows_lent parts) ≡ [] → AreLocatedGiven parts
+  pub located_given : (parts : List (FilteredPage × List ℕ)) → list_all is_shaped_part parts ≡ true → AllByRecursion IsSomePart parts → causes_in (rows_lent parts) ≡ [] → AreLocatedGiven parts
   unfolding located_lent
-  located_given [] shaped none = record { cells = []; none = refl; outcomes = refl; items = refl }
-  located_given (part ∷ others) shaped none = by (dictionary_first reading.stored reading.data_type rule pair (lent_parts reading.stored (part ∷ others)) reading.dictionary) where
+  located_given [] shaped some none = record { cells = []; none = refl; outcomes = refl; items = refl; lent_all = refl }
+  located_given (part ∷ others) shaped some none = by (dictionary_first reading.stored reading.data_type rule pair (lent_parts reading.stored (part ∷ others)) reading.dictionary) where
     by : IsOver reading rule (lent_parts reading.stored (part ∷ others)) ⊎ IsRefused reading rule (lent_parts reading.stored (part ∷ others)) → AreLocatedGiven (part ∷ others)
     by (inl behind) =
-        let parts = parts_given reading rule behind.entries pair behind.are behind.has (part ∷ others) shaped (sym (ap causes_in behind.outcomes) ∙ none) in
-        record { cells = parts.cells; none = λ i. behind.none i ++ parts.none i; outcomes = behind.outcomes ∙ parts.outcomes; items = parts.items }
+        let parts = parts_given reading rule behind.entries pair behind.are behind.has (part ∷ others) shaped some (sym (ap causes_in behind.outcomes) ∙ none) in
+        let long : length parts.cells ≡ length (parts_items reading (part ∷ others)) = sym (length-map parts.cells (λ cell. Some (Value cell))) ∙ ap length (sym parts.items) in
+        let more : length parts.cells ≡ suc (length parts.cells - 1) = omega (
+          arith,
+          some.0,
+          long,
+          length-map (rows_of part.0.selected_rows) (λ row. option_and_then (item_at reading row) (wanted_page part.0 part.1)),
+          length-append (part_items reading part) (parts_items reading others),
+        ) in
+        let P : ℕ → Type 0 = λ n. length (pages_by reading.stored.physical_type n (behind_dictionary reading.dictionary (lent_parts reading.stored (part ∷ others))).pages rule) ≡ with_dictionary_page reading.dictionary (length (part ∷ others)) in
+        record {
+          cells = parts.cells;
+          none = λ i. behind.none i ++ parts.none i;
+          outcomes = behind.outcomes ∙ parts.outcomes;
+          items = parts.items;
+          lent_all = subst P (sym more)
+              (behind.lent (length parts.cells - 1) (length others)
+              (ap (λ n. length (pages_over reading rule behind.entries pair behind.are behind.has n (lent_parts reading.stored (part ∷ others)))) (sym more) ∙ parts.lent_all));
+        }
     by (inr wrong) = absurd (some_cause wrong.cause (wrong.causes ++ []) (sym (ap causes_in wrong.outcomes) ∙ none))
+
+  -- The rows are no more than the items of the parts, and none has more bytes than its item.
+  pub record AreRowsShort (parts : List (FilteredPage × List ℕ)) : Type 0 where
+    pub few : length (rows_lent parts) ≤ length (parts_items reading parts)
+    pub under : AreUnder (rows_lent parts) (parts_items reading parts)
+
+  pub located_short : (parts : List (FilteredPage × List ℕ)) → list_all is_shaped_part parts ≡ true → AllByRecursion IsSomePart parts → AreRowsShort parts
+  unfolding located_lent
+  located_short [] shaped some = record { few = omega arith; under = tt }
+  located_short (part ∷ others) shaped some = by (dictionary_first reading.stored reading.data_type rule pair (lent_parts reading.stored (part ∷ others)) reading.dictionary) where
+    by : IsOver reading rule (lent_parts reading.stored (part ∷ others)) ⊎ IsRefused reading rule (lent_parts reading.stored (part ∷ others)) → AreRowsShort (part ∷ others)
+    by (inl behind) =
+        let short = parts_short reading rule behind.entries pair behind.are behind.has (part ∷ others) shaped some in
+        record {
+          few = subst (λ outcomes. length outcomes ≤ length (parts_items reading (part ∷ others))) (sym behind.outcomes) short.few;
+          under = subst (λ outcomes. AreUnder outcomes (parts_items reading (part ∷ others))) (sym behind.outcomes) short.under;
+        }
+    by (inr wrong) =
+        let long = length-map (rows_of part.0.selected_rows) (λ row. option_and_then (item_at reading row) (wanted_page part.0 part.1)) in
+        record {
+          few = omega (arith, ap length wrong.outcomes, some.0, long, length-append (part_items reading part) (parts_items reading others));
+          under = subst (λ outcomes. AreUnder outcomes (parts_items reading (part ∷ others))) (sym wrong.outcomes) (under-refused (wrong.cause ∷ wrong.causes) (parts_items reading (part ∷ others)));
+        }
 
   wrong_opened : (part : FilteredPage × List ℕ) (others : List (FilteredPage × List ℕ)) (o : Option Cause)
       → IsOneOf (flat_map (causes_of_found reading) (pages_of (part ∷ others))) o ⊎ IsOneOf (causes_of_parts reading (part ∷ others)) o

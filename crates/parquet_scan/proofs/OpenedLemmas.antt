@@ -1,22 +1,24 @@
 -- What is wrong with a chunk that is read by locations, by its parts.
-use Rattle.std.proofs.Common.{◌≡◌, ℕ, get_or, ◌+◌, ◌-◌, ◌<◌, ◌≤◌, ◌^◌, Bool, true, false, cond, List, [], ◌∷◌, ◌++◌, length, length-append, map, take, drop, Option, Some, None, refl, sym, subst, ◌∙◌, ap, arith, inl, inr}
-use Rattle.std.specs.Prelude.{filter, flat_map, zip, sum_by, nat_le, ◌&&◌, is_some, option_and_then, option_map, unwrap_or, IfSome, if◌then◌else◌}
-use Rattle.std.specs.List.{list_all}
+use Rattle.std.proofs.Common.{◌≡◌, ℕ, get_or, ◌+◌, ◌-◌, ◌<◌, ◌≤◌, ◌^◌, Bool, true, false, not, cond, List, [], ◌∷◌, ◌++◌, length, length-append, map, take, drop, Option, Some, None, refl, sym, subst, ◌∙◌, ap, arith, inl, inr}
+use Rattle.std.specs.Prelude.{All, filter, flat_map, zip, sum_by, nat_le, ◌==◌, ◌&&◌, is_some, option_and_then, option_map, unwrap_or, IfSome, if◌then◌else◌}
+use Rattle.std.specs.List.{AllByRecursion, list_all}
 use Rattle.std.specs.Option.{option_map_or}
 use Rattle.std.proofs.lemmas.Bool.{and_from, and_parts, le-leb, lt-leb, lt-ltb, leb-true, leb-false}
-use Rattle.std.proofs.lemmas.List.{take-take, length-map}
+use Rattle.std.proofs.lemmas.List.{take-take, take_all, length-map}
 use Rattle.std.proofs.lemmas.List.Concat.{length-flat_map}
 use Rattle.std.proofs.lemmas.Simd.{map-map}
 use Rattle.std.proofs.lemmas.List.Sums.{sum_by-cons}
 use Rattle.columns_core.specs.Causes.{Cause, ExternalFormat, IsOneOf, and_then, is_empty, unless}
 use Rattle.columns_core.specs.declared.cell.Cell.{Cell}
 use Rattle.columns_core.specs.declared.data_type.DataType.{DataType}
+use Rattle.columns_core.specs.declared.error.Error.{Error}
 use Rattle.parquet_base.specs.Reading.{◌>>=◌}
 use Rattle.parquet_base.specs.Intervals.{is_well_shaped, overlaps, row_count, rows_in_page, rows_of}
+use Rattle.parquet_base.specs.Pieces.{cut}
 use Rattle.parquet_base.specs.declared.interval.Interval.{Interval}
 use Rattle.parquet_base.proofs.OverlapLemmas.{overlaps-shaped}
 use Rattle.parquet_base.proofs.RowLemmas.{pages-share, rows_of-length}
-use Rattle.parquet_base.proofs.ShapeLemmas.{shape-count}
+use Rattle.parquet_base.proofs.ShapeLemmas.{shape-cons, shape-count}
 use Rattle.parquet_meta.specs.Chunks.{chunk_causes, chunk_range, has_range}
 use Rattle.parquet_meta.specs.Places.{after, bytes_at}
 use Rattle.parquet_meta.specs.declared.metadata.ColumnChunkMetaData.{ColumnChunkMetaData}
@@ -31,22 +33,27 @@ use Rattle.parquet_page.specs.Locations.{has_shape, selected_pages}
 use Rattle.parquet_page.specs.declared.page.FilteredPage.{FilteredPage}
 use Rattle.parquet_encoding.proofs.StepLemmas.{given_some}
 use Rattle.parquet_page.proofs.SelectionLemmas.{pages-length}
+use Rattle.page_decoding.specs.Bytes.{IsCausedByChunks, cell_bytes, fits_most}
 use Rattle.page_decoding.specs.Outcome.{Outcome, Given, causes_in}
+use Rattle.page_decoding.specs.Queue.{IsChunkSize}
 use Rattle.page_decoding.proofs.NextLemmas.{given-whole, nothing_wrong}
-use Rattle.flat_values.specs.Conversion.{Conversion, Value}
+use Rattle.flat_values.specs.Conversion.{Conversion, Item, Value}
+use Rattle.flat_values.specs.MostBytes.{most_bytes}
 use Rattle.flat_values.specs.Pairs.{conversion}
-use Rattle.parquet_scan.specs.Causes.{causes_of_chunk, causes_of_dictionary, causes_of_found, causes_of_opened, chunk_read_causes, located_causes, opened_located, pair_causes, row_causes}
+use Rattle.parquet_scan.specs.Causes.{causes_of_chunk, causes_of_dictionary, causes_of_found, causes_of_opened, chunk_read_causes, given_causes, located_causes, opened_located, pair_causes, row_causes}
 use Rattle.parquet_scan.specs.Cells.{Reading, chunk_of, dictionary_before, item_at, item_located, located_item, located_pages, located_reading, named_page}
-use Rattle.parquet_scan.specs.Decoded.{column_rows, rows_by}
+use Rattle.parquet_scan.specs.Costs.{with_dictionary_page}
+use Rattle.parquet_scan.specs.Decoded.{column_rows, pages_by, pages_for, rows_by}
 use Rattle.parquet_scan.specs.Located.{entry_causes, entry_part, entry_place, part_causes, part_in, place_before}
 use Rattle.parquet_scan.specs.Pages.{location_rows, locations, locations_causes, rows_at}
-use Rattle.parquet_scan.proofs.CauseLemmas.{one_cases, then_next, among_first}
-use Rattle.parquet_scan.proofs.CellLemmas.{causes_if_there, rows_caused, same_cells, values_uncaused}
-use Rattle.parquet_scan.proofs.LocatedLemmas.{AreEntries, are_entries, causes_of_parts, cells_as, chunk_length, found, is_shaped_part, items_of_parts, located_given, located_wrong, named_are, none_some, opened_are, pages_of, pages_there, part_inside, part_items, part_outside, parts_items}
+use Rattle.parquet_scan.proofs.CauseLemmas.{TellsOf, one_cases, then_next, among_first}
+use Rattle.parquet_scan.proofs.CellLemmas.{causes_if_there, nothing_given, rows_caused, same_cells, tells_of_rows}
+use Rattle.parquet_scan.proofs.LocatedLemmas.{AreEntries, IsSomePart, are_entries, causes_of_parts, cells_as, chunk_length, found, is_shaped_part, items_of_parts, located_given, located_short, located_wrong, named_are, none_some, opened_are, pages_of, pages_there, part_inside, part_items, part_outside, parts_items}
 use Rattle.parquet_scan.proofs.ScanLemmas.{in_filtered}
 use Rattle.parquet_scan.proofs.LocationLemmas.{HaveRows, have_rows, selection_is}
 use Rattle.page_decoding.proofs.RowLemmas.{one_of-left, one_of-right}
 use Rattle.parquet_scan.proofs.PageLemmas.{pair_rule}
+use Rattle.parquet_scan.proofs.PieceLemmas.{AreUnder, cut-lengths, given-cut, pieces-as}
 
 -- ---- a chunk lies in its file
 
@@ -141,7 +148,7 @@ module _ (group : RowGroupMetaData) (column : ColumnChunkMetaData) (data_type : 
       ∙ named_are bytes chunk intervals given_locations (have.first ∷ have.others) entries (chunk_fits bytes group column chunk placed) are_named
 
   -- and they are read as the entries are
-  reading_is : (bytes : List ℕ) → chunk_of bytes group column ≡ Some chunk → locations bytes column ≡ given_locations → located_reading bytes group data_type column ≡ reading bytes
+  pub reading_is : (bytes : List ℕ) → chunk_of bytes group column ≡ Some chunk → locations bytes column ≡ given_locations → located_reading bytes group data_type column ≡ reading bytes
   reading_is bytes placed told =
       ap (λ dictionary. record { stored = column.descriptor.primitive_type; dictionary = dictionary; data_type = data_type })
       (ap (λ o. option_map_or (λ place. dictionary_before place.offset (bytes_at bytes place) (locations bytes column)) o NoDictionary) placed
@@ -154,22 +161,22 @@ module _ (group : RowGroupMetaData) (column : ColumnChunkMetaData) (data_type : 
           no_entries (location ∷ locations) rows others are = are
         by (entry ∷ entries) are = dictionary_is bytes chunk intervals given_locations (have.first ∷ have.others) entry entries (chunk_fits bytes group column chunk placed) are
 
-  causes_at : (bytes : List ℕ) → chunk_causes column ≡ [] → chunk_of bytes group column ≡ Some chunk → locations bytes column ≡ given_locations
-      → causes_of_chunk true bytes group (rows_of intervals) data_type column
-      ≡ opened_by bytes (reading bytes) chunk entries ++ row_causes (located_item bytes group data_type column) (rows_of intervals)
-  causes_at bytes none placed told =
-      let items = row_causes (located_item bytes group data_type column) (rows_of intervals) in
+  causes_at : (size : Option ℕ) (bytes : List ℕ) → chunk_causes column ≡ [] → chunk_of bytes group column ≡ Some chunk → locations bytes column ≡ given_locations
+      → causes_of_chunk true size bytes group (rows_of intervals) data_type column
+      ≡ opened_by bytes (reading bytes) chunk entries ++ given_causes size data_type (located_item bytes group data_type column) (rows_of intervals)
+  causes_at size bytes none placed told =
+      let items = given_causes size data_type (located_item bytes group data_type column) (rows_of intervals) in
       then_next (chunk_causes column) _ none
-      ∙ ap (λ o. option_map_or (λ place. located_causes bytes group (rows_of intervals) data_type column) o (ExternalFormat ∷ [])) placed
+      ∙ ap (λ o. option_map_or (λ place. located_causes size bytes group (rows_of intervals) data_type column) o (ExternalFormat ∷ [])) placed
       ∙ then_next (locations_causes bytes group column) _ (ap (λ found. unless (has_shape found group.num_rows) ExternalFormat) told ∙ ap (λ b. unless b ExternalFormat) selected.shape)
       ∙ (λ i. causes_of_opened (reading_is bytes placed told i) (opened_located (rows_of intervals) (pages_are bytes placed told i)) ++ items)
       ∙ ap (λ pages. causes_of_opened (reading bytes) pages ++ items) (opened_are bytes chunk intervals given_locations (have.first ∷ have.others) entries are_named)
 
-  pub told_causes : (told : Option (List ℕ)) → chunk_causes column ≡ [] → IfSome told (λ bytes. chunk_of bytes group column ≡ Some chunk) → IfSome told (λ bytes. locations bytes column ≡ given_locations)
-      → IfSome told (λ bytes. causes_of_chunk true bytes group (rows_of intervals) data_type column
-      ≡ opened_by bytes (reading bytes) chunk entries ++ row_causes (located_item bytes group data_type column) (rows_of intervals))
-  told_causes None none placed told = tt
-  told_causes (Some bytes) none placed told = causes_at bytes none placed told
+  pub told_causes : (size : Option ℕ) (told : Option (List ℕ)) → chunk_causes column ≡ [] → IfSome told (λ bytes. chunk_of bytes group column ≡ Some chunk) → IfSome told (λ bytes. locations bytes column ≡ given_locations)
+      → IfSome told (λ bytes. causes_of_chunk true size bytes group (rows_of intervals) data_type column
+      ≡ opened_by bytes (reading bytes) chunk entries ++ given_causes size data_type (located_item bytes group data_type column) (rows_of intervals))
+  told_causes size None none placed told = tt
+  told_causes size (Some bytes) none placed told = causes_at size bytes none placed told
 
   -- the items of the selected rows are those of the parts
   items_at : (bytes : List ℕ) (bodies : List (List ℕ)) → is_well_shaped intervals group.num_rows ≡ true → chunk_of bytes group column ≡ Some chunk → locations bytes column ≡ given_locations
@@ -288,6 +295,31 @@ shaped_parts (entry ∷ entries) bodies shaped =
       by true [] own others = refl
       by true (body ∷ bodies) own others = and_from _ _ own (others bodies)
 
+-- well shaped runs have rows, where there is one
+pub runs_some : (runs : List Interval) (rows : ℕ) → is_well_shaped runs rows ≡ true → 0 < length runs → 0 < length (rows_of runs)
+runs_some [] rows shaped some = absurd (omega (arith, some))
+runs_some (run ∷ runs) rows shaped some =
+    let own = shape-cons 0 run runs rows shaped in
+    omega (arith, own.some, rows_of-length (run ∷ runs), sum_by-cons (λ (run : Interval). run.length) run runs)
+
+-- a row of each part is selected
+some_rows : (entry : FilteredPage) → is_wanted entry ≡ true → is_shaped_entry entry ≡ true → 0 < length (rows_of entry.selected_rows)
+some_rows entry wanted shaped = by entry.selected_rows wanted shaped where
+  by : (runs : List Interval) → not (length runs == 0) ≡ true → is_well_shaped runs entry.num_rows ≡ true → 0 < length (rows_of runs)
+  by [] wanted shaped = absurd cc
+  by (run ∷ runs) wanted shaped = runs_some (run ∷ runs) entry.num_rows shaped (omega arith)
+
+some_parts : (entries : List FilteredPage) (bodies : List (List ℕ)) → list_all is_shaped_entry entries ≡ true → AllByRecursion IsSomePart (zip (filter is_wanted entries) bodies)
+some_parts [] bodies shaped = tt
+some_parts (entry ∷ entries) bodies shaped =
+    let each = and_parts (is_shaped_entry entry) (list_all is_shaped_entry entries) shaped in
+    by (is_wanted entry) refl bodies each.0 (λ bodies. some_parts entries bodies each.1) where
+      by : (b : Bool) → is_wanted entry ≡ b → (bodies : List (List ℕ)) → is_shaped_entry entry ≡ true → ((bodies : List (List ℕ)) → AllByRecursion IsSomePart (zip (filter is_wanted entries) bodies))
+          → AllByRecursion IsSomePart (zip (cond b (entry ∷ filter is_wanted entries) (filter is_wanted entries)) bodies)
+      by false unwanted bodies own others = others bodies
+      by true wanted [] own others = tt
+      by true wanted (body ∷ bodies) own others = (some_rows entry wanted own, others bodies)
+
 -- there is an item for each row that is selected
 parts_count : (own_reading : Reading) (entries : List FilteredPage) (bodies : List (List ℕ)) → length bodies ≡ length (filter is_wanted entries) → length (parts_items own_reading (zip (filter is_wanted entries) bodies)) ≡ selected_count entries
 parts_count own_reading [] bodies counted = refl
@@ -311,8 +343,9 @@ parts_count own_reading (entry ∷ entries) bodies counted = by (is_wanted entry
 -- ---- what was read of a chunk
 
 -- What was read: the locations of its pages, and of those that hold a selected row the parts, with the one before all of them.
-pub record IsRead (told : Option (List ℕ)) (group : RowGroupMetaData) (column : ColumnChunkMetaData) (data_type : DataType) (intervals : List Interval) (chunk : Place)
+pub record IsRead (told : Option (List ℕ)) (size : Option ℕ) (group : RowGroupMetaData) (column : ColumnChunkMetaData) (data_type : DataType) (intervals : List Interval) (chunk : Place)
     (list : List PageLocation) (entries : List FilteredPage) (before : List ℕ) (bodies : List (List ℕ)) : Type 0 where
+  pub size_some : IsChunkSize size
   pub pair : pair_causes column.descriptor.primitive_type data_type ≡ []
   pub shaped : is_well_shaped intervals group.num_rows ≡ true
   pub none : chunk_causes column ≡ []
@@ -322,15 +355,16 @@ pub record IsRead (told : Option (List ℕ)) (group : RowGroupMetaData) (column 
   pub at : IfSome told (λ bytes. locations bytes column ≡ list)
   pub parts : IfSome told (λ bytes. AreParts bytes chunk entries before bodies)
 
-module _ (group : RowGroupMetaData) (column : ColumnChunkMetaData) (data_type : DataType) (intervals : List Interval) (chunk : Place) (list : List PageLocation) (entries : List FilteredPage) (before : List ℕ) (bodies : List (List ℕ)) where
+module _ (size : Option ℕ) (group : RowGroupMetaData) (column : ColumnChunkMetaData) (data_type : DataType) (intervals : List Interval) (chunk : Place) (list : List PageLocation) (entries : List FilteredPage) (before : List ℕ) (bodies : List (List ℕ)) where
   abbrev stored : PrimitiveType
   stored = column.descriptor.primitive_type
 
   abbrev lent : Lent
   lent = located_parts stored (Some before) entries bodies
 
-  abbrev outcomes : List Outcome
-  outcomes = column_rows stored data_type lent.pages lent.causes
+  -- the rows that are wanted of it
+  abbrev pub wanted : List Outcome
+  wanted = take (length (rows_of intervals)) (column_rows stored data_type lent.pages lent.causes)
 
   abbrev reading_before : Reading
   reading_before = record { stored = stored; dictionary = dictionary_in before; data_type = data_type }
@@ -339,38 +373,72 @@ module _ (group : RowGroupMetaData) (column : ColumnChunkMetaData) (data_type : 
   parts = zip (filter is_wanted entries) bodies
 
   abbrev WasRead : Option (List ℕ) → Type 0
-  WasRead told = IsRead told group column data_type intervals chunk list entries before bodies
+  WasRead told = IsRead told size group column data_type intervals chunk list entries before bodies
 
   abbrev whole : List ℕ → List Cause
-  whole bytes = causes_of_chunk true bytes group (rows_of intervals) data_type column
+  whole bytes = causes_of_chunk true size bytes group (rows_of intervals) data_type column
 
-  parts_shaped : (told : Option (List ℕ)) → WasRead told → list_all is_shaped_part parts ≡ true
-  parts_shaped told read =
-      let have = have_rows list group.num_rows read.selected.shape in
-      shaped_parts entries bodies (all_shaped intervals group.num_rows list (have.first ∷ have.others) entries read.shaped (rows_of_selected group intervals list entries read.selected))
+  module _ (told : Option (List ℕ)) (read : WasRead told) where
+    abbrev rule : (rule : Conversion) × (conversion stored data_type ≡ Some rule)
+    rule = pair_rule stored data_type read.pair
 
-  by_rule : (rule : Conversion) → conversion stored data_type ≡ Some rule → outcomes ≡ rows_by stored.physical_type lent.pages lent.causes rule
-  by_rule rule pair = ap (λ o. option_map_or (rows_by stored.physical_type lent.pages lent.causes) o []) pair
+    entries_are_shaped : list_all is_shaped_entry entries ≡ true
+    entries_are_shaped =
+        let have = have_rows list group.num_rows read.selected.shape in
+        all_shaped intervals group.num_rows list (have.first ∷ have.others) entries read.shaped (rows_of_selected group intervals list entries read.selected)
 
-  -- Nothing is wrong with what was opened of it, and the items of the parts are these cells.
-  record AreAllGiven (cells : List Cell) : Type 0 where
-    none : causes_of_opened reading_before (pages_of parts) ≡ []
-    items : parts_items reading_before parts ≡ cells_as cells
+    parts_shaped : list_all is_shaped_part parts ≡ true
+    parts_shaped = shaped_parts entries bodies entries_are_shaped
 
-  all_given : (told : Option (List ℕ)) → WasRead told → (cells : List Cell) → map Given cells ≡ outcomes → AreAllGiven cells
-  all_given told read cells e =
-      let rule = pair_rule stored data_type read.pair in
-      let same = e ∙ by_rule rule.0 rule.1 in
-      let all = located_given reading_before rule.0 rule.1 parts (parts_shaped told read) (given-whole [] cells (rows_by stored.physical_type lent.pages lent.causes rule.0) same) in
-      record { none = all.none; items = all.items ∙ ap cells_as (same_cells cells all.cells (same ∙ all.outcomes)) }
+    parts_some : AllByRecursion IsSomePart parts
+    parts_some = some_parts entries bodies entries_are_shaped
 
-  -- there is a cell for each row that is selected
-  pub read_count : (told : Option (List ℕ)) → WasRead told → (cells : List Cell) → map Given cells ≡ outcomes → length cells ≡ length (rows_of intervals)
-  read_count told read cells e =
-      sym (length-map cells (λ cell. Some (Value cell))) ∙ ap length (sym (all_given told read cells e).items)
-      ∙ parts_count reading_before entries bodies read.counted ∙ selected_total group intervals list entries read.selected read.shaped
+    -- there is an item for each row that is selected
+    total : length (parts_items reading_before parts) ≡ length (rows_of intervals)
+    total = parts_count reading_before entries bodies read.counted ∙ selected_total group intervals list entries read.selected read.shaped
 
-  same_reading : (bytes : List ℕ) → AreParts bytes chunk entries before bodies → 0 < length (filter is_wanted entries) → reading_of bytes stored data_type chunk entries ≡ reading_before
+    -- all rows are wanted
+    wanted_are : wanted ≡ rows_by stored.physical_type lent.pages lent.causes rule.0
+    wanted_are =
+        let short = located_short reading_before rule.0 rule.1 parts parts_shaped parts_some in
+        ap (λ o. take (length (rows_of intervals)) (option_map_or (rows_by stored.physical_type lent.pages lent.causes) o [])) rule.1
+        ∙ take_all (length (rows_of intervals)) (rows_by stored.physical_type lent.pages lent.causes rule.0) (omega (arith, short.few, total))
+
+    -- Nothing is wrong with what was opened of it, and the items of the parts are the cells of these pieces.
+    record AreAllGiven (given : List (List Cell)) : Type 0 where
+      cells : List Cell
+      cut : given ≡ cut size cells
+      none : causes_of_opened reading_before (pages_of parts) ≡ []
+      items : parts_items reading_before parts ≡ cells_as cells
+      pages : length (pages_for stored data_type (length (rows_of intervals)) lent.pages) ≡ with_dictionary_page (dictionary_in before) (length parts)
+
+    all_given : (given : List (List Cell)) → map (map Given) given ≡ cut size wanted → AreAllGiven given
+    all_given given e =
+        let pieces = given-cut size wanted given read.size_some e in
+        let same = pieces.rows ∙ wanted_are in
+        let all = located_given reading_before rule.0 rule.1 parts parts_shaped parts_some (given-whole [] pieces.cells (rows_by stored.physical_type lent.pages lent.causes rule.0) same) in
+        let long : length (rows_of intervals) ≡ length all.cells = sym total ∙ ap length all.items ∙ length-map all.cells (λ cell. Some (Value cell)) in
+        record {
+          cells = pieces.cells;
+          cut = pieces.cut;
+          none = all.none;
+          items = all.items ∙ ap cells_as (same_cells pieces.cells all.cells (same ∙ all.outcomes));
+          pages = ap (λ o. length (option_map_or (pages_by stored.physical_type (length (rows_of intervals)) lent.pages) o [])) rule.1
+              ∙ ap (λ n. length (pages_by stored.physical_type n lent.pages rule.0)) long ∙ all.lent_all;
+        }
+
+    -- there is a cell for each row that is selected
+    pub read_count : (given : List (List Cell)) → map (map Given) given ≡ cut size wanted → map length given ≡ map length (cut size (rows_of intervals))
+    read_count given e =
+        let all = all_given given e in
+        let long : length all.cells ≡ length (rows_of intervals) = sym (length-map all.cells (λ cell. Some (Value cell))) ∙ ap length (sym all.items) ∙ total in
+        ap (map length) all.cut ∙ cut-lengths size all.cells (rows_of intervals) read.size_some long
+
+    pub read_lent : (given : List (List Cell)) → map (map Given) given ≡ cut size wanted
+        → length (pages_for stored data_type (length (rows_of intervals)) lent.pages) ≡ with_dictionary_page (dictionary_in before) (length parts)
+    read_lent given e = (all_given given e).pages
+
+  pub same_reading : (bytes : List ℕ) → AreParts bytes chunk entries before bodies → 0 < length (filter is_wanted entries) → reading_of bytes stored data_type chunk entries ≡ reading_before
   same_reading bytes are some = ap (λ o. record { stored = stored; dictionary = option_map_or dictionary_in o Undefined; data_type = data_type }) (are.first some)
 
   opened_is : (bytes : List ℕ) → AreParts bytes chunk entries before bodies → opened_by bytes (reading_of bytes stored data_type chunk entries) chunk entries ≡ causes_of_opened reading_before (pages_of parts)
@@ -384,31 +452,44 @@ module _ (group : RowGroupMetaData) (column : ColumnChunkMetaData) (data_type : 
       items_at group column data_type intervals chunk list entries read.selected bytes bodies read.shaped read.placed read.at read.parts.each
       ∙ same_items (reading_of bytes stored data_type chunk entries) reading_before (filter is_wanted entries) bodies (same_reading bytes read.parts)
 
-  whole_is : (bytes : List ℕ) → WasRead (Some bytes) → whole bytes ≡ causes_of_opened reading_before (pages_of parts) ++ causes_of_parts reading_before parts
+  whole_is : (bytes : List ℕ) → WasRead (Some bytes) → whole bytes ≡ causes_of_opened reading_before (pages_of parts) ++ given_causes size data_type (located_item bytes group data_type column) (rows_of intervals)
   whole_is bytes read =
-      let items : row_causes (located_item bytes group data_type column) (rows_of intervals) ≡ causes_of_parts reading_before parts
-      = rows_caused (located_item bytes group data_type column) (rows_of intervals) ∙ ap (flat_map causes_if_there) (items_are bytes read) in
-      causes_at group column data_type intervals chunk list entries read.selected bytes read.none read.placed read.at
-      ∙ (λ i. opened_is bytes read.parts i ++ items i)
+      causes_at group column data_type intervals chunk list entries read.selected size bytes read.none read.placed read.at
+      ∙ ap (λ opened. opened ++ given_causes size data_type (located_item bytes group data_type column) (rows_of intervals)) (opened_is bytes read.parts)
 
-  -- Where all rows are given, nothing is wrong with what was read.
-  pub read_fine : (told : Option (List ℕ)) → WasRead told → (cells : List Cell) → map Given cells ≡ outcomes → IfSome told (λ bytes. whole bytes ≡ [])
-  read_fine None read cells e = tt
-  read_fine (Some bytes) read cells e =
-      let given = all_given (Some bytes) read cells e in
-      whole_is bytes read ∙ (λ i. given.none i ++ flat_map causes_if_there (given.items i)) ∙ values_uncaused cells
+  -- Where all rows are given and the bytes of each piece fit, nothing is wrong with what was read.
+  pub read_fine : (told : Option (List ℕ)) → WasRead told → (given : List (List Cell)) → map (map Given) given ≡ cut size wanted
+      → All (λ cells. fits_most (most_bytes data_type) (sum_by cell_bytes cells) ≡ true) given → IfSome told (λ bytes. whole bytes ≡ [])
+  read_fine None read given e fit = tt
+  read_fine (Some bytes) read given e fit =
+      let all = all_given (Some bytes) read given e in
+      whole_is bytes read
+      ∙ (λ i. all.none i ++ nothing_given data_type (located_item bytes group data_type column) size (rows_of intervals) all.cells given all.cut (items_are bytes read ∙ all.items) fit i)
 
-  pub read_items : (told : Option (List ℕ)) → WasRead told → (cells : List Cell) → map Given cells ≡ outcomes → IfSome told (λ bytes. map (located_item bytes group data_type column) (rows_of intervals) ≡ cells_as cells)
-  read_items None read cells e = tt
-  read_items (Some bytes) read cells e = items_are bytes read ∙ (all_given (Some bytes) read cells e).items
+  pub read_items : (told : Option (List ℕ)) → WasRead told → (given : List (List Cell)) → map (map Given) given ≡ cut size wanted
+      → IfSome told (λ bytes. map (map (λ cell. Some (Value cell))) given ≡ map (map (located_item bytes group data_type column)) (cut size (rows_of intervals)))
+  read_items None read given e = tt
+  read_items (Some bytes) read given e =
+      let all = all_given (Some bytes) read given e in
+      ap (map cells_as) all.cut ∙ sym (pieces-as (λ cell. Some (Value cell)) (located_item bytes group data_type column) size (rows_of intervals) all.cells (items_are bytes read ∙ all.items))
 
   -- What is wrong with the rows is wrong with what was read.
-  pub read_wrong : (told : Option (List ℕ)) → WasRead told → IfSome told (λ bytes. (o : Option Cause) → IsOneOf (causes_in outcomes) o → IsOneOf (whole bytes) o)
-  read_wrong None read = tt
-  read_wrong (Some bytes) read = λ o one.
+  pub read_tells : (told : Option (List ℕ)) → WasRead told → IfSome told (λ bytes. (error : Error) → IsCausedByChunks (most_bytes data_type) size wanted error → TellsOf (whole bytes) error)
+  read_tells None read = tt
+  read_tells (Some bytes) read = λ error caused.
+      let item = located_item bytes group data_type column in
       let rule = pair_rule stored data_type read.pair in
-      let wrong = subst (λ rows. IsOneOf (causes_in rows) o) (by_rule rule.0 rule.1) one in
-      subst (λ causes. IsOneOf causes o) (sym (whole_is bytes read)) (located_wrong reading_before rule.0 rule.1 parts (parts_shaped (Some bytes) read) o wrong)
+      let shaped = parts_shaped (Some bytes) read in
+      let some = parts_some (Some bytes) read in
+      let under : AreUnder wanted (map item (rows_of intervals)) = (let P : List Outcome → List (Option Item) → Type 0 = λ outcomes items. AreUnder outcomes items in
+      subst (λ outcomes. P outcomes (map item (rows_of intervals))) (sym (wanted_are (Some bytes) read))
+      (subst (P (rows_by stored.physical_type lent.pages lent.causes rule.0)) (sym (items_are bytes read)) (located_short reading_before rule.0 rule.1 parts shaped some).under)) in
+      let items : causes_of_parts reading_before parts ≡ row_causes item (rows_of intervals) = ap (flat_map causes_if_there) (sym (items_are bytes read)) ∙ sym (rows_caused item (rows_of intervals)) in
+      let among : (o : Option Cause) → IsOneOf (causes_in wanted) o → IsOneOf (causes_of_opened reading_before (pages_of parts) ++ row_causes item (rows_of intervals)) o
+      = λ o one. subst (λ causes. IsOneOf (causes_of_opened reading_before (pages_of parts) ++ causes) o) items
+      (located_wrong reading_before rule.0 rule.1 parts shaped o (subst (λ rows. IsOneOf (causes_in rows) o) (wanted_are (Some bytes) read) one)) in
+      subst (λ causes. TellsOf causes error) (sym (whole_is bytes read))
+      (tells_of_rows data_type item size (rows_of intervals) wanted (causes_of_opened reading_before (pages_of parts)) error read.size_some under among caused)
 
 -- ---- where the source tells its bytes
 
@@ -417,20 +498,20 @@ then_more [] xs ys o more one = more one
 then_more (cause ∷ causes) xs ys o more one = one
 
 -- what is wrong with a chunk before its pages are looked at is wrong with it
-pub read_in : (told : Option (List ℕ)) (group : RowGroupMetaData) (column : ColumnChunkMetaData) (data_type : DataType) (rows : List ℕ)
-    → IfSome told (λ bytes. (o : Option Cause) → IsOneOf (chunk_read_causes bytes group column) o → IsOneOf (causes_of_chunk true bytes group rows data_type column) o)
-read_in None group column data_type rows = tt
-read_in (Some bytes) group column data_type rows = λ o one. then_more (chunk_causes column) _ _ o (by (chunk_of bytes group column) o) one where
-  by : (place : Option Place) (o : Option Cause) → IsOneOf (unless (is_some place) ExternalFormat) o → IsOneOf (option_map_or (λ place. located_causes bytes group rows data_type column) place (ExternalFormat ∷ [])) o
+pub read_in : (told : Option (List ℕ)) (size : Option ℕ) (group : RowGroupMetaData) (column : ColumnChunkMetaData) (data_type : DataType) (rows : List ℕ)
+    → IfSome told (λ bytes. (o : Option Cause) → IsOneOf (chunk_read_causes bytes group column) o → IsOneOf (causes_of_chunk true size bytes group rows data_type column) o)
+read_in None size group column data_type rows = tt
+read_in (Some bytes) size group column data_type rows = λ o one. then_more (chunk_causes column) _ _ o (by (chunk_of bytes group column) o) one where
+  by : (place : Option Place) (o : Option Cause) → IsOneOf (unless (is_some place) ExternalFormat) o → IsOneOf (option_map_or (λ place. located_causes size bytes group rows data_type column) place (ExternalFormat ∷ [])) o
   by None o one = one
   by (Some place) o one = absurd (nothing_wrong o one)
 
-pub locations_in : (told : Option (List ℕ)) (group : RowGroupMetaData) (column : ColumnChunkMetaData) (data_type : DataType) (rows : List ℕ) (chunk : Place) → chunk_causes column ≡ [] → IfSome told (λ bytes. chunk_of bytes group column ≡ Some chunk)
-    → IfSome told (λ bytes. (o : Option Cause) → IsOneOf (locations_causes bytes group column) o → IsOneOf (causes_of_chunk true bytes group rows data_type column) o)
-locations_in None group column data_type rows chunk none placed = tt
-locations_in (Some bytes) group column data_type rows chunk none placed = λ o one.
-    let same : causes_of_chunk true bytes group rows data_type column ≡ located_causes bytes group rows data_type column
-    = then_next (chunk_causes column) _ none ∙ ap (λ o. option_map_or (λ place. located_causes bytes group rows data_type column) o (ExternalFormat ∷ [])) placed in
+pub locations_in : (told : Option (List ℕ)) (size : Option ℕ) (group : RowGroupMetaData) (column : ColumnChunkMetaData) (data_type : DataType) (rows : List ℕ) (chunk : Place) → chunk_causes column ≡ [] → IfSome told (λ bytes. chunk_of bytes group column ≡ Some chunk)
+    → IfSome told (λ bytes. (o : Option Cause) → IsOneOf (locations_causes bytes group column) o → IsOneOf (causes_of_chunk true size bytes group rows data_type column) o)
+locations_in None size group column data_type rows chunk none placed = tt
+locations_in (Some bytes) size group column data_type rows chunk none placed = λ o one.
+    let same : causes_of_chunk true size bytes group rows data_type column ≡ located_causes size bytes group rows data_type column
+    = then_next (chunk_causes column) _ none ∙ ap (λ o. option_map_or (λ place. located_causes size bytes group rows data_type column) o (ExternalFormat ∷ [])) placed in
     subst (λ causes. IsOneOf causes o) (sym same) (among_first (locations_causes bytes group column) _ o one)
 
 -- what is wrong with a part of what is opened

@@ -1,9 +1,9 @@
 -- What the pages of a column give, and what their items are.
-use Rattle.std.proofs.Common.{◌≡◌, ℕ, suc, Bool, true, false, List, [], ◌∷◌, ◌++◌, length, map, refl, sym, ◌∙◌, ap, subst, inl, inr, append-nil}
+use Rattle.std.proofs.Common.{◌≡◌, ℕ, suc, ◌+◌, ◌-◌, Bool, true, false, List, [], ◌∷◌, ◌++◌, length, map, take, refl, sym, ◌∙◌, ap, subst, arith, inl, inr, append-nil}
 use Rattle.std.specs.Prelude.{◌&&◌, Option, Some, None, ◌⊎◌, is_some, option_map, unwrap_or, flat_map, IsSome, if◌then◌else◌, Result, Ok, Err, IfErr, IfOk, OnOk}
 use Rattle.std.specs.Option.{option_map_or}
 use Rattle.std.specs.Result.{result_ok}
-use Rattle.std.proofs.lemmas.List.{length-map}
+use Rattle.std.proofs.lemmas.List.{length-map, take-map}
 use Rattle.columns_core.specs.Causes.{Cause, ExternalFormat, NotYetImplemented, OutOfSpec, Overflow, IsOneOf, and_then, is_empty, unless}
 use Rattle.columns_core.specs.declared.cell.Cell.{Cell}
 use Rattle.columns_core.specs.declared.data_type.DataType.{DataType}
@@ -24,6 +24,8 @@ use Rattle.parquet_page.specs.Values.{Encoding, Plain, Keys, DeltaPacked, DeltaL
 use Rattle.page_decoding.specs.Column.{followed_by, rows}
 use Rattle.page_decoding.specs.Outcome.{Outcome, Given, Refused, all_given, causes_in, cells_in, page_outcomes, refusal_of, refused}
 use Rattle.page_decoding.proofs.FilteredLemmas.{places-length}
+use Rattle.page_decoding.proofs.BytesLemmas.{take-append}
+use Rattle.page_decoding.proofs.NextLemmas.{fewer-wanted, take-nil}
 use Rattle.page_decoding.proofs.RowLemmas.{causes_in-append}
 use Rattle.flat_values.specs.Agreement.{AreEntriesOf}
 use Rattle.flat_values.specs.Conversion.{Conversion, Item, Value, NotInRange, NotText, convert_place}
@@ -33,8 +35,10 @@ use Rattle.flat_values.specs.Pairs.{conversion}
 use Rattle.flat_values.proofs.AgreementLemmas.{places_give_items, as_many, entries_converted}
 use Rattle.parquet_scan.specs.Causes.{causes_of_data, causes_of_defined, causes_of_dictionary, causes_of_entries, entry_count, has_dictionary, item_causes, pair_causes}
 use Rattle.parquet_scan.specs.Cells.{Reading, content_of, dictionary_content, items_in}
-use Rattle.parquet_scan.specs.Decoded.{rows_by}
-use Rattle.parquet_scan.specs.NotBuilt.{is_built_pair}
+use Rattle.parquet_scan.specs.Costs.{with_dictionary_page}
+use Rattle.flat_binary.specs.PagesWanted.{pages_wanted}
+use Rattle.parquet_scan.specs.Decoded.{pages_by, rows_by}
+use Rattle.flat_binary.specs.Built.{is_built_pair}
 use Rattle.parquet_scan.proofs.CauseLemmas.{one_cases}
 use Rattle.flat_values.proofs.FlatLemmas.{selected-map}
 
@@ -163,6 +167,34 @@ followed_wrong first later o wrong = by (is_empty (causes_in first)) wrong where
   by true wrong = one_cases (causes_in first) (causes_in later) o (subst (λ causes. IsOneOf causes o) (causes_in-append first later) wrong)
   by false wrong = inl wrong
 
+-- ---- the first of the rows
+
+taken_by : (goes_on : Bool) (n : ℕ) (own later : List Outcome) → take n (if goes_on then own ++ later else own) ≡ take n own ++ take (if goes_on then n - length own else 0) later
+taken_by true n own later = take-append n own later
+taken_by false n own later = sym (append-nil (take n own))
+
+no_causes : (first rest : List Outcome) → causes_in (first ++ rest) ≡ [] → (causes_in first ≡ []) × (causes_in rest ≡ [])
+no_causes first rest none = by (causes_in first) (sym (causes_in-append first rest) ∙ none) where
+  by : (causes : List Cause) → causes ++ causes_in rest ≡ [] → (causes ≡ []) × (causes_in rest ≡ [])
+  by [] none = (refl, none)
+  by (cause ∷ causes) none = absurd (some_cause cause (causes ++ causes_in rest) none)
+
+-- where nothing is wrong with so many, they go on behind the first
+taken_none : (n : ℕ) (own later : List Outcome) → causes_in (take n (followed_by own later)) ≡ [] → take n (followed_by own later) ≡ take n own ++ take (n - length own) later
+taken_none n own later none =
+    let split = taken_by (is_empty (causes_in own)) n own later in
+    let both = no_causes (take n own) (take (if is_empty (causes_in own) then n - length own else 0) later) (sym (ap causes_in split) ∙ none) in
+    split ∙ ap (λ m. take n own ++ take m later) (sym (fewer-wanted n own both.0))
+
+taken_wrong : (n : ℕ) (own later : List Outcome) (o : Option Cause) → IsOneOf (causes_in (take n (followed_by own later))) o
+    → IsOneOf (causes_in (take n own)) o ⊎ IsOneOf (causes_in (take (n - length own) later)) o
+taken_wrong n own later o wrong = by (is_empty (causes_in own)) wrong where
+  by : (b : Bool) → IsOneOf (causes_in (take n (if b then own ++ later else own))) o → IsOneOf (causes_in (take n own)) o ⊎ IsOneOf (causes_in (take (n - length own) later)) o
+  by true wrong =
+      one_cases (causes_in (take n own)) (causes_in (take (n - length own) later)) o
+      (subst (λ causes. IsOneOf causes o) (ap causes_in (take-append n own later) ∙ causes_in-append (take n own) (take (n - length own) later)) wrong)
+  by false wrong = inl wrong
+
 -- ---- a page
 
 -- What a page gives: its items, as many as its header says, and of selected rows what their items are.
@@ -180,6 +212,7 @@ pub record BeginsGiven (reading : Reading) (selected : Option (List Interval)) (
   pub many : length items ≡ header_values page.header
   pub cells : List Cell
   pub values : selected_of selected items ≡ map Value cells
+  pub long : length own ≡ length cells
   pub outcomes : followed_by own later ≡ map Given cells ++ later
 
 -- something is wrong with the item of a selected row
@@ -187,6 +220,24 @@ pub record HasWrongItem (reading : Reading) (selected : Option (List Interval)) 
   pub items : List Item
   pub are : items_in reading page ≡ Some items
   pub wrong : IsOneOf (flat_map item_causes (selected_of selected items)) o
+
+-- The first rows of a page with which nothing is wrong as a whole, all of them values, and what stands behind it.
+pub record BeginsTaken (reading : Reading) (wanted : ℕ) (page : ChunkPage) (own later : List Outcome) : Type 0 where
+  pub none : causes_of_data reading page ≡ []
+  pub items : List Item
+  pub are : items_in reading page ≡ Some items
+  pub many : length items ≡ header_values page.header
+  pub long : length own ≡ header_values page.header
+  pub cells : List Cell
+  pub values : take wanted items ≡ map Value cells
+  pub outcomes : take wanted (followed_by own later) ≡ map Given cells ++ take (wanted - header_values page.header) later
+  pub later_none : causes_in (take (wanted - header_values page.header) later) ≡ []
+
+-- something is wrong with one of the first items
+pub record HasWrongFirst (reading : Reading) (wanted : ℕ) (page : ChunkPage) (o : Option Cause) : Type 0 where
+  pub items : List Item
+  pub are : items_in reading page ≡ Some items
+  pub wrong : IsOneOf (flat_map item_causes (take wanted items)) o
 
 outcomes_are : (rule : Conversion) (entries : Option (List Cell)) (page : DataContent) (places : List Outcome) → page_causes None (is_some entries) (option_map length entries) page ≡ []
     → place_outcomes rule entries page ≡ Some places → selected_outcomes rule entries page ≡ selected_of page.selected places
@@ -252,6 +303,7 @@ module _ (reading : Reading) (rule : Conversion) (entries : Option (List Cell)) 
           many = found.many;
           cells = values.0;
           values = values.1;
+          long = ap length (found.outcomes selected ∙ ap (map outcome_of) values.1 ∙ values_given values.0) ∙ length-map values.0 Given;
           outcomes = split.1 ∙ ap (λ front. front ++ later) (found.outcomes selected ∙ ap (map outcome_of) values.1 ∙ values_given values.0);
         }
     go (cause ∷ causes) e = absurd (some_cause cause (causes ++ []) (sym (ap causes_in (page_refused selected page cause causes e)) ∙ split.0))
@@ -277,6 +329,62 @@ module _ (reading : Reading) (rule : Conversion) (entries : Option (List Cell)) 
         }))
     go (cause ∷ causes) e here = inl (subst (λ causes. IsOneOf causes o) (ap causes_in (page_refused selected page cause causes e) ∙ append-nil (cause ∷ causes) ∙ sym e) here)
 
+  -- the first of the rows of a page in front of others, where nothing is wrong with so many
+  pub first_taken : (wanted : ℕ) (page : ChunkPage) (later : List Outcome) → causes_in (take (suc wanted) (followed_by (selected_outcomes rule entries (content_with reading.stored None page)) later)) ≡ []
+      → BeginsTaken reading (suc wanted) page (selected_outcomes rule entries (content_with reading.stored None page)) later
+  first_taken wanted page later none = go (causes_of_data reading page) refl where
+    own : List Outcome
+    own = selected_outcomes rule entries (content_with reading.stored None page)
+
+    split : take (suc wanted) (followed_by own later) ≡ take (suc wanted) own ++ take (suc wanted - length own) later
+    split = taken_none (suc wanted) own later none
+
+    go : (causes : List Cause) → causes_of_data reading page ≡ causes → BeginsTaken reading (suc wanted) page own later
+    go [] e =
+        let found = page_given page e in
+        let outcomes : own ≡ map outcome_of found.items = found.outcomes None in
+        let long : length own ≡ header_values page.header = ap length outcomes ∙ length-map found.items outcome_of ∙ found.many in
+        let taken : take (suc wanted) own ≡ map outcome_of (take (suc wanted) found.items) = ap (take (suc wanted)) outcomes ∙ take-map outcome_of (suc wanted) found.items in
+        let both = no_causes (take (suc wanted) own) (take (suc wanted - length own) later) (sym (ap causes_in split) ∙ none) in
+        let values = all_values (take (suc wanted) found.items) (sym (items_caused (take (suc wanted) found.items)) ∙ sym (ap causes_in taken) ∙ both.0) in
+        record {
+          none = e;
+          items = found.items;
+          are = found.are;
+          many = found.many;
+          long = long;
+          cells = values.0;
+          values = values.1;
+          outcomes = split ∙ (λ i. (taken ∙ ap (map outcome_of) values.1 ∙ values_given values.0) i ++ take (suc wanted - long i) later);
+          later_none = ap (λ n. causes_in (take (suc wanted - n) later)) (sym long) ∙ both.1;
+        }
+    go (cause ∷ causes) e =
+        absurd (some_cause cause (causes ++ causes_in (take wanted [])) (sym (ap (λ own. causes_in (take (suc wanted) (followed_by own later))) (page_refused None page cause causes e)) ∙ none))
+
+  -- What is wrong with them is wrong with the page as a whole, with one of its first items, or with what stands behind it.
+  pub first_taken_wrong : (wanted : ℕ) (page : ChunkPage) (later : List Outcome) (o : Option Cause)
+      → IsOneOf (causes_in (take (suc wanted) (followed_by (selected_outcomes rule entries (content_with reading.stored None page)) later))) o
+      → IsOneOf (causes_of_data reading page) o ⊎ (HasWrongFirst reading (suc wanted) page o ⊎ IsOneOf (causes_in (take (suc wanted - header_values page.header) later)) o)
+  first_taken_wrong wanted page later o wrong = go (causes_of_data reading page) refl where
+    own : List Outcome
+    own = selected_outcomes rule entries (content_with reading.stored None page)
+
+    go : (causes : List Cause) → causes_of_data reading page ≡ causes
+        → IsOneOf (causes_of_data reading page) o ⊎ (HasWrongFirst reading (suc wanted) page o ⊎ IsOneOf (causes_in (take (suc wanted - header_values page.header) later)) o)
+    go [] e =
+        let found = page_given page e in
+        let outcomes : own ≡ map outcome_of found.items = found.outcomes None in
+        let long : length own ≡ header_values page.header = ap length outcomes ∙ length-map found.items outcome_of ∙ found.many in
+        let taken : take (suc wanted) own ≡ map outcome_of (take (suc wanted) found.items) = ap (take (suc wanted)) outcomes ∙ take-map outcome_of (suc wanted) found.items in
+        elim (taken_wrong (suc wanted) own later o wrong) [
+          | inl here ↦ inr (inl (record { items = found.items; are = found.are; wrong = subst (λ causes. IsOneOf causes o) (ap causes_in taken ∙ items_caused (take (suc wanted) found.items)) here }))
+          | inr behind ↦ inr (inr (subst (λ n. IsOneOf (causes_in (take (suc wanted - n) later)) o) long behind))
+        ]
+    go (cause ∷ causes) e =
+        let refused = page_refused None page cause causes e in
+        inl (subst (λ causes. IsOneOf causes o)
+        (ap (λ own. causes_in (take (suc wanted) (followed_by own later))) refused ∙ ap (λ rest. (cause ∷ causes) ++ causes_in rest) (take-nil wanted) ∙ append-nil (cause ∷ causes) ∙ sym e) wrong)
+
 -- ---- a dictionary in front of pages
 
 -- the rows behind a dictionary with which nothing is wrong, or behind none
@@ -287,6 +395,8 @@ pub record IsOver (reading : Reading) (rule : Conversion) (others : Lent) : Type
   pub none : causes_of_dictionary reading reading.dictionary ≡ []
   pub outcomes : rows_by reading.stored.physical_type (behind_dictionary reading.dictionary others).pages (behind_dictionary reading.dictionary others).causes rule
       ≡ rows (dictionary_cells rule reading.stored.physical_type) (selected_outcomes rule) entries others.pages others.causes
+  pub lent : (wanted count : ℕ) → length (pages_wanted (dictionary_cells rule reading.stored.physical_type) (selected_outcomes rule) entries (suc wanted) others.pages) ≡ suc count
+      → length (pages_by reading.stored.physical_type (suc wanted) (behind_dictionary reading.dictionary others).pages rule) ≡ with_dictionary_page reading.dictionary (suc count)
 
 -- a dictionary with which something is wrong
 pub record IsRefused (reading : Reading) (rule : Conversion) (others : Lent) : Type 0 where
@@ -328,10 +438,20 @@ module _ (stored : PrimitiveType) (data_type : DataType) (rule : Conversion) (pa
       ap (λ b. rows_by stored.physical_type (lent_if b page).pages (lent_if b page).causes rule) plain
       ∙ ap (λ found. followed_by (refusal_of found) (rows (dictionary_cells rule stored.physical_type) (selected_outcomes rule) (result_ok found) others.pages others.causes)) e
 
+  lent_behind : (page : DictionaryPage) (cells : List Cell) → has_plain_entries page.encoding ≡ true → dictionary_cells rule stored.physical_type (held page) ≡ Ok cells → (wanted count : ℕ)
+      → length (pages_wanted (dictionary_cells rule stored.physical_type) (selected_outcomes rule) (Some cells) (suc wanted) others.pages) ≡ suc count
+      → length (pages_by stored.physical_type (suc wanted) (behind_dictionary (Defined page) others).pages rule) ≡ suc count + 1
+  lent_behind page cells plain e wanted count many =
+      let all : suc wanted - 0 ≡ suc wanted = omega arith in
+      let lent = ap (λ b. length (pages_by stored.physical_type (suc wanted) (lent_if b page).pages rule)) plain
+      ∙ ap (λ found. suc (length (pages_wanted (dictionary_cells rule stored.physical_type) (selected_outcomes rule) (result_ok found) (suc wanted - length (refusal_of found)) others.pages))) e
+      ∙ ap (λ n. suc (length (pages_wanted (dictionary_cells rule stored.physical_type) (selected_outcomes rule) (Some cells) n others.pages))) all in
+      omega (arith, lent, many)
+
   defined_first : (page : DictionaryPage) (plain : Bool) (found : Result (List Cell) (List Cause)) → has_plain_entries page.encoding ≡ plain → dictionary_cells rule stored.physical_type (held page) ≡ found
       → IsOver (over (Defined page)) rule others ⊎ IsRefused (over (Defined page)) rule others
   defined_first page true (Ok cells) plain e =
-      inl (record { entries = Some cells; are = subst (λ o. AreEntriesOf rule stored.physical_type o (Some cells)) (sym (ap (λ plain. given plain (held page)) plain)) e; has = refl; none = caused page true (Ok cells) plain e; outcomes = given_behind page (Ok cells) plain e })
+      inl (record { entries = Some cells; are = subst (λ o. AreEntriesOf rule stored.physical_type o (Some cells)) (sym (ap (λ plain. given plain (held page)) plain)) e; has = refl; none = caused page true (Ok cells) plain e; outcomes = given_behind page (Ok cells) plain e; lent = lent_behind page cells plain e })
   defined_first page true (Err []) plain e = absurd (not_empty rule stored.physical_type (held page) e)
   defined_first page true (Err (cause ∷ causes)) plain e =
       inr (record { cause = cause; causes = causes; are = caused page true (Err (cause ∷ causes)) plain e; outcomes = given_behind page (Err (cause ∷ causes)) plain e })
@@ -344,7 +464,7 @@ module _ (stored : PrimitiveType) (data_type : DataType) (rule : Conversion) (pa
       })
 
   pub dictionary_first : (dictionary : Dictionary) → IsOver (over dictionary) rule others ⊎ IsRefused (over dictionary) rule others
-  dictionary_first NoDictionary = inl (record { entries = None; are = tt; has = refl; none = refl; outcomes = refl })
+  dictionary_first NoDictionary = inl (record { entries = None; are = tt; has = refl; none = refl; outcomes = refl; lent = λ wanted count e. e })
   dictionary_first Undefined = inr (record { cause = ExternalFormat; causes = []; are = refl; outcomes = refl })
   dictionary_first (Defined page) = defined_first page (has_plain_entries page.encoding) (dictionary_cells rule stored.physical_type (held page)) refl refl
 
@@ -357,6 +477,10 @@ if_ok (Err e) f h = h
 pub both_if : {T E : Type 0} {P Q R : T → Type 0} (r : Result T E) → ((x : T) → P x → Q x → R x) → IfOk r P → IfOk r Q → IfOk r R
 both_if (Ok x) f p q = f x p q
 both_if (Err e) f p q = tt
+
+pub both_ok : {T E Q R : Type 0} {P : T → Type 0} (r : Result T E) → ((x : T) → P x → Q → R) → IfOk r P → OnOk r Q → OnOk r R
+both_ok (Ok x) f p q = f x p q
+both_ok (Err e) f p q = tt
 
 pub ok_always : {T E P : Type 0} (r : Result T E) → P → OnOk r P
 ok_always (Ok x) p = p

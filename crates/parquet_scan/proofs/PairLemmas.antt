@@ -62,3 +62,13 @@ map_pair (Some bytes) f xs ys i x y d made z h k at beside e own =
     e ∙ ap (λ left. made ++ left) (map_behind (f bytes) xs ys i x d h k)
     ∙ ap (λ first. made ++ first ∷ rest) ((λ j. f bytes (sym at j, sym beside j)) ∙ sym own)
     ∙ sym (append_assoc made (z ∷ []) rest)
+
+-- what the pairs so far gave stands in front of what those behind them give
+pub flat_pair : {X Y Z : Type 0} (told : Option (List ℕ)) (f : List ℕ → X × Y → List Z) (xs : List X) (ys : List Y) (i : ℕ) (x : X) (y : Y) (before so_far now : List Z) → i < length xs → i < length ys → x ≡ get_or xs i x → y ≡ get_or ys i y
+    → IfSome told (λ bytes. before ++ flat_map (f bytes) (zip xs ys) ≡ so_far ++ flat_map (f bytes) (zip (drop i xs) (drop i ys))) → IfSome told (λ bytes. now ≡ so_far ++ f bytes (x, y))
+    → IfSome told (λ bytes. before ++ flat_map (f bytes) (zip xs ys) ≡ now ++ flat_map (f bytes) (zip (drop (i + 1) xs) (drop (i + 1) ys)))
+flat_pair None f xs ys i x y before so_far now h k at beside e own = tt
+flat_pair (Some bytes) f xs ys i x y before so_far now h k at beside e own =
+    let rest = flat_map (f bytes) (zip (drop (i + 1) xs) (drop (i + 1) ys)) in
+    e ∙ ap (λ left. so_far ++ left) (flat_behind (f bytes) xs ys i x y h k ∙ (λ j. f bytes (sym at j, sym beside j) ++ rest))
+    ∙ sym (append_assoc so_far (f bytes (x, y)) rest) ∙ ap (λ front. front ++ rest) (sym own)

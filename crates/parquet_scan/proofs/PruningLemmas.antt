@@ -6,7 +6,7 @@ use Rattle.std.specs.Option.{option_map_or}
 use Rattle.std.proofs.lemmas.Bool.{and_parts}
 use Rattle.columns_core.specs.Causes.{ExternalFormat}
 use Rattle.columns_core.specs.declared.data_type.Field.{Field}
-use Rattle.parquet_base.specs.Intervals.{covers, is_well_shaped, maximal_runs}
+use Rattle.parquet_base.specs.Intervals.{covers, maximal_runs}
 use Rattle.parquet_base.specs.declared.interval.Interval.{Interval}
 use Rattle.parquet_base.proofs.SegmentLemmas.{covers-maximal_runs, same_runs}
 use Rattle.parquet_meta.specs.declared.metadata.ColumnChunkMetaData.{ColumnChunkMetaData}
@@ -18,7 +18,6 @@ use Rattle.parquet_scan.specs.Causes.{index_causes_of_bound}
 use Rattle.parquet_scan.specs.Pages.{column_index_causes, keeps_row, locations, page_ends, row_keeps, rows_at}
 use Rattle.parquet_scan.specs.Request.{are_values_of, begins, bound_type, field_of, is_legal_bound_of}
 use Rattle.parquet_scan.specs.Rows.{bound_keeps, column_named, field_locations, is_named, only_one, pages_keep}
-use Rattle.parquet_scan.proofs.KeptLemmas.{runs_shaped}
 
 -- ---- the column of a name
 
@@ -83,9 +82,6 @@ all_runs (Some bytes) group bounds items lists runs are e =
     ∙ sym (all_mapped (λ runs. covers runs row) (λ bound. maximal_runs (λ row. bound_keeps bytes group row bound) group.num_rows) bounds)
     ∙ all_agree (λ bound. covers (maximal_runs (λ row. bound_keeps bytes group row bound) group.num_rows) row) (bound_keeps bytes group row) bounds
     (λ bound. covers-maximal_runs (λ row. bound_keeps bytes group row bound) group.num_rows row low))
-
-pub shaped_from : (runs : List Interval) (test : ℕ → Bool) (rows : ℕ) → runs ≡ maximal_runs test rows → is_well_shaped runs rows ≡ true
-shaped_from runs test rows e = ap (λ found. is_well_shaped found rows) e ∙ runs_shaped test rows
 
 -- ---- items at a place
 

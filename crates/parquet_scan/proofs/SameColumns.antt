@@ -1,16 +1,16 @@
 -- Columns of two files that have the same bytes where they are looked at.
-use Rattle.std.proofs.Common.{◌≡◌, ℕ, ◌-◌, ◌<◌, ◌≤◌, min, max, Bool, true, false, cond, List, [], ◌∷◌, ◌++◌, length, map, take, drop, Option, Some, None, refl, sym, subst, ◌∙◌, ap, arith, inl, inr}
+use Rattle.std.proofs.Common.{◌≡◌, ℕ, ◌+◌, ◌-◌, ◌<◌, ◌≤◌, min, max, Bool, true, false, cond, List, [], ◌∷◌, ◌++◌, length, map, take, drop, Option, Some, None, refl, sym, subst, ◌∙◌, ap, arith, inl, inr}
 use Rattle.std.specs.Prelude.{IfSome, filter, find, flat_map, is_some, zip, nat_le, nat_lt, ◌==◌, ◌&&◌, ◌||◌, option_and_then, unwrap_or, if◌then◌else◌}
-use Rattle.std.specs.List.{AllByRecursion, list_all}
+use Rattle.std.specs.List.{AllByRecursion, list_all, list_any, range_with_len}
 use Rattle.std.specs.Option.{option_map_or}
-use Rattle.std.proofs.lemmas.Bool.{and_parts, cases_lt, leb-true, or_right, true≢false}
+use Rattle.std.proofs.lemmas.Bool.{and_parts, cases_lt, leb-true, ltb-true, or_right, true≢false}
 use Rattle.std.proofs.lemmas.List.{length-map, length-take, take-take, take_all}
-use Rattle.std.proofs.lemmas.List.Folds.{flat_map-map}
 use Rattle.columns_core.specs.Causes.{Cause, ExternalFormat, NotYetImplemented, and_then, unless}
 use Rattle.columns_core.specs.declared.cell.Cell.{Cell, Null}
 use Rattle.columns_core.specs.declared.data_type.DataType.{DataType}
 use Rattle.columns_core.specs.declared.data_type.Field.{Field}
 use Rattle.parquet_base.specs.Intervals.{holds}
+use Rattle.parquet_base.proofs.SegmentLemmas.{holds_inside}
 use Rattle.parquet_base.specs.Reading.{◌>>=◌, given}
 use Rattle.parquet_base.specs.declared.interval.Interval.{Interval}
 use Rattle.parquet_meta.specs.Chunks.{chunk_causes, chunk_place}
@@ -31,7 +31,7 @@ use Rattle.parquet_page.proofs.HeaderLemmas.{dictionary_measured}
 use Rattle.flat_values.specs.Conversion.{Item, Value}
 use Rattle.parquet_scan.specs.declared.bound.Bound.{Bound}
 use Rattle.parquet_scan.specs.declared.groups.KnownEnds.{KnownEnds}
-use Rattle.parquet_scan.specs.Causes.{causes_of_chunk, causes_of_column, causes_of_opened, causes_of_pages, chunk_read_causes, index_causes_of_bound, index_causes_of_group, is_opened, item_causes, located_causes, offset_causes_of_field, opened_located, pair_causes, row_causes, walked_causes}
+use Rattle.parquet_scan.specs.Causes.{causes_of_chunk, causes_of_column, causes_of_opened, causes_of_walk, chunk_read_causes, index_causes_of_bound, index_causes_of_group, is_opened, located_causes, offset_causes_of_field, opened_located, pair_causes, walked_causes}
 use Rattle.parquet_scan.specs.Cells.{Reading, as_cell, dictionary_by_locations, chunk_of, dictionary_before, first_location, given_cell, is_null_type, item_among, item_at, item_located, located_item, located_pages, located_reading, named_page, walked_item, walked_reading}
 use Rattle.parquet_scan.specs.Costs.{holds_any, names_some, opened_locations}
 use Rattle.parquet_scan.specs.LookedAt.{AgreeAt, AgreeOn, bound_parts, chunk_parts, column_parts, dictionary_length, dictionary_part, front_of, index_parts_of_group, located_parts, offset_parts, part_in_chunk, parts_if, walked_length, walked_parts, with_dictionary}
@@ -39,7 +39,8 @@ use Rattle.parquet_scan.specs.Pages.{column_ends, ends_of_pages, has_count, is_r
 use Rattle.parquet_scan.specs.Request.{Request}
 use Rattle.parquet_scan.specs.Rows.{bound_keeps, column_named}
 use Rattle.parquet_scan.specs.Statistics.{physical_type}
-use Rattle.parquet_scan.proofs.LocatedLemmas.{chunk_length, located_by, page_there}
+use Rattle.parquet_scan.proofs.CellLemmas.{same_given}
+use Rattle.parquet_scan.proofs.LocatedLemmas.{any_row, chunk_length, located_by, page_there}
 use Rattle.parquet_scan.proofs.OpenedLemmas.{chunk_fits, same_opened}
 use Rattle.parquet_scan.proofs.SameWalk.{IsSameWalk, over, same_dictionary, shorter, walk_alike}
 
@@ -109,10 +110,13 @@ same_among {X} rows f g each = go rows (λ run held. held) where
       let own : f row ≡ g row = each row (λ run held. within run (ap (λ b. b || holds_any others run) held)) in
       λ i. own i ∷ go others (λ run held. within run (or_right (holds run row) (holds_any others run) held)) i
 
-same_row_causes : (rows : List ℕ) (f g : ℕ → Option Item) → ((row : ℕ) → IsAmong rows row → f row ≡ g row) → row_causes f rows ≡ row_causes g rows
-same_row_causes rows f g each =
-    let told : Option Item → List Cause = λ item. option_map_or item_causes item [] in
-    sym (flat_map-map told f rows) ∙ ap (flat_map told) (same_among rows f g each) ∙ flat_map-map told g rows
+-- a row that is among the first is one of them
+among_below : (rows : List ℕ) (row : ℕ) → rows ≡ range_with_len 0 (length rows) → IsAmong rows row → row < length rows
+among_below rows row first among =
+    let own : Interval = record { start = row; length = 1 } in
+    let held = among own (holds_inside own row (omega arith) (omega arith)) in
+    let low = ltb-true (max row 0) (min (row + 1) (0 + length rows)) (sym (any_row own 0 (length rows)) ∙ sym (ap (list_any (holds own)) first) ∙ held) in
+    omega (arith, low)
 
 -- The dictionary is looked at where a page is opened. In a row that is among others its page is.
 same_item : (one another : Reading) (rows : List ℕ) (row : ℕ) → IsAmong rows row → (page other : Interval × PageLocation → Option ChunkPage) (named : List (Interval × PageLocation)) → AreSame page other (filter (names_some rows) named)
@@ -302,7 +306,7 @@ module _ (first second : List ℕ) (long : length second ≡ length first) where
 
   -- ---- a chunk
 
-  module _ (group : RowGroupMetaData) (column : ColumnChunkMetaData) (rows : List ℕ) (data_type : DataType) where
+  module _ (group : RowGroupMetaData) (column : ColumnChunkMetaData) (size : Option ℕ) (rows : List ℕ) (data_type : DataType) where
     abbrev stored : PrimitiveType
     stored = column.descriptor.primitive_type
 
@@ -368,13 +372,14 @@ module _ (first second : List ℕ) (long : length second ≡ length first) where
             ∙ same_item (located_reading first group data_type column) (located_reading second group data_type column) rows row among (page_by first chunk) (page_by second chunk) (named_in first) are_same reading_same
             ∙ sym (ap (λ pages. item_located (located_reading first group data_type column) pages row) (pages_are chunk first at_first))
 
-        located_causes_same : located_causes second group rows data_type column ≡ located_causes first group rows data_type column
+        located_causes_same : located_causes size second group rows data_type column ≡ located_causes size first group rows data_type column
         located_causes_same =
             let pages = opened_located rows (located_pages first group column) in
             let of_pages = ap (causes_of_opened (located_reading second group data_type column)) found_same
             ∙ same_opened (located_reading second group data_type column) (located_reading first group data_type column) pages
             (λ some. reading_same (omega (arith, some, ap length found_first, length-map opened (page_by first chunk)))) in
-            let of_rows = same_row_causes rows (located_item second group data_type column) (located_item first group data_type column) located_items_same in
+            let of_rows = same_given size data_type (located_item second group data_type column) (located_item first group data_type column) rows
+            (same_among rows (located_item second group data_type column) (located_item first group data_type column) located_items_same) in
             λ i. and_then (unless (has_shape (told i) group.num_rows) ExternalFormat) (of_pages i ++ of_rows i)
 
         located_parts_same : located_parts second group rows column chunk ≡ located_parts first group rows column chunk
@@ -385,19 +390,20 @@ module _ (first second : List ℕ) (long : length second ≡ length first) where
 
       -- ---- its pages one after another
 
-      module _ (h : AgreeOn first second (walked_parts first column chunk)) where
-        walk : IsSameWalk column.num_values (bytes_at first chunk) (bytes_at second chunk)
-        walk = walk_alike column.num_values (bytes_at first chunk) (bytes_at second chunk) (chunk_length second chunk (omega (arith, fits, long)) ∙ sym (chunk_length first chunk fits))
-            (front_alike (walked_length column.num_values (bytes_at first chunk)) chunk.length (drop chunk.offset first) (drop chunk.offset second) h.0)
+      module _ (front : rows ≡ range_with_len 0 (length rows)) (h : AgreeOn first second (walked_parts first rows column chunk)) where
+        walk : IsSameWalk (length rows) column.num_values (bytes_at first chunk) (bytes_at second chunk)
+        walk = walk_alike (length rows) column.num_values (bytes_at first chunk) (bytes_at second chunk) (chunk_length second chunk (omega (arith, fits, long)) ∙ sym (chunk_length first chunk fits))
+            (front_alike (walked_length (length rows) column.num_values (bytes_at first chunk)) chunk.length (drop chunk.offset first) (drop chunk.offset second) h.0)
 
-        walked_items_same : (row : ℕ) → walked_item second group data_type column row ≡ walked_item first group data_type column row
-        walked_items_same row = item_is chunk second at_second row ∙ walk.items stored data_type row ∙ sym (item_is chunk first at_first row)
+        walked_items_same : (row : ℕ) → IsAmong rows row → walked_item second group data_type column row ≡ walked_item first group data_type column row
+        walked_items_same row among = item_is chunk second at_second row ∙ walk.items stored data_type row (among_below rows row front among) ∙ sym (item_is chunk first at_first row)
 
-        walked_causes_same : walked_causes second group rows data_type column chunk ≡ walked_causes first group rows data_type column chunk
+        walked_causes_same : walked_causes size second group rows data_type column chunk ≡ walked_causes size first group rows data_type column chunk
         walked_causes_same =
-            let of_pages = ap (λ reading. causes_of_pages reading column.num_values (bytes_at second chunk)) (walked_is chunk second at_second) ∙ walk.causes stored data_type
-            ∙ sym (ap (λ reading. causes_of_pages reading column.num_values (bytes_at first chunk)) (walked_is chunk first at_first)) in
-            let of_rows = same_row_causes rows (walked_item second group data_type column) (walked_item first group data_type column) (λ row among. walked_items_same row) in
+            let of_pages = ap (λ reading. causes_of_walk reading (length rows) (pages_of_chunk column.num_values (bytes_at second chunk))) (walked_is chunk second at_second) ∙ walk.causes stored data_type
+            ∙ sym (ap (λ reading. causes_of_walk reading (length rows) (pages_of_chunk column.num_values (bytes_at first chunk))) (walked_is chunk first at_first)) in
+            let of_rows = same_given size data_type (walked_item second group data_type column) (walked_item first group data_type column) rows
+            (same_among rows (walked_item second group data_type column) (walked_item first group data_type column) walked_items_same) in
             λ i. of_pages i ++ of_rows i
 
     -- what is found of a column
@@ -405,24 +411,24 @@ module _ (first second : List ℕ) (long : length second ≡ length first) where
     item_by by_pages bytes row = if by_pages then located_item bytes group data_type column row else walked_item bytes group data_type column row
 
     abbrev opened_causes_by : Bool → List ℕ → Place → List Cause
-    opened_causes_by by_pages bytes chunk = if by_pages then located_causes bytes group rows data_type column else walked_causes bytes group rows data_type column chunk
+    opened_causes_by by_pages bytes chunk = if by_pages then located_causes size bytes group rows data_type column else walked_causes size bytes group rows data_type column chunk
 
     abbrev parts_by : Bool → List ℕ → Place → List Place
-    parts_by by_pages bytes chunk = if by_pages then located_parts bytes group rows column chunk else walked_parts bytes column chunk
+    parts_by by_pages bytes chunk = if by_pages then located_parts bytes group rows column chunk else walked_parts bytes rows column chunk
 
     -- a chunk of the second file is as in the first
     pub record IsSameChunk (by_pages : Bool) : Type 0 where
-      pub causes : causes_of_chunk by_pages second group rows data_type column ≡ causes_of_chunk by_pages first group rows data_type column
+      pub causes : causes_of_chunk by_pages size second group rows data_type column ≡ causes_of_chunk by_pages size first group rows data_type column
       pub parts : chunk_parts by_pages second group rows column ≡ chunk_parts by_pages first group rows column
       pub items : (row : ℕ) → IsAmong rows row → item_by by_pages second row ≡ item_by by_pages first row
 
-    pub chunk_is_same : (by_pages : Bool) → (by_pages ≡ true → locations second column ≡ locations first column) → AgreeOn first second (chunk_parts by_pages first group rows column) → IsSameChunk by_pages
-    chunk_is_same by_pages told h = go by_pages told (chunk_of first group column) (chunk_same group column) refl h where
+    pub chunk_is_same : (by_pages : Bool) → (by_pages ≡ false → rows ≡ range_with_len 0 (length rows)) → (by_pages ≡ true → locations second column ≡ locations first column) → AgreeOn first second (chunk_parts by_pages first group rows column) → IsSameChunk by_pages
+    chunk_is_same by_pages front told h = go by_pages front told (chunk_of first group column) (chunk_same group column) refl h where
       damaged : List Cause
       damaged = ExternalFormat ∷ []
 
       causes_from : (b : Bool) (o : Option Place) → chunk_of second group column ≡ o → chunk_of first group column ≡ o → option_map_or (opened_causes_by b second) o damaged ≡ option_map_or (opened_causes_by b first) o damaged
-          → causes_of_chunk b second group rows data_type column ≡ causes_of_chunk b first group rows data_type column
+          → causes_of_chunk b size second group rows data_type column ≡ causes_of_chunk b size first group rows data_type column
       causes_from b o at_second at_first same =
           ap (λ o. and_then (chunk_causes column) (option_map_or (opened_causes_by b second) o damaged)) at_second ∙ ap (and_then (chunk_causes column)) same
           ∙ sym (ap (λ o. and_then (chunk_causes column) (option_map_or (opened_causes_by b first) o damaged)) at_first)
@@ -441,37 +447,37 @@ module _ (first second : List ℕ) (long : length second ≡ length first) where
       no_walked bytes none row =
           ap (λ o. item_among (walked_reading bytes group data_type column) (option_map_or (λ place. pages_of_chunk column.num_values (bytes_at bytes place)) o []) row) none
 
-      go : (b : Bool) → (b ≡ true → locations second column ≡ locations first column) → (o : Option Place) → chunk_of second group column ≡ chunk_of first group column → chunk_of first group column ≡ o
+      go : (b : Bool) → (b ≡ false → rows ≡ range_with_len 0 (length rows)) → (b ≡ true → locations second column ≡ locations first column) → (o : Option Place) → chunk_of second group column ≡ chunk_of first group column → chunk_of first group column ≡ o
           → AgreeOn first second (option_map_or (parts_by b first) o []) → IsSameChunk b
-      go true told None same at h = record {
+      go true front told None same at h = record {
         causes = causes_from true None (same ∙ at) at refl;
         parts = parts_from true None (same ∙ at) at refl;
         items = λ row among. no_located second (same ∙ at) row ∙ sym (no_located first at row);
       }
-      go false told None same at h = record {
+      go false front told None same at h = record {
         causes = causes_from false None (same ∙ at) at refl;
         parts = parts_from false None (same ∙ at) at refl;
         items = λ row among. no_walked second (same ∙ at) row ∙ sym (no_walked first at row);
       }
-      go true told (Some chunk) same at h = record {
+      go true front told (Some chunk) same at h = record {
         causes = causes_from true (Some chunk) (same ∙ at) at (located_causes_same chunk (same ∙ at) at (told refl) h);
         parts = parts_from true (Some chunk) (same ∙ at) at (located_parts_same chunk (same ∙ at) at (told refl) h);
         items = located_items_same chunk (same ∙ at) at (told refl) h;
       }
-      go false told (Some chunk) same at h = record {
-        causes = causes_from false (Some chunk) (same ∙ at) at (walked_causes_same chunk (same ∙ at) at h);
-        parts = parts_from false (Some chunk) (same ∙ at) at (ap (λ size. front_of chunk size ∷ []) (walk chunk (same ∙ at) at h).size);
-        items = λ row among. walked_items_same chunk (same ∙ at) at h row;
+      go false front told (Some chunk) same at h = record {
+        causes = causes_from false (Some chunk) (same ∙ at) at (walked_causes_same chunk (same ∙ at) at (front refl) h);
+        parts = parts_from false (Some chunk) (same ∙ at) at (ap (λ size. front_of chunk size ∷ []) (walk chunk (same ∙ at) at (front refl) h).size);
+        items = walked_items_same chunk (same ∙ at) at (front refl) h;
       }
 
   -- ---- a column
 
-  module _ (by_pages : Bool) (group : RowGroupMetaData) (rows : List ℕ) (data_type : DataType) where
+  module _ (by_pages : Bool) (size : Option ℕ) (group : RowGroupMetaData) (rows : List ℕ) (data_type : DataType) where
     -- what a column gives that is read as nulls or not
     abbrev causes_if : Bool → List ℕ → ColumnChunkMetaData → List Cause
     causes_if null bytes column =
         and_then (pair_causes column.descriptor.primitive_type data_type)
-        (if null then chunk_read_causes bytes group column else causes_of_chunk by_pages bytes group rows data_type column)
+        (if null then chunk_read_causes bytes group column else causes_of_chunk by_pages size bytes group rows data_type column)
 
     abbrev column_parts_if : Bool → List ℕ → Option ColumnChunkMetaData → List Place
     column_parts_if null bytes column = if null then [] else option_map_or (chunk_parts by_pages bytes group rows) column []
@@ -488,16 +494,16 @@ module _ (first second : List ℕ) (long : length second ≡ length first) where
       parts : column_parts_if null second column ≡ column_parts_if null first column
       cells : (row : ℕ) → IsAmong rows row → option_and_then (cell_if null second row) column ≡ option_and_then (cell_if null first row) column
 
-    read_is_same : (null : Bool) (column : Option ColumnChunkMetaData) → (by_pages ≡ true → IfSome column (λ column. locations second column ≡ locations first column))
+    read_is_same : (null : Bool) (column : Option ColumnChunkMetaData) → (by_pages ≡ false → rows ≡ range_with_len 0 (length rows)) → (by_pages ≡ true → IfSome column (λ column. locations second column ≡ locations first column))
         → AgreeOn first second (column_parts_if null first column) → IsSameRead null column
-    read_is_same null None told h = record { causes = refl; parts = refl; cells = λ row among. refl }
-    read_is_same true (Some column) told h = record {
+    read_is_same null None front told h = record { causes = refl; parts = refl; cells = λ row among. refl }
+    read_is_same true (Some column) front told h = record {
       causes = ap (λ (place : Option Place). and_then (pair_causes column.descriptor.primitive_type data_type) (and_then (chunk_causes column) (unless (is_some place) ExternalFormat))) (chunk_same group column);
       parts = refl;
       cells = λ row among. refl;
     }
-    read_is_same false (Some column) told h =
-        let same = chunk_is_same group column rows data_type by_pages told h in
+    read_is_same false (Some column) front told h =
+        let same = chunk_is_same group column size rows data_type by_pages front told h in
         record {
           causes = ap (and_then (pair_causes column.descriptor.primitive_type data_type)) same.causes;
           parts = same.parts;
@@ -505,13 +511,13 @@ module _ (first second : List ℕ) (long : length second ≡ length first) where
         }
 
   -- a column of the second file is as in the first
-  pub record IsSameColumn (by_pages : Bool) (group : RowGroupMetaData) (rows : List ℕ) (field : Field) : Type 0 where
-    pub causes : causes_of_column by_pages second group rows field ≡ causes_of_column by_pages first group rows field
+  pub record IsSameColumn (by_pages : Bool) (size : Option ℕ) (group : RowGroupMetaData) (rows : List ℕ) (field : Field) : Type 0 where
+    pub causes : causes_of_column by_pages size second group rows field ≡ causes_of_column by_pages size first group rows field
     pub parts : column_parts by_pages second group rows field ≡ column_parts by_pages first group rows field
     pub cells : (row : ℕ) → IsAmong rows row → given_cell by_pages second group field row ≡ given_cell by_pages first group field row
 
-  pub column_is_same : (by_pages : Bool) (group : RowGroupMetaData) (rows : List ℕ) (field : Field) → (by_pages ≡ true → AgreeOn first second (offset_parts group field))
-      → AgreeOn first second (column_parts by_pages first group rows field) → IsSameColumn by_pages group rows field
-  column_is_same by_pages group rows field indexed h =
-      let same = read_is_same by_pages group rows field.data_type (is_null_type field.data_type) (column_named group field.name) (λ yes. named_same group field (indexed yes)) h in
+  pub column_is_same : (by_pages : Bool) (size : Option ℕ) (group : RowGroupMetaData) (rows : List ℕ) (field : Field) → (by_pages ≡ false → rows ≡ range_with_len 0 (length rows)) → (by_pages ≡ true → AgreeOn first second (offset_parts group field))
+      → AgreeOn first second (column_parts by_pages first group rows field) → IsSameColumn by_pages size group rows field
+  column_is_same by_pages size group rows field first_rows indexed h =
+      let same = read_is_same by_pages size group rows field.data_type (is_null_type field.data_type) (column_named group field.name) first_rows (λ yes. named_same group field (indexed yes)) h in
       record { causes = same.causes; parts = same.parts; cells = same.cells }

@@ -1,6 +1,8 @@
 -- Two files that have the same bytes where one is looked at give the same scan.
-use Rattle.std.proofs.Common.{◌≡◌, ℕ, Bool, true, false, not, cond, List, [], ◌∷◌, ◌++◌, length, map, Option, Some, None, refl, sym, subst, ◌∙◌, ap, arith}
-use Rattle.std.specs.Prelude.{filter, flat_map, zip, nat_lt, ◌&&◌, ◌||◌, option_and_then, option_map, if◌then◌else◌}
+use Rattle.std.proofs.Common.{◌≡◌, ℕ, zero, suc, ◌-◌, Bool, true, false, not, cond, List, [], ◌∷◌, ◌++◌, length, map, take, drop, get_or, Option, Some, None, refl, sym, ◌∙◌, ap, arith}
+use Rattle.std.proofs.lemmas.List.{drop-map, length-map, take-map}
+use Rattle.std.proofs.lemmas.Simd.{map-map}
+use Rattle.std.specs.Prelude.{filter, flat_map, zip, ◌&&◌, ◌||◌, option_and_then, option_map, if◌then◌else◌}
 use Rattle.std.specs.List.{AllByRecursion, list_all, range_with_len}
 use Rattle.std.specs.Option.{option_map_or}
 use Rattle.std.proofs.lemmas.Bool.{lt-ltb, true≢false}
@@ -10,7 +12,7 @@ use Rattle.columns_core.specs.declared.data_type.DataType.{DataType}
 use Rattle.columns_core.specs.declared.data_type.Field.{Field}
 use Rattle.parquet_base.specs.Intervals.{maximal_runs}
 use Rattle.parquet_base.specs.declared.interval.Interval.{Interval}
-use Rattle.parquet_base.specs.Pieces.{cut}
+use Rattle.parquet_base.specs.Pieces.{cut, pieces}
 use Rattle.parquet_meta.specs.File.{footer, footer_place}
 use Rattle.parquet_meta.specs.declared.metadata.FileMetaData.{FileMetaData}
 use Rattle.parquet_meta.specs.declared.metadata.Place.{Place}
@@ -19,15 +21,46 @@ use Rattle.parquet_meta.proofs.EndLemmas.{same_ends}
 use Rattle.parquet_page.specs.Values.{all_some}
 use Rattle.parquet_scan.specs.Causes.{IsValid, causes, causes_of_column, causes_of_group, file_causes, index_causes, index_causes_of_group, metadata_causes, read_causes}
 use Rattle.parquet_scan.specs.Cells.{given_cell, given_chunk, given_chunks, given_column, group_chunks}
-use Rattle.parquet_scan.specs.Counting.{every_row}
 use Rattle.parquet_scan.specs.LookedAt.{AgreeOn, HaveSameScan, IsSameScan, bound_parts, column_parts, file_parts, group_parts, index_parts, index_parts_of_group, offset_parts, read_parts}
 use Rattle.parquet_scan.specs.Request.{Request}
 use Rattle.parquet_scan.specs.Rows.{File, bound_keeps, file_with, first_rows, gives_rows, group_counts, groups_read, intervals, kept_rows, pages_keep, prunes_pages}
 use Rattle.parquet_scan.specs.Scan.{kept_groups}
-use Rattle.parquet_scan.proofs.FileLemmas.{built_limit, built_size, nothing_first, flat_filter}
-use Rattle.parquet_scan.proofs.KeptLemmas.{all_or_none}
+use Rattle.parquet_scan.proofs.FileCosts.{GivesFirst, all_first, some_first}
+use Rattle.parquet_scan.proofs.FileLemmas.{nothing_first, flat_filter}
+use Rattle.parquet_scan.proofs.GivenCells.{counts_by, some_taken}
 use Rattle.parquet_scan.proofs.SameColumns.{IsSameColumn, agree_split, column_is_same, group_causes_same, group_keeps_same, same_among, same_flat}
 use Rattle.parquet_scan.proofs.PageLemmas.{some_cause}
+
+-- ---- pieces of lists
+
+map_pieces : {A B : Type 0} (f : A → B) (turns size : ℕ) (xs : List A) → map (map f) (pieces turns size xs) ≡ pieces turns size (map f xs)
+map_pieces f zero size xs = refl
+map_pieces f (suc turns) size [] = refl
+map_pieces f (suc turns) size (x ∷ xs) =
+    λ i. sym (take-map f size (x ∷ xs)) i ∷ (map_pieces f turns size (drop size (x ∷ xs)) ∙ ap (pieces turns size) (sym (drop-map f size (x ∷ xs)))) i
+
+map_cut : {A B : Type 0} (f : A → B) (size : Option ℕ) (xs : List A) → map (map f) (cut size xs) ≡ cut size (map f xs)
+map_cut f None [] = refl
+map_cut f None (x ∷ xs) = refl
+map_cut f (Some size) xs = map_pieces f (length xs) size xs ∙ ap (λ turns. pieces turns size (map f xs)) (sym (length-map xs f))
+
+-- where the items are the same, what is made of each piece of them is
+pieces_same : {A B C : Type 0} (size : Option ℕ) (make : List B → C) (f g : A → B) (xs : List A) → map f xs ≡ map g xs → map (λ piece. make (map f piece)) (cut size xs) ≡ map (λ piece. make (map g piece)) (cut size xs)
+pieces_same size make f g xs same =
+    sym (map-map make (map f) (cut size xs)) ∙ ap (map make) (map_cut f size xs ∙ ap (cut size) same ∙ sym (map_cut g size xs)) ∙ map-map make (map g) (cut size xs)
+
+in_front_of : {P X : Type 0} (pieces : List P) (a b : P → X) (c d : P → List X) → map a pieces ≡ map b pieces → map c pieces ≡ map d pieces → map (λ piece. a piece ∷ c piece) pieces ≡ map (λ piece. b piece ∷ d piece) pieces
+in_front_of [] a b c d e es = refl
+in_front_of (piece ∷ pieces) a b c d e es =
+    let own : a piece ≡ b piece = ap (λ xs. get_or xs 0 (a piece)) e in
+    let others : c piece ≡ d piece = ap (λ xs. get_or xs 0 (c piece)) es in
+    λ i. (own i ∷ others i) ∷ in_front_of pieces a b c d (ap (drop 1) e) (ap (drop 1) es) i
+
+each_piece : {P X : Type 0} (fields : List Field) (pieces : List P) (f g : P → Field → X) → AllByRecursion (λ field. map (λ piece. f piece field) pieces ≡ map (λ piece. g piece field) pieces) fields
+    → map (λ piece. map (f piece) fields) pieces ≡ map (λ piece. map (g piece) fields) pieces
+each_piece [] pieces f g same = refl
+each_piece (field ∷ fields) pieces f g same =
+    in_front_of pieces (λ piece. f piece field) (λ piece. g piece field) (λ piece. map (f piece) fields) (λ piece. map (g piece) fields) same.0 (each_piece fields pieces f g same.1)
 
 module _ (first second : List ℕ) (long : length second ≡ length first) (request : Request) (metadata : FileMetaData) where
   abbrev by_pages : Bool
@@ -91,19 +124,19 @@ module _ (first second : List ℕ) (long : length second ≡ length first) (requ
   -- ---- a group that is read
 
   abbrev AreSameFields : RowGroupMetaData → List ℕ → List Field → Type 0
-  AreSameFields group rows fields = AllByRecursion (IsSameColumn first second long by_pages group rows) fields
+  AreSameFields group rows fields = AllByRecursion (IsSameColumn first second long by_pages request.chunk_size group rows) fields
 
-  fields_same : (group : RowGroupMetaData) (rows : List ℕ) (fields : List Field) → (by_pages ≡ true → AgreeOn first second (flat_map (offset_parts group) fields))
+  fields_same : (group : RowGroupMetaData) (rows : List ℕ) (fields : List Field) → (by_pages ≡ false → rows ≡ range_with_len 0 (length rows)) → (by_pages ≡ true → AgreeOn first second (flat_map (offset_parts group) fields))
       → AgreeOn first second (flat_map (column_parts by_pages first group rows) fields) → AreSameFields group rows fields
-  fields_same group rows [] is h = tt
-  fields_same group rows (field ∷ fields) is h =
+  fields_same group rows [] begin is h = tt
+  fields_same group rows (field ∷ fields) begin is h =
       let both = agree_split first second (column_parts by_pages first group rows field) (flat_map (column_parts by_pages first group rows) fields) h in
       let split : by_pages ≡ true → AgreeOn first second (offset_parts group field) × AgreeOn first second (flat_map (offset_parts group) fields)
       = λ yes. agree_split first second (offset_parts group field) (flat_map (offset_parts group) fields) (is yes) in
-      (column_is_same first second long by_pages group rows field (λ yes. (split yes).0) both.0, fields_same group rows fields (λ yes. (split yes).1) both.1)
+      (column_is_same first second long by_pages request.chunk_size group rows field begin (λ yes. (split yes).0) both.0, fields_same group rows fields begin (λ yes. (split yes).1) both.1)
 
   causes_same : (group : RowGroupMetaData) (rows : List ℕ) (fields : List Field) → AreSameFields group rows fields
-      → flat_map (causes_of_column by_pages second group rows) fields ≡ flat_map (causes_of_column by_pages first group rows) fields
+      → flat_map (causes_of_column by_pages request.chunk_size second group rows) fields ≡ flat_map (causes_of_column by_pages request.chunk_size first group rows) fields
   causes_same group rows [] same = refl
   causes_same group rows (field ∷ fields) same = λ i. same.0.causes i ++ causes_same group rows fields same.1 i
 
@@ -112,73 +145,84 @@ module _ (first second : List ℕ) (long : length second ≡ length first) (requ
   parts_same group rows [] same = refl
   parts_same group rows (field ∷ fields) same = λ i. same.0.parts i ++ parts_same group rows fields same.1 i
 
-  column_same : (group : RowGroupMetaData) (rows : List ℕ) (field : Field) → IsSameColumn first second long by_pages group rows field → given_column by_pages second group rows field ≡ given_column by_pages first group rows field
+  -- a column of some of the rows
+  abbrev column_by : List ℕ → RowGroupMetaData → List ℕ → Field → Option (DataType × List Cell)
+  column_by bytes group rows field = given_column by_pages bytes group rows field
+
+  column_same : (group : RowGroupMetaData) (rows : List ℕ) (field : Field) → IsSameColumn first second long by_pages request.chunk_size group rows field
+      → map (λ piece. column_by second group piece field) (cut request.chunk_size rows) ≡ map (λ piece. column_by first group piece field) (cut request.chunk_size rows)
   column_same group rows field same =
-      ap (λ cells. option_map (λ found. (field.data_type, found)) (all_some cells))
+      pieces_same request.chunk_size (λ cells. option_map (λ found. (field.data_type, found)) (all_some cells)) (given_cell by_pages second group field) (given_cell by_pages first group field) rows
       (same_among rows (given_cell by_pages second group field) (given_cell by_pages first group field) same.cells)
 
   columns_same : (group : RowGroupMetaData) (rows : List ℕ) (fields : List Field) → AreSameFields group rows fields
-      → map (given_column by_pages second group rows) fields ≡ map (given_column by_pages first group rows) fields
-  columns_same group rows [] same = refl
-  columns_same group rows (field ∷ fields) same = λ i. column_same group rows field same.0 i ∷ columns_same group rows fields same.1 i
+      → AllByRecursion (λ field. map (λ piece. column_by second group piece field) (cut request.chunk_size rows) ≡ map (λ piece. column_by first group piece field) (cut request.chunk_size rows)) fields
+  columns_same group rows [] same = tt
+  columns_same group rows (field ∷ fields) same = (column_same group rows field same.0, columns_same group rows fields same.1)
 
-  abbrev chunks_by : List ℕ → RowGroupMetaData × List ℕ → List (Option (List (DataType × List Cell)))
-  chunks_by bytes group = map (given_chunk by_pages request.fields bytes group.0) (cut None group.1)
+  chunk_same : (group : RowGroupMetaData) (rows : List ℕ) → AreSameFields group rows request.fields → group_chunks request other (group, rows) ≡ group_chunks request one (group, rows)
+  chunk_same group rows same =
+      let pieces = cut request.chunk_size rows in
+      sym (map-map all_some (λ piece. map (column_by second group piece) request.fields) pieces)
+      ∙ ap (map all_some) (each_piece request.fields pieces (column_by second group) (column_by first group) (columns_same group rows request.fields same))
+      ∙ map-map all_some (λ piece. map (column_by first group piece) request.fields) pieces
 
-  chunk_same : (group : RowGroupMetaData) (rows : List ℕ) → AreSameFields group rows request.fields → chunks_by second (group, rows) ≡ chunks_by first (group, rows)
-  chunk_same group [] same = refl
-  chunk_same group (row ∷ rows) same = ap (λ columns. all_some columns ∷ []) (columns_same group (row ∷ rows) request.fields same)
-
-  no_chunk : (group : RowGroupMetaData) (rows : List ℕ) → gives_rows (group, rows) ≡ false → chunks_by second (group, rows) ≡ chunks_by first (group, rows)
-  no_chunk group [] none = refl
+  no_chunk : (group : RowGroupMetaData) (rows : List ℕ) → gives_rows (group, rows) ≡ false → group_chunks request other (group, rows) ≡ group_chunks request one (group, rows)
+  no_chunk group [] none = none_cut request.chunk_size where
+    none_cut : (size : Option ℕ) → map (given_chunk by_pages request.fields second group) (cut size []) ≡ map (given_chunk by_pages request.fields first group) (cut size [])
+    none_cut None = refl
+    none_cut (Some size) = refl
   no_chunk group (row ∷ rows) none = absurd (true≢false (sym (lt-ltb 0 (length (row ∷ rows)) (omega arith)) ∙ none))
 
   -- ---- groups that are read
 
-  -- a group that gives rows counts
-  counts_then : (group : RowGroupMetaData) → gives_rows (group, kept_rows request one group) ≡ true → group_counts request group ≡ true
-  counts_then group gives = by (group_counts request group) gives where
-    by : (c : Bool) → nat_lt 0 (length (filter (λ row. c && pages_keep by_pages request.bounds first group row) (every_row group))) ≡ true → c ≡ true
-    by true gives = refl
-    by false gives = absurd (true≢false (sym gives ∙ ap (λ rows. nat_lt 0 (length rows)) (all_or_none false (every_row group))))
+  abbrev given_of : Option ℕ → List RowGroupMetaData → List (RowGroupMetaData × List ℕ)
+  given_of limit groups = zip groups (first_rows limit (map (kept_rows request one) groups))
 
-  abbrev given_of : List RowGroupMetaData → List (RowGroupMetaData × List ℕ)
-  given_of groups = zip groups (map (kept_rows request one) groups)
+  abbrev parts_of : List (RowGroupMetaData × List ℕ) → List Place
+  parts_of groups = flat_map (group_parts by_pages request.fields first) (filter gives_rows groups)
 
-  abbrev reads_of : List RowGroupMetaData → List (RowGroupMetaData × List ℕ)
-  reads_of groups = filter gives_rows (given_of groups)
+  -- where the same is so of what a group gives, and of the groups behind it, it is so of all
+  module _ {Z : Type 0} (f g : RowGroupMetaData × List ℕ → List Z) (each : (group : RowGroupMetaData) (rows : List ℕ) → AreSameFields group rows request.fields → f (group, rows) ≡ g (group, rows))
+      (none : (group : RowGroupMetaData) (rows : List ℕ) → gives_rows (group, rows) ≡ false → f (group, rows) ≡ g (group, rows)) where
+    one_same : (group : RowGroupMetaData) (rows : List ℕ) (others : List (RowGroupMetaData × List ℕ)) → Indexed by_pages group → (gives_rows (group, rows) ≡ true → group_counts request group ≡ true) → GivesFirst by_pages (group, rows)
+        → (AgreeOn first second (parts_of others) → flat_map f others ≡ flat_map g others) → AgreeOn first second (parts_of ((group, rows) ∷ others)) → f (group, rows) ++ flat_map f others ≡ g (group, rows) ++ flat_map g others
+    one_same group rows others is counts begin rest h = by (gives_rows (group, rows)) refl h where
+      reads : List (RowGroupMetaData × List ℕ)
+      reads = filter gives_rows others
 
-  given_same : {Z : Type 0} (f g : RowGroupMetaData × List ℕ → List Z) → ((group : RowGroupMetaData) (rows : List ℕ) → AreSameFields group rows request.fields → f (group, rows) ≡ g (group, rows))
-      → ((group : RowGroupMetaData) (rows : List ℕ) → gives_rows (group, rows) ≡ false → f (group, rows) ≡ g (group, rows))
-      → (groups : List RowGroupMetaData) → AllByRecursion (Indexed by_pages) groups → AgreeOn first second (flat_map (group_parts by_pages request.fields first) (reads_of groups))
-      → flat_map f (given_of groups) ≡ flat_map g (given_of groups)
-  given_same f g each none [] is h = refl
-  given_same {Z} f g each none (group ∷ groups) is h = by (gives_rows (group, kept_rows request one group)) refl (given_same f g each none groups is.1) h where
-    rows : List ℕ
-    rows = kept_rows request one group
+      offsets : gives_rows (group, rows) ≡ true → by_pages ≡ true → AgreeOn first second (flat_map (offset_parts group) request.fields)
+      offsets gives pruned = (agree_split first second (flat_map (offset_parts group) request.fields) (flat_map (bound_parts group) request.bounds) (is pruned (counts gives))).0
 
-    offsets : gives_rows (group, rows) ≡ true → by_pages ≡ true → AgreeOn first second (flat_map (offset_parts group) request.fields)
-    offsets gives pruned = (agree_split first second (flat_map (offset_parts group) request.fields) (flat_map (bound_parts group) request.bounds) (is.0 pruned (counts_then group gives))).0
+      by : (b : Bool) → gives_rows (group, rows) ≡ b → AgreeOn first second (flat_map (group_parts by_pages request.fields first) (cond b ((group, rows) ∷ reads) reads)) → f (group, rows) ++ flat_map f others ≡ g (group, rows) ++ flat_map g others
+      by true gives h =
+          let both = agree_split first second (group_parts by_pages request.fields first (group, rows)) (flat_map (group_parts by_pages request.fields first) reads) h in
+          let own = each group rows (fields_same group rows request.fields begin (offsets gives) both.0) in
+          λ i. own i ++ rest both.1 i
+      by false gives h = λ i. none group rows gives i ++ rest h i
 
-    by : (b : Bool) → gives_rows (group, rows) ≡ b → (AgreeOn first second (flat_map (group_parts by_pages request.fields first) (reads_of groups)) → flat_map f (given_of groups) ≡ flat_map g (given_of groups))
-        → AgreeOn first second (flat_map (group_parts by_pages request.fields first) (cond b ((group, rows) ∷ reads_of groups) (reads_of groups)))
-        → f (group, rows) ++ flat_map f (given_of groups) ≡ g (group, rows) ++ flat_map g (given_of groups)
-    by true gives rest h =
-        let both = agree_split first second (group_parts by_pages request.fields first (group, rows)) (flat_map (group_parts by_pages request.fields first) (reads_of groups)) h in
-        let own = each group rows (fields_same group rows request.fields (offsets gives) both.0) in
-        λ i. own i ++ rest both.1 i
-    by false gives rest h = λ i. none group rows gives i ++ rest h i
+    given_same : (limit : Option ℕ) (groups : List RowGroupMetaData) → AllByRecursion (Indexed by_pages) groups → AgreeOn first second (parts_of (given_of limit groups)) → flat_map f (given_of limit groups) ≡ flat_map g (given_of limit groups)
+    given_same None [] is h = refl
+    given_same (Some left) [] is h = refl
+    given_same None (group ∷ groups) is h =
+        let rows = kept_rows request one group in
+        one_same group rows (given_of None groups) is.0 (counts_by request one group (group_counts request group) refl) (all_first request one group) (given_same None groups is.1) h
+    given_same (Some left) (group ∷ groups) is h =
+        let rows = kept_rows request one group in
+        one_same group (take left rows) (given_of (Some (left - length rows)) groups) is.0
+        (λ gives. counts_by request one group (group_counts request group) refl (some_taken left rows gives)) (some_first request one group left)
+        (given_same (Some (left - length rows)) groups is.1) h
 
   -- so are those that give rows
   reads_same : {Z : Type 0} (f g : RowGroupMetaData × List ℕ → List Z) → ((group : RowGroupMetaData) (rows : List ℕ) → AreSameFields group rows request.fields → f (group, rows) ≡ g (group, rows))
-      → (groups : List RowGroupMetaData) → AllByRecursion (Indexed by_pages) groups → AgreeOn first second (flat_map (group_parts by_pages request.fields first) (reads_of groups))
-      → flat_map f (reads_of groups) ≡ flat_map g (reads_of groups)
-  reads_same {Z} f g each groups is h =
+      → (limit : Option ℕ) (groups : List RowGroupMetaData) → AllByRecursion (Indexed by_pages) groups → AgreeOn first second (parts_of (given_of limit groups))
+      → flat_map f (filter gives_rows (given_of limit groups)) ≡ flat_map g (filter gives_rows (given_of limit groups))
+  reads_same {Z} f g each limit groups is h =
       let if_read : (RowGroupMetaData × List ℕ → List Z) → RowGroupMetaData × List ℕ → List Z = λ give read. if gives_rows read then give read else [] in
-      flat_filter f gives_rows (given_of groups)
+      flat_filter f gives_rows (given_of limit groups)
       ∙ given_same (if_read f) (if_read g) (λ group rows same. ap (λ found. if gives_rows (group, rows) then found else []) (each group rows same))
-      (λ group rows none. ap (λ b. if b then f (group, rows) else []) none ∙ sym (ap (λ b. if b then g (group, rows) else []) none)) groups is h
-      ∙ sym (flat_filter g gives_rows (given_of groups))
+      (λ group rows none. ap (λ b. if b then f (group, rows) else []) none ∙ sym (ap (λ b. if b then g (group, rows) else []) none)) limit groups is h
+      ∙ sym (flat_filter g gives_rows (given_of limit groups))
 
   -- ---- the file
 
@@ -199,26 +243,15 @@ module _ (first second : List ℕ) (long : length second ≡ length first) (requ
     same_reads : groups_read request other ≡ groups_read request one
     same_reads = ap (λ rows. filter gives_rows (zip metadata.row_groups (first_rows request.limit rows))) (rows_same metadata.row_groups are_indexed)
 
-    all_reads : groups_read request one ≡ reads_of metadata.row_groups
-    all_reads = ap (λ limit. filter gives_rows (zip metadata.row_groups (first_rows limit (map (kept_rows request one) metadata.row_groups)))) (built_limit request metadata none)
-
     module _ (reads : AgreeOn first second (read_parts request one)) where
-      in_reads : AgreeOn first second (flat_map (group_parts by_pages request.fields first) (reads_of metadata.row_groups))
-      in_reads = subst (λ found. AgreeOn first second (flat_map (group_parts by_pages request.fields first) found)) all_reads reads
-
       of_reads : {Z : Type 0} (f g : RowGroupMetaData × List ℕ → List Z) → ((group : RowGroupMetaData) (rows : List ℕ) → AreSameFields group rows request.fields → f (group, rows) ≡ g (group, rows))
           → flat_map f (groups_read request other) ≡ flat_map g (groups_read request one)
-      of_reads f g each =
-          ap (flat_map f) (same_reads ∙ all_reads) ∙ reads_same f g each metadata.row_groups are_indexed in_reads ∙ sym (ap (flat_map g) all_reads)
+      of_reads f g each = ap (flat_map f) same_reads ∙ reads_same f g each request.limit metadata.row_groups are_indexed reads
 
       chunks_same : given_chunks request other ≡ given_chunks request one
       chunks_same =
           ap (λ rows. all_some (flat_map (group_chunks request other) (zip metadata.row_groups (first_rows request.limit rows)))) (rows_same metadata.row_groups are_indexed)
-          ∙ ap (λ limit. all_some (flat_map (group_chunks request other) (zip metadata.row_groups (first_rows limit (map (kept_rows request one) metadata.row_groups))))) (built_limit request metadata none)
-          ∙ ap (λ size. all_some (flat_map (λ (group : RowGroupMetaData × List ℕ). map (given_chunk by_pages request.fields second group.0) (cut size group.1)) (given_of metadata.row_groups))) (built_size request metadata none)
-          ∙ ap all_some (given_same (chunks_by second) (chunks_by first) chunk_same no_chunk metadata.row_groups are_indexed in_reads)
-          ∙ sym (ap (λ size. all_some (flat_map (λ (group : RowGroupMetaData × List ℕ). map (given_chunk by_pages request.fields first group.0) (cut size group.1)) (given_of metadata.row_groups))) (built_size request metadata none))
-          ∙ sym (ap (λ limit. all_some (flat_map (group_chunks request one) (zip metadata.row_groups (first_rows limit (map (kept_rows request one) metadata.row_groups))))) (built_limit request metadata none))
+          ∙ ap all_some (given_same (group_chunks request other) (group_chunks request one) chunk_same no_chunk request.limit metadata.row_groups are_indexed reads)
 
   abbrev parts_with : List Cause → List Cause → List Place → List Place
   parts_with wrong wrong_indexes reads = if is_empty wrong then index_parts request one ++ (if is_empty wrong_indexes then reads else []) else []
@@ -238,7 +271,7 @@ module _ (first second : List ℕ) (long : length second ≡ length first) (requ
   with_indexes none h [] e reads =
       let second_is = causes_of_indexes none h ∙ sym refl in
       let parts = of_reads none h reads (group_parts by_pages request.fields second) (group_parts by_pages request.fields first) (λ group rows same. parts_same group rows request.fields same) in
-      let wrong = of_reads none h reads (causes_of_group by_pages request.fields second) (causes_of_group by_pages request.fields first) (λ group rows same. causes_same group rows request.fields same) in
+      let wrong = of_reads none h reads (causes_of_group by_pages request.chunk_size request.fields second) (causes_of_group by_pages request.chunk_size request.fields first) (λ group rows same. causes_same group rows request.fields same) in
       record {
         parts = λ i. parts_with (metadata_causes request metadata) (second_is i) (parts i);
         causes = λ i. and_then (metadata_causes request metadata) (and_then (second_is i) (wrong i));

@@ -2,11 +2,13 @@
 use Rattle.std.proofs.Common.{◌≡◌, ℕ, zero, suc, ◌+◌, ◌<◌, ◌≤◌, Bool, true, false, not, List, [], ◌∷◌, ◌++◌, length, map, drop, get_or, refl, sym, subst, ◌∙◌, ap, arith, append_assoc, inl, inr}
 use Rattle.std.specs.Prelude.{Option, Some, None, zip, filter, ◌&&◌, ◌||◌, ◌==◌, nat_lt, IfSome, if◌then◌else◌}
 use Rattle.std.specs.List.{flat_map, list_all}
-use Rattle.columns_core.specs.Causes.{Cause, and_then, IsOneOf, IsWantOfMemory, cause_of}
+use Rattle.columns_core.specs.Causes.{Cause, Overflow, and_then, IsOneOf, IsWantOfMemory, cause_of}
 use Rattle.columns_core.specs.declared.data_type.DataType.{DataType}
 use Rattle.columns_core.specs.declared.error.Error.{Error}
 use Rattle.columns_core.specs.declared.error.Error.TheVariants as error
 use Rattle.parquet_meta.specs.declared.metadata.RowGroupMetaData.{RowGroupMetaData}
+use Rattle.page_decoding.specs.Bytes.{IsCausedByChunks}
+use Rattle.page_decoding.specs.Outcome.{Outcome, causes_in}
 use Rattle.parquet_scan.specs.declared.bound.Bound.{Bound}
 use Rattle.parquet_scan.specs.Counting.{are_pruned}
 use Rattle.parquet_scan.specs.Request.{Request}
@@ -129,12 +131,12 @@ no_runs (suc rows) = no_runs rows
 -- ---- a column
 
 -- what is wrong with one that is carried, read as nulls or not
-pub of_read : (told : Option (List ℕ)) (by_pages : Bool) (group : RowGroupMetaData) (rows : List ℕ) (data_type : DataType) (column : ColumnChunkMetaData) (nulls : Bool) → pair_causes column.descriptor.primitive_type data_type ≡ [] → is_null_type data_type ≡ nulls
-    → IfSome told (λ bytes. causes_of_read by_pages bytes group rows data_type column ≡ (if nulls then chunk_read_causes bytes group column else causes_of_chunk by_pages bytes group rows data_type column))
-of_read None by_pages group rows data_type column nulls pair is = tt
-of_read (Some bytes) by_pages group rows data_type column nulls pair is =
-    then_next (pair_causes column.descriptor.primitive_type data_type) (if is_null_type data_type then chunk_read_causes bytes group column else causes_of_chunk by_pages bytes group rows data_type column) pair
-    ∙ ap (λ b. if b then chunk_read_causes bytes group column else causes_of_chunk by_pages bytes group rows data_type column) is
+pub of_read : (told : Option (List ℕ)) (by_pages : Bool) (size : Option ℕ) (group : RowGroupMetaData) (rows : List ℕ) (data_type : DataType) (column : ColumnChunkMetaData) (nulls : Bool) → pair_causes column.descriptor.primitive_type data_type ≡ [] → is_null_type data_type ≡ nulls
+    → IfSome told (λ bytes. causes_of_read by_pages size bytes group rows data_type column ≡ (if nulls then chunk_read_causes bytes group column else causes_of_chunk by_pages size bytes group rows data_type column))
+of_read None by_pages size group rows data_type column nulls pair is = tt
+of_read (Some bytes) by_pages size group rows data_type column nulls pair is =
+    then_next (pair_causes column.descriptor.primitive_type data_type) (if is_null_type data_type then chunk_read_causes bytes group column else causes_of_chunk by_pages size bytes group rows data_type column) pair
+    ∙ ap (λ b. if b then chunk_read_causes bytes group column else causes_of_chunk by_pages size bytes group rows data_type column) is
 
 -- what is wrong with a first step is wrong with it and the next
 pub in_step : (told : Option (List ℕ)) (first : List Cause) (next : List ℕ → List Cause) → IfSome told (λ bytes. (o : Option Cause) → IsOneOf first o → IsOneOf (and_then first (next bytes)) o)
@@ -160,6 +162,18 @@ fails_within None before now part whole error.Overflow within (inr one) = tt
 fails_within (Some bytes) before now part whole error.Overflow within (inr one) = within (cause_of error.Overflow) one
 fails_within told before now part whole error.Io within (inr one) = absurd one
 fails_within told before now part whole error.OutOfMemory within (inr one) = absurd one
+
+-- an error of rows in chunks, which tells of the whole
+pub fails_chunks : (told : Option (List ℕ)) (before now : ℕ) (most size : Option ℕ) (wanted : List Outcome) (whole : List ℕ → List Cause) (e : Error)
+    → IfSome told (λ bytes. (error : Error) → IsCausedByChunks most size wanted error → TellsOf (whole bytes) error) → IsCausedByChunks most size wanted e → FailsBy told before now whole e
+fails_chunks None before now most size wanted whole e tells caused = fails_within None before now (causes_in wanted ++ Overflow ∷ []) whole e tt (alone caused) where
+  alone : IsCausedByChunks most size wanted e → TellsOf (causes_in wanted ++ Overflow ∷ []) e
+  alone (inl (inl memory)) = inl memory
+  alone (inl (inr one)) = inr (one_of-left (causes_in wanted) (Overflow ∷ []) (cause_of e) one)
+  alone (inr passes) =
+      let first : IsOneOf (Overflow ∷ []) (Some Overflow) = (0, omega arith, refl) in
+      inr (subst (IsOneOf (causes_in wanted ++ Overflow ∷ [])) (sym passes.0) (one_of-right (causes_in wanted) (Overflow ∷ []) (Some Overflow) first))
+fails_chunks (Some bytes) before now most size wanted whole e tells caused = fails_within (Some bytes) before now (whole bytes) whole e (λ o one. one) (tells e caused)
 
 -- an error of what was read, which fails by the same causes
 pub fails_telling : (told : Option (List ℕ)) (before now : ℕ) (part : List Cause) (whole : List ℕ → List Cause) (e : Error) → IfSome told (λ bytes. whole bytes ≡ part) → TellsOf part e → FailsBy told before now whole e
@@ -193,9 +207,3 @@ in_first (Some bytes) first second = λ o one. one_of-left (first bytes) (second
 pub in_second : (told : Option (List ℕ)) (first second : List ℕ → List Cause) → IfSome told (λ bytes. (o : Option Cause) → IsOneOf (second bytes) o → IsOneOf (first bytes ++ second bytes) o)
 in_second None first second = tt
 in_second (Some bytes) first second = λ o one. one_of-right (first bytes) (second bytes) o one
-
--- what is wrong with the next part is wrong with both, where nothing is wrong with the first
-pub in_next : (told : Option (List ℕ)) (first next part : List ℕ → List Cause) → IfSome told (λ bytes. first bytes ≡ []) → IfSome told (λ bytes. part bytes ≡ next bytes)
-    → IfSome told (λ bytes. (o : Option Cause) → IsOneOf (part bytes) o → IsOneOf (and_then (first bytes) (next bytes)) o)
-in_next None first next part none same = tt
-in_next (Some bytes) first next part none same = λ o one. subst (λ causes. IsOneOf causes o) (same ∙ sym (then_next (first bytes) (next bytes) none)) one

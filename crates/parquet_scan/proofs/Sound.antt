@@ -4,7 +4,6 @@ use Rattle.std.specs.Prelude.{Option, Some, None, IfSome, IsSomeAnd, IsTrue, fla
 use Rattle.std.specs.List.{AllByRecursion, list_all, range_with_len}
 use Rattle.std.specs.Option.{option_map_or}
 use Rattle.std.specs.Str.{bytes_eq}
-use Rattle.std.specs.Cmp.{second_so}
 use Rattle.std.proofs.lemmas.Bool.{false≢true, and_parts, and_from, or_left, or_right, or_cases, cases_lt, cond-true, leb-true, ltb-true}
 use Rattle.std.proofs.lemmas.List.Elements.{recursion_from_All}
 use Rattle.std.proofs.lemmas.List.FromFn.{length-range_with_len}
@@ -29,7 +28,7 @@ use Rattle.parquet_scan.specs.Bound.{ends_keep, meets}
 use Rattle.parquet_scan.specs.Causes.{file_causes, index_causes, index_causes_of_bound, index_causes_of_group, metadata_causes, offset_causes_of_field, read_causes}
 use Rattle.parquet_scan.specs.Cells.{cell, column_cell}
 use Rattle.parquet_scan.specs.Laws.{LosesNoRowOfValidFiles}
-use Rattle.parquet_scan.specs.NotBuilt.{is_built_bound, is_built_request, is_int32_field}
+use Rattle.parquet_scan.specs.NotBuilt.{is_built_bound, is_int32_field}
 use Rattle.parquet_scan.specs.Pages.{column_index_causes, location_rows, locations, locations_causes, page_ends, page_keeps, row_keeps}
 use Rattle.parquet_scan.specs.Request.{Request, are_values_of, bound_type, field_of, is_legal, is_legal_bound_of}
 use Rattle.parquet_scan.specs.Rows.{File, bound_keeps, column_named, file_with, group_counts, group_keeps, groups_of, kept, prunes_pages}
@@ -208,7 +207,7 @@ module _ (request : Request) (file : File) (built : list_all (is_built_bound req
       let counted = counts request file built legal (get_or (groups_of file) k d) row below meets_all statistics.whole in
       and_from _ _ counted (kept_if k d h row below meets_all statistics counted (prunes_pages request (groups_of file)) refl)
 
-legal_bounds : (request : Request) (metadata : Option FileMetaData) → is_legal request metadata ≡ true → list_all (is_legal_bound_of request.fields) request.bounds ≡ true
+pub legal_bounds : (request : Request) (metadata : Option FileMetaData) → is_legal request metadata ≡ true → list_all (is_legal_bound_of request.fields) request.bounds ≡ true
 legal_bounds request metadata h = (and_parts _ (list_all (is_legal_bound_of request.fields) request.bounds) (and_parts _ _ h).0).1
 
 of_metadata : (request : Request) (bytes : List ℕ) (damaged : List Cause) (o : Option FileMetaData) → list_all (is_legal_bound_of request.fields) request.bounds ≡ true
@@ -216,7 +215,7 @@ of_metadata : (request : Request) (bytes : List ℕ) (damaged : List Cause) (o :
 of_metadata request bytes damaged None legal none = tt
 of_metadata request bytes damaged (Some metadata) legal none =
     let file = file_with bytes metadata in
-    let built = second_so (is_built_request request) (list_all (is_built_bound request.fields) request.bounds) (built_request request metadata (nothing_first (metadata_causes request metadata) _ none)) in
+    let built = built_request request metadata (nothing_first (metadata_causes request metadata) _ none) in
     let indexes = nothing_first (index_causes request file) (read_causes request file) (nothing_next (metadata_causes request metadata) _ none) in
     loses_no_row request file built legal indexes
 

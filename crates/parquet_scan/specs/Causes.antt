@@ -1,6 +1,6 @@
 -- What is wrong with a file for a request: the causes that the parts have which a scan has to look at. Each
 -- error comes only where its cause is among them, and a file without a cause is valid.
-use Rattle.std.specs.Prelude.{◌≡◌, ℕ, zero, suc, ◌&&◌, Bool, true, false, is_some, Option, None, option_and_then, option_map, if◌then◌else◌, List, [], ◌∷◌, ◌++◌, filter, flat_map, length, map, Result, Ok, Err}
+use Rattle.std.specs.Prelude.{◌≡◌, ℕ, zero, suc, ◌&&◌, nat_le, nat_lt, Bool, true, false, is_some, Option, None, option_and_then, option_map, if◌then◌else◌, List, [], ◌∷◌, ◌++◌, filter, flat_map, length, map, sum_by, Result, Ok, Err}
 use Rattle.std.specs.List.{list_any}
 use Rattle.std.specs.Option.{option_map_or}
 use Rattle.columns_core.specs.Causes.{Cause, NotYetImplemented, ExternalFormat, OutOfSpec, Overflow, unless, and_then}
@@ -9,6 +9,7 @@ use Rattle.columns_core.specs.declared.data_type.DataType.{DataType}
 use Rattle.columns_core.specs.declared.data_type.Field.{Field}
 use Rattle.parquet_base.specs.declared.interval.Interval.{Interval}
 use Rattle.parquet_base.specs.Intervals.{holds}
+use Rattle.parquet_base.specs.Pieces.{cut}
 use Rattle.parquet_meta.specs.declared.metadata.ColumnChunkMetaData.{ColumnChunkMetaData}
 use Rattle.parquet_meta.specs.declared.metadata.ColumnDescriptor.{ColumnDescriptor}
 use Rattle.parquet_meta.specs.declared.metadata.FileMetaData.{FileMetaData}
@@ -18,15 +19,19 @@ use Rattle.parquet_meta.specs.declared.metadata.PrimitiveType.{PrimitiveType}
 use Rattle.parquet_meta.specs.declared.metadata.RowGroupMetaData.{RowGroupMetaData}
 use Rattle.parquet_meta.specs.Chunks.{chunk_causes}
 use Rattle.parquet_meta.specs.Places.{bytes_at}
-use Rattle.parquet_page.specs.Chunk.{ChunkPage, Dictionary, NoDictionary, Undefined, Defined, DictionaryPage, Walk, chunk_pages}
+use Rattle.page_decoding.specs.Bytes.{cell_bytes, fits_most}
+use Rattle.parquet_page.specs.Chunk.{ChunkPage, Dictionary, NoDictionary, Undefined, Defined, DictionaryPage, PlacedPage, pages_of_chunk}
+use Rattle.parquet_page.specs.Content.{header_values}
 use Rattle.parquet_page.specs.Opened.{page_causes}
 use Rattle.parquet_page.specs.Spelling.{dictionary_entries, has_plain_entries}
 use Rattle.flat_values.specs.Conversion.{Conversion, Item, Value, NotInRange, NotText}
+use Rattle.flat_values.specs.MostBytes.{most_bytes}
 use Rattle.flat_values.specs.Outcomes.{dictionary_cells}
 use Rattle.flat_values.specs.Pairs.{conversion}
 use Rattle.parquet_scan.specs.declared.bound.Bound.{Bound}
 use Rattle.parquet_scan.specs.Cells.{Reading, chunk_of, content_of, dictionary_content, is_null_type, located_item, located_pages, located_reading, walked_item, walked_reading}
-use Rattle.parquet_scan.specs.NotBuilt.{is_built_pair, not_built}
+use Rattle.flat_binary.specs.Built.{is_carried_pair}
+use Rattle.parquet_scan.specs.NotBuilt.{not_built}
 use Rattle.parquet_scan.specs.Request.{Request, begins}
 use Rattle.parquet_scan.specs.Pages.{column_index_causes, locations, locations_causes}
 use Rattle.parquet_scan.specs.Rows.{File, file_of, groups_of, column_named, group_counts, prunes_pages, groups_read}
@@ -36,7 +41,7 @@ use Rattle.parquet_scan.specs.Statistics.{statistics_causes}
 
 -- a pair of types that is carried
 abbrev pub pair_causes : PrimitiveType → DataType → List Cause
-pair_causes stored data_type = unless (is_built_pair stored data_type && is_some (conversion stored data_type)) NotYetImplemented
+pair_causes stored data_type = unless (is_carried_pair stored data_type) NotYetImplemented
 
 -- A field that names columns has exactly one, which is flat and may be read as the field's type.
 abbrev pub descriptor_causes : DataType → List ColumnDescriptor → List Cause
@@ -115,21 +120,45 @@ item_causes NotText = OutOfSpec ∷ []
 abbrev pub row_causes : (ℕ → Option Item) → List ℕ → List Cause
 row_causes item rows = flat_map (λ row. option_map_or item_causes (item row) []) rows
 
+-- the bytes of the text or byte string of a row
+abbrev pub item_bytes : Item → ℕ
+item_bytes (Value cell) = cell_bytes cell
+item_bytes NotInRange = 0
+item_bytes NotText = 0
+
+abbrev pub bytes_of_rows : (ℕ → Option Item) → List ℕ → ℕ
+bytes_of_rows item rows = sum_by (λ row. option_map_or item_bytes (item row) 0) rows
+
+-- The bytes of the rows of one chunk fit the places of the type.
+abbrev pub piece_causes : DataType → (ℕ → Option Item) → List ℕ → List Cause
+piece_causes data_type item rows = unless (fits_most (most_bytes data_type) (bytes_of_rows item rows)) Overflow
+
+-- what is wrong with rows that are given in chunks of a size
+abbrev pub given_causes : Option ℕ → DataType → (ℕ → Option Item) → List ℕ → List Cause
+given_causes size data_type item rows = row_causes item rows ++ flat_map (piece_causes data_type item) (cut size rows)
+
 -- ---- the pages of a chunk, one after another
 
--- All pages of a chunk that has values are opened, and where one does not stand at its place the chunk is damaged. (Not yet: a
--- limit, before which only the first pages are opened.)
-abbrev pub causes_of_walk : Reading → Walk → List Cause
-causes_of_walk reading walk = causes_of_dictionary reading reading.dictionary ++ flat_map (causes_of_data reading) walk.pages ++ unless walk.is_whole ExternalFormat
+-- A page is opened for the first rows of a chunk where it begins before they end.
+abbrev pub begins_below : ℕ → PlacedPage → Bool
+begins_below rows placed = nat_lt placed.first_row rows
 
-abbrev pub causes_of_pages : Reading → ℕ → List ℕ → List Cause
-causes_of_pages reading zero chunk = []
-causes_of_pages reading (suc more) chunk = causes_of_walk reading (chunk_pages (suc more) chunk)
+abbrev pub rows_held : List PlacedPage → ℕ
+rows_held pages = sum_by (λ (placed : PlacedPage). header_values placed.page.header) pages
 
-abbrev pub walked_causes : List ℕ → RowGroupMetaData → List ℕ → DataType → ColumnChunkMetaData → Place → List Cause
-walked_causes bytes group rows data_type column place =
-    causes_of_pages (walked_reading bytes group data_type column) column.num_values (bytes_at bytes place)
-    ++ row_causes (walked_item bytes group data_type column) rows
+-- What is wrong with the dictionary and the pages that are opened for so many rows, of all pages that stand there. Where these hold
+-- fewer rows, no page stands where one is to be opened.
+abbrev pub causes_of_walk : Reading → ℕ → List PlacedPage → List Cause
+causes_of_walk reading zero pages = []
+causes_of_walk reading (suc more) pages =
+    causes_of_dictionary reading reading.dictionary
+    ++ flat_map (λ (placed : PlacedPage). causes_of_data reading placed.page) (filter (begins_below (suc more)) pages)
+    ++ unless (nat_le (suc more) (rows_held pages)) ExternalFormat
+
+abbrev pub walked_causes : Option ℕ → List ℕ → RowGroupMetaData → List ℕ → DataType → ColumnChunkMetaData → Place → List Cause
+walked_causes size bytes group rows data_type column place =
+    causes_of_walk (walked_reading bytes group data_type column) (length rows) (pages_of_chunk column.num_values (bytes_at bytes place))
+    ++ given_causes size data_type (walked_item bytes group data_type column) rows
 
 -- ---- located pages
 
@@ -150,11 +179,11 @@ causes_of_opened reading [] = []
 causes_of_opened reading (page ∷ pages) = causes_of_dictionary reading reading.dictionary ++ flat_map (causes_of_found reading) (page ∷ pages)
 
 -- Which pages are opened is known only where the locations have their shape.
-abbrev pub located_causes : List ℕ → RowGroupMetaData → List ℕ → DataType → ColumnChunkMetaData → List Cause
-located_causes bytes group rows data_type column =
+abbrev pub located_causes : Option ℕ → List ℕ → RowGroupMetaData → List ℕ → DataType → ColumnChunkMetaData → List Cause
+located_causes size bytes group rows data_type column =
     and_then (locations_causes bytes group column)
     (causes_of_opened (located_reading bytes group data_type column) (opened_located rows (located_pages bytes group column))
-    ++ row_causes (located_item bytes group data_type column) rows)
+    ++ given_causes size data_type (located_item bytes group data_type column) rows)
 
 -- ---- groups that are read
 
@@ -163,28 +192,29 @@ abbrev pub chunk_read_causes : List ℕ → RowGroupMetaData → ColumnChunkMeta
 chunk_read_causes bytes group column = and_then (chunk_causes column) (unless (is_some (chunk_of bytes group column)) ExternalFormat)
 
 -- with what is opened of it
-abbrev pub causes_of_chunk : Bool → List ℕ → RowGroupMetaData → List ℕ → DataType → ColumnChunkMetaData → List Cause
-causes_of_chunk by_pages bytes group rows data_type column =
+abbrev pub causes_of_chunk : Bool → Option ℕ → List ℕ → RowGroupMetaData → List ℕ → DataType → ColumnChunkMetaData → List Cause
+causes_of_chunk by_pages size bytes group rows data_type column =
     and_then (chunk_causes column)
-    (option_map_or (λ place. if by_pages then located_causes bytes group rows data_type column else walked_causes bytes group rows data_type column place)
+    (option_map_or (λ place. if by_pages then located_causes size bytes group rows data_type column else walked_causes size bytes group rows data_type column place)
     (chunk_of bytes group column) (ExternalFormat ∷ []))
 
 -- No page of a column that is read as nulls is opened.
-abbrev pub causes_of_read : Bool → List ℕ → RowGroupMetaData → List ℕ → DataType → ColumnChunkMetaData → List Cause
-causes_of_read by_pages bytes group rows data_type column =
+abbrev pub causes_of_read : Bool → Option ℕ → List ℕ → RowGroupMetaData → List ℕ → DataType → ColumnChunkMetaData → List Cause
+causes_of_read by_pages size bytes group rows data_type column =
     and_then (pair_causes column.descriptor.primitive_type data_type)
-    (if is_null_type data_type then chunk_read_causes bytes group column else causes_of_chunk by_pages bytes group rows data_type column)
+    (if is_null_type data_type then chunk_read_causes bytes group column else causes_of_chunk by_pages size bytes group rows data_type column)
 
 -- A group has a chunk for each column of the file.
-abbrev pub causes_of_column : Bool → List ℕ → RowGroupMetaData → List ℕ → Field → List Cause
-causes_of_column by_pages bytes group rows field =
-    option_map_or (causes_of_read by_pages bytes group rows field.data_type) (column_named group field.name) (ExternalFormat ∷ [])
+abbrev pub causes_of_column : Bool → Option ℕ → List ℕ → RowGroupMetaData → List ℕ → Field → List Cause
+causes_of_column by_pages size bytes group rows field =
+    option_map_or (causes_of_read by_pages size bytes group rows field.data_type) (column_named group field.name) (ExternalFormat ∷ [])
 
-abbrev pub causes_of_group : Bool → List Field → List ℕ → RowGroupMetaData × List ℕ → List Cause
-causes_of_group by_pages fields bytes read = flat_map (causes_of_column by_pages bytes read.0 read.1) fields
+abbrev pub causes_of_group : Bool → Option ℕ → List Field → List ℕ → RowGroupMetaData × List ℕ → List Cause
+causes_of_group by_pages size fields bytes read = flat_map (causes_of_column by_pages size bytes read.0 read.1) fields
 
 abbrev pub read_causes : Request → File → List Cause
-read_causes request file = flat_map (causes_of_group (prunes_pages request (groups_of file)) request.fields file.bytes) (groups_read request file)
+read_causes request file =
+    flat_map (causes_of_group (prunes_pages request (groups_of file)) request.chunk_size request.fields file.bytes) (groups_read request file)
 
 -- ---- all of it
 

@@ -7,10 +7,8 @@ use Rattle.parquet_base.specs.Pieces.{cut}
 use Rattle.parquet_base.specs.Reading.{given}
 use Rattle.columns_core.specs.Array.{column_of}
 use Rattle.columns_core.specs.declared.array.Array.{Array}
-use Rattle.columns_core.specs.Types.{Layer}
 use Rattle.columns_core.specs.declared.cell.Cell.{Cell, Null}
-use Rattle.columns_core.specs.declared.data_type.DataType.{DataType, out-DataType}
-use Rattle.columns_core.specs.declared.data_type.DataType.TheOpen.{DataType-F}
+use Rattle.columns_core.specs.declared.data_type.DataType.{DataType}
 use Rattle.columns_core.specs.declared.data_type.Field.{Field}
 use Rattle.parquet_meta.specs.declared.metadata.ColumnChunkMetaData.{ColumnChunkMetaData}
 use Rattle.parquet_meta.specs.declared.metadata.PageLocation.{PageLocation}
@@ -25,6 +23,7 @@ use Rattle.parquet_page.specs.Located.{located_dictionary}
 use Rattle.parquet_page.specs.Locations.{located, part_of}
 use Rattle.parquet_page.specs.Spelling.{has_plain_entries}
 use Rattle.parquet_page.specs.Values.{all_some}
+pub use Rattle.flat_binary.specs.Built.{is_null_type}
 use Rattle.flat_values.specs.Conversion.{Item, Value, NotInRange, NotText}
 use Rattle.flat_values.specs.Items.{page_items}
 use Rattle.parquet_scan.specs.Request.{Request}
@@ -123,14 +122,6 @@ abbrev pub located_item : List ℕ → RowGroupMetaData → DataType → ColumnC
 located_item bytes group data_type column row = item_located (located_reading bytes group data_type column) (located_pages bytes group column) row
 
 -- ---- cells
-
-abbrev pub is_null_at : Layer → Bool
-is_null_at DataType-F.Null = true
-is_null_at _ = false
-
--- the type whose only items are nulls
-abbrev pub is_null_type : DataType → Bool
-is_null_type data_type = is_null_at (out-DataType data_type)
 
 -- The item of a row of a column: that of the located page, where rows are pruned by pages, and otherwise that of the page in the
 -- chunk's own order. A column that is read as nulls has one for each row of its group, whatever its pages are.

@@ -1,5 +1,5 @@
--- How many pages a scan is lent, and how many bytes it reads, at most.
-use Rattle.std.specs.Prelude.{ℕ, ◌+◌, ◌*◌, ◌==◌, ◌||◌, Bool, List, [], ◌∷◌, length, map, filter, sum_by, unwrap_or, zip, Option, if◌then◌else◌}
+-- How many pages a scan is lent, and at most, and how many bytes it reads at most.
+use Rattle.std.specs.Prelude.{ℕ, zero, suc, ◌+◌, ◌*◌, ◌==◌, ◌||◌, Bool, List, [], ◌∷◌, length, map, filter, sum_by, unwrap_or, zip, Option, if◌then◌else◌}
 use Rattle.std.specs.List.{list_any}
 use Rattle.std.specs.Option.{option_map_or}
 use Rattle.columns_core.specs.declared.data_type.DataType.{DataType}
@@ -12,11 +12,12 @@ use Rattle.parquet_meta.specs.Indexes.{column_index_length, length_of, offset_in
 use Rattle.parquet_meta.specs.declared.metadata.ColumnChunkMetaData.{ColumnChunkMetaData}
 use Rattle.parquet_meta.specs.declared.metadata.PageLocation.{PageLocation}
 use Rattle.parquet_meta.specs.declared.metadata.RowGroupMetaData.{RowGroupMetaData}
-use Rattle.parquet_page.specs.Chunk.{PlacedPage}
+use Rattle.parquet_page.specs.Chunk.{Dictionary, NoDictionary, Undefined, Defined, PlacedPage}
 use Rattle.parquet_page.specs.Content.{header_values}
 use Rattle.parquet_page.specs.Locations.{part_of}
 use Rattle.parquet_scan.specs.declared.bound.Bound.{Bound}
-use Rattle.parquet_scan.specs.Cells.{first_location, is_null_type, rows_of, walked_pages}
+use Rattle.parquet_scan.specs.Causes.{begins_below}
+use Rattle.parquet_scan.specs.Cells.{dictionary_by_locations, first_location, is_null_type, rows_of, walked_dictionary, walked_pages}
 use Rattle.parquet_scan.specs.Pages.{location_rows, locations}
 use Rattle.parquet_scan.specs.Request.{Request}
 use Rattle.parquet_scan.specs.Rows.{File, column_named, group_counts, groups_of, groups_read, prunes_pages}
@@ -42,12 +43,23 @@ abbrev pub opened_locations : List ℕ → RowGroupMetaData → List ℕ → Col
 opened_locations bytes group rows column =
     map (λ (named : Interval × PageLocation). named.1) (filter (names_some rows) (zip (location_rows bytes group column) (locations bytes column)))
 
--- ---- how many pages
+-- ---- how many pages are lent of a valid file
 
--- The pages of a chunk that are lent at most: these, and a dictionary.
+-- the pages of a chunk that are opened for its first rows
+abbrev pub opened_walked : List ℕ → RowGroupMetaData → List ℕ → ColumnChunkMetaData → List PlacedPage
+opened_walked bytes group rows column = filter (begins_below (length rows)) (walked_pages bytes group column)
+
+-- Where a page is opened, the dictionary page before it is lent, if there is one.
+abbrev pub with_dictionary_page : Dictionary → ℕ → ℕ
+with_dictionary_page _ zero = 0
+with_dictionary_page (Defined page) (suc pages) = suc pages + 1
+with_dictionary_page NoDictionary (suc pages) = suc pages
+with_dictionary_page Undefined (suc pages) = suc pages
+
 abbrev pub lent_of_chunk : Bool → List ℕ → RowGroupMetaData → List ℕ → ColumnChunkMetaData → ℕ
 lent_of_chunk by_pages bytes group rows column =
-    (if by_pages then length (opened_locations bytes group rows column) else length (pages_walked bytes group rows column)) + 1
+    if by_pages then with_dictionary_page (dictionary_by_locations bytes group column) (length (opened_locations bytes group rows column))
+    else with_dictionary_page (walked_dictionary bytes group column) (length (opened_walked bytes group rows column))
 
 -- of a column that is read as nulls none
 abbrev pub lent_of_read : Bool → List ℕ → RowGroupMetaData → List ℕ → DataType → ColumnChunkMetaData → ℕ
@@ -60,8 +72,29 @@ lent_of_column by_pages bytes group rows field = option_map_or (lent_of_read by_
 abbrev pub lent_of_group : Bool → List Field → List ℕ → RowGroupMetaData × List ℕ → ℕ
 lent_of_group by_pages fields bytes read = sum_by (lent_of_column by_pages bytes read.0 read.1) fields
 
+abbrev pub pages_lent : Request → File → ℕ
+pages_lent request file = sum_by (lent_of_group (prunes_pages request (groups_of file)) request.fields file.bytes) (groups_read request file)
+
+-- ---- how many pages at most
+
+-- The pages of a chunk that hold given rows, those without rows where the chunk is walked over, and a dictionary.
+abbrev pub most_of_chunk : Bool → List ℕ → RowGroupMetaData → List ℕ → ColumnChunkMetaData → ℕ
+most_of_chunk by_pages bytes group rows column =
+    (if by_pages then length (opened_locations bytes group rows column) else length (pages_walked bytes group rows column)) + 1
+
+-- of a column that is read as nulls none
+abbrev pub most_of_read : Bool → List ℕ → RowGroupMetaData → List ℕ → DataType → ColumnChunkMetaData → ℕ
+most_of_read by_pages bytes group rows data_type column = if is_null_type data_type then 0 else most_of_chunk by_pages bytes group rows column
+
+abbrev pub most_of_column : Bool → List ℕ → RowGroupMetaData → List ℕ → Field → ℕ
+most_of_column by_pages bytes group rows field = option_map_or (most_of_read by_pages bytes group rows field.data_type) (column_named group field.name) 0
+
+-- of a group with the rows that it gives
+abbrev pub most_of_group : Bool → List Field → List ℕ → RowGroupMetaData × List ℕ → ℕ
+most_of_group by_pages fields bytes read = sum_by (most_of_column by_pages bytes read.0 read.1) fields
+
 abbrev pub most_pages : Request → File → ℕ
-most_pages request file = sum_by (lent_of_group (prunes_pages request (groups_of file)) request.fields file.bytes) (groups_read request file)
+most_pages request file = sum_by (most_of_group (prunes_pages request (groups_of file)) request.fields file.bytes) (groups_read request file)
 
 -- ---- how many bytes of indexes
 
@@ -107,8 +140,11 @@ abbrev pub all_index_bytes : Request → File → ℕ
 all_index_bytes request file =
     if prunes_pages request (groups_of file) then sum_by (index_bytes request) (filter (group_counts request) (groups_of file)) else 0
 
--- the footer with the 8 bytes behind it, these indexes, and what is read of chunks in the groups that give rows
+-- with what is read of chunks in the groups that give rows
+abbrev pub bytes_behind_footer : Request → File → ℕ
+bytes_behind_footer request file =
+    all_index_bytes request file + sum_by (taken_of_group (prunes_pages request (groups_of file)) request.fields file.bytes) (groups_read request file)
+
+-- and the footer with the 8 bytes behind it
 abbrev pub most_bytes : Request → File → ℕ
-most_bytes request file =
-    (footer_place file.bytes).length + all_index_bytes request file
-    + sum_by (taken_of_group (prunes_pages request (groups_of file)) request.fields file.bytes) (groups_read request file)
+most_bytes request file = (footer_place file.bytes).length + bytes_behind_footer request file

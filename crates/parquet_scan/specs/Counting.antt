@@ -1,20 +1,21 @@
--- Groups beside whether they count, and beside the runs of their rows that are kept.
-use Rattle.std.specs.Prelude.{ℕ, Option, Some, map, Bool, not, ◌&&◌, ◌||◌, ◌==◌, ◌+◌, nat_lt, if◌then◌else◌, List, [], ◌∷◌, length, zip, flat_map, sum_by}
+-- Groups beside whether they count, and beside the runs of their rows that are given.
+use Rattle.std.specs.Prelude.{◌≡◌, ℕ, Option, Some, map, Bool, true, false, not, ◌&&◌, ◌||◌, ◌==◌, ◌+◌, nat_lt, if◌then◌else◌, List, [], length, zip, flat_map, sum_by}
 use Rattle.std.specs.List.{list_all, range_with_len}
-use Rattle.columns_core.specs.Causes.{Cause, and_then}
+use Rattle.columns_core.specs.Causes.{Cause}
 use Rattle.columns_core.specs.declared.array.Array.{Array}
 use Rattle.columns_core.specs.declared.cell.Cell.{Cell}
 use Rattle.columns_core.specs.declared.data_type.DataType.{DataType}
 use Rattle.columns_core.specs.declared.data_type.Field.{Field}
 use Rattle.parquet_base.specs.declared.interval.Interval.{Interval}
-use Rattle.parquet_base.specs.Intervals.{is_well_shaped, maximal_runs, rows_of}
+use Rattle.parquet_base.specs.Intervals.{is_well_shaped, maximal_runs, row_count, rows_of}
+use Rattle.parquet_base.specs.Pieces.{cut}
 use Rattle.parquet_meta.specs.declared.metadata.RowGroupMetaData.{RowGroupMetaData}
 use Rattle.parquet_scan.specs.declared.bound.Bound.{Bound}
 use Rattle.parquet_scan.specs.declared.scanning.GroupKept.{GroupKept}
 use Rattle.parquet_scan.specs.Causes.{causes_of_group, index_causes_of_group}
 use Rattle.parquet_scan.specs.Cells.{columns_of, given_chunk}
 use Rattle.parquet_scan.specs.Costs.{column_index_of, lent_of_group, offset_index_of, taken_of_column}
-use Rattle.parquet_scan.specs.Rows.{has_column_index, has_offset_index, pages_keep}
+use Rattle.parquet_scan.specs.Rows.{first_rows, has_column_index, has_offset_index, pages_keep}
 
 abbrev pub has_indexes_for : List Bound → List Field → RowGroupMetaData → Bool
 has_indexes_for bounds fields group =
@@ -42,62 +43,52 @@ kept_if by_pages bounds bytes group =
 abbrev pub kept_of_groups : Bool → List Bound → List ℕ → List RowGroupMetaData → List Bool → List GroupKept
 kept_of_groups by_pages bounds bytes groups counts = map (kept_if by_pages bounds bytes) (zip groups counts)
 
--- ---- groups that are read
+-- ---- groups beside the runs of the rows that they give
+
+-- the rows that each group gives, the first of those that are kept
+abbrev pub given_of_groups : Option ℕ → List GroupKept → List (List ℕ)
+given_of_groups limit kept = first_rows limit (map (λ (group : GroupKept). rows_of group.intervals) kept)
 
 -- the runs lie in their group
-abbrev pub is_shaped : RowGroupMetaData × GroupKept → Bool
-is_shaped group = is_well_shaped (group.1).intervals (group.0).num_rows
+abbrev pub is_shaped : RowGroupMetaData × List Interval → Bool
+is_shaped group = is_well_shaped group.1 (group.0).num_rows
 
-abbrev pub are_shaped : List RowGroupMetaData → List GroupKept → Bool
-are_shaped groups kept = list_all is_shaped (zip groups kept)
+abbrev pub are_shaped : List RowGroupMetaData → List (List Interval) → Bool
+are_shaped groups given = list_all is_shaped (zip groups given)
 
--- all rows of a group
-abbrev pub every_row : RowGroupMetaData → List ℕ
-every_row group = range_with_len 0 group.num_rows
+-- Where rows are not pruned by pages, those that are given are the first of their group.
+abbrev pub AreFirst : Bool → List Interval → Type 0
+AreFirst true runs = Unit {0}
+AreFirst false runs = rows_of runs ≡ range_with_len 0 (row_count runs)
 
--- a group with a kept row is read
-abbrev pub is_read : RowGroupMetaData × GroupKept → Bool
-is_read group = nat_lt 0 (length (group.1).intervals)
-
--- the rows that are read: those that are kept, where rows are pruned by pages, and otherwise all
-abbrev pub rows_read : Bool → RowGroupMetaData → List Interval → List ℕ
-rows_read by_pages group runs = if by_pages then rows_of runs else every_row group
+-- a group that gives a row is read
+abbrev pub is_read : RowGroupMetaData × List Interval → Bool
+is_read group = nat_lt 0 (length group.1)
 
 -- what is wrong with a group, if it is read
-abbrev pub causes_if_read : Bool → List Field → List ℕ → RowGroupMetaData × GroupKept → List Cause
-causes_if_read by_pages fields bytes group =
-    if is_read group then causes_of_group by_pages fields bytes (group.0, rows_read by_pages group.0 (group.1).intervals) else []
+abbrev pub causes_if_read : Bool → Option ℕ → List Field → List ℕ → RowGroupMetaData × List Interval → List Cause
+causes_if_read by_pages size fields bytes group = if is_read group then causes_of_group by_pages size fields bytes (group.0, rows_of group.1) else []
 
-abbrev pub causes_of_groups : Bool → List Field → List ℕ → List RowGroupMetaData → List GroupKept → List Cause
-causes_of_groups by_pages fields bytes groups kept = flat_map (causes_if_read by_pages fields bytes) (zip groups kept)
+abbrev pub causes_of_groups : Bool → Option ℕ → List Field → List ℕ → List RowGroupMetaData → List (List Interval) → List Cause
+causes_of_groups by_pages size fields bytes groups given = flat_map (causes_if_read by_pages size fields bytes) (zip groups given)
 
--- the chunk of a group, if it is read
-abbrev pub chunks_if_read : Bool → List Field → List ℕ → RowGroupMetaData × GroupKept → List (Option (List (DataType × List Cell)))
-chunks_if_read by_pages fields bytes group =
-    if is_read group then given_chunk by_pages fields bytes group.0 (rows_read by_pages group.0 (group.1).intervals) ∷ [] else []
+-- the chunks of a group
+abbrev pub chunks_if_read : Bool → Option ℕ → List Field → List ℕ → RowGroupMetaData × List Interval → List (Option (List (DataType × List Cell)))
+chunks_if_read by_pages size fields bytes group = map (given_chunk by_pages fields bytes group.0) (cut size (rows_of group.1))
 
-abbrev pub chunks_of_groups : Bool → List Field → List ℕ → List RowGroupMetaData → List GroupKept → List (Option (List (DataType × List Cell)))
-chunks_of_groups by_pages fields bytes groups kept = flat_map (chunks_if_read by_pages fields bytes) (zip groups kept)
+abbrev pub chunks_of_groups : Bool → Option ℕ → List Field → List ℕ → List RowGroupMetaData → List (List Interval) → List (Option (List (DataType × List Cell)))
+chunks_of_groups by_pages size fields bytes groups given = flat_map (chunks_if_read by_pages size fields bytes) (zip groups given)
 
--- how many rows are read of a group
-abbrev pub rows_if_read : Bool → RowGroupMetaData × GroupKept → ℕ
-rows_if_read by_pages group = if is_read group then length (rows_read by_pages group.0 (group.1).intervals) else 0
-
-abbrev pub rows_of_groups : Bool → List RowGroupMetaData → List GroupKept → ℕ
-rows_of_groups by_pages groups kept = sum_by (rows_if_read by_pages) (zip groups kept)
+-- how many rows are given
+abbrev pub rows_of_groups : List (List Interval) → ℕ
+rows_of_groups given = sum_by row_count given
 
 -- the pages that are lent of a group, if it is read
-abbrev pub lent_if_read : Bool → List Field → List ℕ → RowGroupMetaData × GroupKept → ℕ
-lent_if_read by_pages fields bytes group =
-    if is_read group then lent_of_group by_pages fields bytes (group.0, rows_read by_pages group.0 (group.1).intervals) else 0
+abbrev pub lent_if_read : Bool → List Field → List ℕ → RowGroupMetaData × List Interval → ℕ
+lent_if_read by_pages fields bytes group = if is_read group then lent_of_group by_pages fields bytes (group.0, rows_of group.1) else 0
 
-abbrev pub lent_of_groups : Bool → List Field → List ℕ → List RowGroupMetaData → List GroupKept → ℕ
-lent_of_groups by_pages fields bytes groups kept = sum_by (lent_if_read by_pages fields bytes) (zip groups kept)
-
--- what is wrong with the indexes, and where nothing is, with the groups that are read
-abbrev pub scan_causes : Bool → List Field → List Bound → List ℕ → List RowGroupMetaData → List Bool → List Cause
-scan_causes by_pages fields bounds bytes groups counts =
-    and_then (index_causes_of_groups by_pages fields bounds bytes groups counts) (causes_of_groups by_pages fields bytes groups (kept_of_groups by_pages bounds bytes groups counts))
+abbrev pub lent_of_groups : Bool → List Field → List ℕ → List RowGroupMetaData → List (List Interval) → ℕ
+lent_of_groups by_pages fields bytes groups given = sum_by (lent_if_read by_pages fields bytes) (zip groups given)
 
 -- ---- what is taken from the source
 
@@ -117,17 +108,11 @@ abbrev pub columns_taken : Bool → List Field → List ℕ → RowGroupMetaData
 columns_taken by_pages fields bytes read = sum_by (column_taken by_pages bytes read.0 read.1) fields
 
 -- the columns of a group, if it is read
-abbrev pub taken_if_read : Bool → List Field → List ℕ → RowGroupMetaData × GroupKept → ℕ
-taken_if_read by_pages fields bytes group =
-    if is_read group then columns_taken by_pages fields bytes (group.0, rows_read by_pages group.0 (group.1).intervals) else 0
+abbrev pub taken_if_read : Bool → List Field → List ℕ → RowGroupMetaData × List Interval → ℕ
+taken_if_read by_pages fields bytes group = if is_read group then columns_taken by_pages fields bytes (group.0, rows_of group.1) else 0
 
-abbrev pub taken_of_groups : Bool → List Field → List ℕ → List RowGroupMetaData → List GroupKept → ℕ
-taken_of_groups by_pages fields bytes groups kept = sum_by (taken_if_read by_pages fields bytes) (zip groups kept)
-
--- what a scan of the groups takes: their indexes, and then what is read of them
-abbrev pub scan_taken : Bool → List Field → List Bound → List ℕ → List RowGroupMetaData → List Bool → ℕ
-scan_taken by_pages fields bounds bytes groups counts =
-    indexes_taken_of_groups by_pages fields bounds groups counts + taken_of_groups by_pages fields bytes groups (kept_of_groups by_pages bounds bytes groups counts)
+abbrev pub taken_of_groups : Bool → List Field → List ℕ → List RowGroupMetaData → List (List Interval) → ℕ
+taken_of_groups by_pages fields bytes groups given = sum_by (taken_if_read by_pages fields bytes) (zip groups given)
 
 -- ---- what was read
 

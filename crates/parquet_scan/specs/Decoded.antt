@@ -1,5 +1,5 @@
 -- What the rows of pages give to one who reads them as a type.
-use Rattle.std.specs.Prelude.{List, [], None}
+use Rattle.std.specs.Prelude.{ℕ, List, [], None}
 use Rattle.std.specs.Option.{option_map_or}
 use Rattle.columns_core.specs.Causes.{Cause}
 use Rattle.columns_core.specs.declared.data_type.DataType.{DataType}
@@ -11,6 +11,7 @@ use Rattle.page_decoding.specs.Outcome.{Outcome}
 use Rattle.flat_values.specs.Conversion.{Conversion}
 use Rattle.flat_values.specs.Outcomes.{dictionary_cells, selected_outcomes}
 use Rattle.flat_values.specs.Pairs.{conversion}
+use Rattle.flat_binary.specs.PagesWanted.{pages_wanted}
 
 -- by a rule; behind the last page stands what is wrong there
 abbrev pub rows_by : PhysicalType → List Content → List Cause → Conversion → List Outcome
@@ -19,3 +20,11 @@ rows_by type pages causes rule = rows (dictionary_cells rule type) (selected_out
 -- by that of a pair that is carried
 abbrev pub column_rows : PrimitiveType → DataType → List Content → List Cause → List Outcome
 column_rows stored data_type pages causes = option_map_or (rows_by stored.physical_type pages causes) (conversion stored data_type) []
+
+-- The pages that are lent for so many rows, by a rule.
+abbrev pub pages_by : PhysicalType → ℕ → List Content → Conversion → List Content
+pages_by type wanted pages rule = pages_wanted (dictionary_cells rule type) (selected_outcomes rule) None wanted pages
+
+-- by that of a pair that is carried
+abbrev pub pages_for : PrimitiveType → DataType → ℕ → List Content → List Content
+pages_for stored data_type wanted pages = option_map_or (pages_by stored.physical_type wanted pages) (conversion stored data_type) []

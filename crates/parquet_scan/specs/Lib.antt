@@ -1,6 +1,7 @@
 pub mod Bound
 pub mod Causes
 pub mod Cells
+pub mod Chunks
 pub mod Column
 pub mod Costs
 pub mod Counting

@@ -1,5 +1,5 @@
 -- The parts of a file that a scan looks at.
-use Rattle.std.specs.Prelude.{◌≡◌, ℕ, zero, suc, ◌+◌, Bool, List, [], ◌∷◌, ◌++◌, Option, None, Some, filter, flat_map, length, map, option_and_then, option_map, sum_by, take, if◌then◌else◌}
+use Rattle.std.specs.Prelude.{◌≡◌, ℕ, zero, suc, ◌+◌, nat_le, Bool, List, [], ◌∷◌, ◌++◌, Option, None, Some, filter, flat_map, length, map, option_and_then, option_map, sum_by, take, if◌then◌else◌}
 use Rattle.std.specs.List.{AllByRecursion}
 use Rattle.std.specs.Option.{option_map_or}
 use Rattle.columns_core.specs.Causes.{is_empty}
@@ -10,10 +10,10 @@ use Rattle.parquet_meta.specs.declared.metadata.ColumnChunkMetaData.{ColumnChunk
 use Rattle.parquet_meta.specs.declared.metadata.PageLocation.{PageLocation}
 use Rattle.parquet_meta.specs.declared.metadata.Place.{Place}
 use Rattle.parquet_meta.specs.declared.metadata.RowGroupMetaData.{RowGroupMetaData}
-use Rattle.parquet_page.specs.Chunk.{ChunkPage, DictionaryPage, chunk_pages, dictionary_at, dictionary_size}
+use Rattle.parquet_page.specs.Chunk.{DictionaryPage, PlacedPage, dictionary_at, dictionary_size, pages_of_chunk}
 use Rattle.parquet_page.specs.Locations.{part_of}
 use Rattle.parquet_scan.specs.declared.bound.Bound.{Bound}
-use Rattle.parquet_scan.specs.Causes.{IsValid, causes, index_causes, metadata_causes}
+use Rattle.parquet_scan.specs.Causes.{IsValid, begins_below, causes, index_causes, metadata_causes, rows_held}
 use Rattle.parquet_scan.specs.Cells.{chunk_of, first_location, given_chunks, is_null_type}
 use Rattle.parquet_scan.specs.Costs.{opened_locations}
 use Rattle.parquet_scan.specs.Pages.{locations}
@@ -48,14 +48,15 @@ index_parts request file =
 abbrev pub front_of : Place → ℕ → Place
 front_of place size = record { offset = place.offset; length = size }
 
--- the pages of a chunk with its dictionary and, where one is not defined, all of the chunk
-abbrev pub walked_length : ℕ → List ℕ → ℕ
-walked_length zero chunk = 0
-walked_length (suc more) chunk =
-    if (chunk_pages (suc more) chunk).is_whole then dictionary_size chunk + sum_by (λ (page : ChunkPage). page.size) (chunk_pages (suc more) chunk).pages else length chunk
+-- The dictionary of a chunk and the pages that are opened for so many rows; where no page stands at a place that is to be opened, all of the chunk.
+abbrev pub walked_length : ℕ → ℕ → List ℕ → ℕ
+walked_length zero num_values chunk = 0
+walked_length (suc more) num_values chunk =
+    let pages = pages_of_chunk num_values chunk in
+    if nat_le (suc more) (rows_held pages) then dictionary_size chunk + sum_by (λ (placed : PlacedPage). placed.page.size) (filter (begins_below (suc more)) pages) else length chunk
 
-abbrev pub walked_parts : List ℕ → ColumnChunkMetaData → Place → List Place
-walked_parts bytes column chunk = front_of chunk (walked_length column.num_values (bytes_at bytes chunk)) ∷ []
+abbrev pub walked_parts : List ℕ → List ℕ → ColumnChunkMetaData → Place → List Place
+walked_parts bytes rows column chunk = front_of chunk (walked_length (length rows) column.num_values (bytes_at bytes chunk)) ∷ []
 
 -- ---- chunks whose pages are located
 
@@ -84,7 +85,7 @@ located_parts bytes group rows column chunk =
 
 abbrev pub chunk_parts : Bool → List ℕ → RowGroupMetaData → List ℕ → ColumnChunkMetaData → List Place
 chunk_parts by_pages bytes group rows column =
-    option_map_or (λ chunk. if by_pages then located_parts bytes group rows column chunk else walked_parts bytes column chunk) (chunk_of bytes group column) []
+    option_map_or (λ chunk. if by_pages then located_parts bytes group rows column chunk else walked_parts bytes rows column chunk) (chunk_of bytes group column) []
 
 -- Of a column that is read as nulls only the place of its chunk counts.
 abbrev pub column_parts : Bool → List ℕ → RowGroupMetaData → List ℕ → Field → List Place

@@ -61,6 +61,10 @@ FailsBy told before now causes error.Io = MayFail before now
 FailsBy told before now causes (error.InvalidArgumentError part) = ⊥
 FailsBy told before now causes e = IfSome told (λ bytes. IsOneOf (causes bytes) (cause_of e))
 
+-- A count rises by a number that the bytes give, where the source tells them.
+abbrev pub RisesJustBy : Option (List ℕ) → ℕ → ℕ → (List ℕ → ℕ) → Type 0
+RisesJustBy told before now count = IfSome told (λ bytes. now ≡ before + count bytes)
+
 -- A count rises by at most a number that the bytes give, where the source tells them.
 abbrev pub RisesBy : Option (List ℕ) → ℕ → ℕ → (List ℕ → ℕ) → Type 0
 RisesBy told before now most = IfSome told (λ bytes. now ≤ before + most bytes)

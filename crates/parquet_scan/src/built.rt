@@ -1,9 +1,9 @@
 //! What is not built yet is refused.
-ghost use Rattle.std.specs.Prelude.{◌≡◌, ◌&&◌, [], OnOk, is_some, not};
+ghost use Rattle.std.specs.Prelude.{◌≡◌, [], None, OnOk};
 ghost use Rattle.std.specs.List.{list_all};
 ghost use Rattle.columns_core.specs.Causes.{ComesOf};
+ghost use Rattle.flat_binary.specs.Built as pairs;
 ghost use Rattle.parquet_scan.specs.Causes.{pair_causes};
-ghost use Rattle.parquet_scan.specs.Cells as cells;
 ghost use Rattle.parquet_scan.specs.NotBuilt as spec;
 ghost use Rattle.parquet_scan.specs.Scan.{request_of};
 
@@ -13,26 +13,15 @@ use columns_core::{DataType, Error, Field, Part, Schema};
 use flat_values::carries;
 use parquet_meta::{PhysicalType, PrimitiveType};
 
-/// Refuses a request with a chunk size or a limit, and one with a bound on a field that is not of the type Int32.
-pub(crate) fn check_built(
-    schema: &Schema,
-    bounds: &[Bound],
-    chunk_size: Option<usize>,
-    limit: Option<usize>,
-) -> Result<(), Error>
-    ensures ok { OnOk result (spec.not_built (request_of schema.now bounds.now chunk_size limit) ≡ []) }
-    ensures cause { ComesOf result (spec.not_built (request_of schema.now bounds.now chunk_size limit)) }
+/// Refuses a bound on a field that is not of the type Int32.
+pub(crate) fn check_built(schema: &Schema, bounds: &[Bound]) -> Result<(), Error>
+    ensures ok { OnOk result (spec.not_built (request_of schema.now bounds.now None None) ≡ []) }
+    ensures cause { ComesOf result (spec.not_built (request_of schema.now bounds.now None None)) }
 {
-    if is_built_request(chunk_size, limit) && are_built_bounds(schema.fields.as_slice(), bounds) {
+    if are_built_bounds(schema.fields.as_slice(), bounds) {
         return Ok(());
     }
     Err(Error::NotYetImplemented(Part::Request))
-}
-
-fn is_built_request(chunk_size: Option<usize>, limit: Option<usize>) -> bool
-    ensures { result ≡ (not (is_some limit) && not (is_some chunk_size)) }
-{
-    limit.is_none() && chunk_size.is_none()
 }
 
 fn are_built_bounds(fields: &[Field], bounds: &[Bound]) -> bool
@@ -62,7 +51,7 @@ pub(crate) fn check_pair(stored: &PrimitiveType, data_type: &DataType) -> Result
 }
 
 fn is_built_pair(stored: &PrimitiveType, data_type: &DataType) -> bool
-    ensures { result ≡ spec.is_built_pair stored.now data_type.now }
+    ensures { result ≡ pairs.is_built_pair stored.now data_type.now }
 {
     is_null_type(data_type)
         || !matches!(stored.physical_type, PhysicalType::ByteArray)
@@ -70,7 +59,7 @@ fn is_built_pair(stored: &PrimitiveType, data_type: &DataType) -> bool
 }
 
 pub(crate) fn is_null_type(data_type: &DataType) -> bool
-    ensures { result ≡ cells.is_null_type data_type.now }
+    ensures { result ≡ pairs.is_null_type data_type.now }
 {
     matches!(data_type, DataType::Null)
 }

@@ -1,9 +1,11 @@
 //! Which rows of each group are kept.
-ghost use Rattle.std.specs.Prelude.{◌≡◌, ◌≤◌, ◌+◌, ◌&&◌, [], length, true, All, IfOk, IfErr, IfSome, OnOk};
+ghost use Rattle.std.specs.Prelude.{◌≡◌, ◌≤◌, ◌+◌, ◌&&◌, [], length, map, true, All, IfOk, IfErr, IfSome, OnOk};
 ghost use Rattle.std.specs.List.{list_all};
-ghost use Rattle.parquet_base.specs.Intervals.{AreApart, is_well_shaped, maximal_runs};
+ghost use Rattle.parquet_base.specs.Intervals.{AreApart, maximal_runs};
 ghost use Rattle.parquet_meta.specs.Keeps.{Keeps};
-ghost use Rattle.parquet_scan.specs.Counting.{are_shaped, index_causes_if, index_causes_of_groups, indexes_taken, indexes_taken_of_groups, is_shaped, kept_if, kept_of_groups};
+ghost use Rattle.parquet_scan.specs.Counting.{AreFirst, index_causes_if, index_causes_of_groups, indexes_taken, indexes_taken_of_groups, kept_if, kept_of_groups};
+ghost use Rattle.parquet_meta.specs.declared.metadata.RowGroupMetaData.{RowGroupMetaData as RowGroup};
+ghost use Rattle.parquet_scan.specs.declared.scanning.GroupKept.{GroupKept as Kept};
 ghost use Rattle.parquet_scan.specs.Request.{is_legal_bound_of};
 ghost use Rattle.parquet_scan.specs.Rows.{pages_keep};
 ghost use Rattle.parquet_scan.specs.Scan.{FailsBy, IsApart};
@@ -31,9 +33,10 @@ pub(crate) fn kept_groups<S: Source>(
     ensures ok { OnOk result (IfSome (S.told source.old) (λ bytes. index_causes_of_groups by_pages fields.now bounds.now bytes groups.now counts.now ≡ [])) }
     ensures fails { IfErr result (FailsBy (S.told source.old) (S.faults source.old) (S.faults source.new) (λ bytes. index_causes_of_groups by_pages fields.now bounds.now bytes groups.now counts.now)) }
     ensures kept { IfOk result (λ kept. IfSome (S.told source.old) (λ bytes. kept.items ≡ kept_of_groups by_pages bounds.now bytes groups.now counts.now)) }
-    ensures length { IfOk result (λ kept. length kept.items ≡ length groups.now) }
-    ensures shaped { IfOk result (λ kept. are_shaped groups.now kept.items ≡ true) }
+    ensures rows { IfOk result (λ kept.
+        map (λ group. group.rows) kept.items ≡ map (λ (group : RowGroup). group.num_rows) groups.now) }
     ensures apart { IfOk result (λ kept. All IsApart kept.items) }
+    ensures first { IfOk result (λ kept. All (λ (group : Kept). AreFirst by_pages group.intervals) kept.items) }
     ensures taken { OnOk result (S.taken source.new ≤ S.taken source.old + indexes_taken_of_groups by_pages fields.now bounds.now groups.now counts.now) }
 {
     let mut kept = Vec::new(alloc);
@@ -59,8 +62,9 @@ fn kept_group<S: Source>(
     ensures ok { OnOk result (IfSome (S.told source.old) (λ bytes. index_causes_if by_pages fields.now bounds.now bytes (group.now, counts) ≡ [])) }
     ensures fails { IfErr result (FailsBy (S.told source.old) (S.faults source.old) (S.faults source.new) (λ bytes. index_causes_if by_pages fields.now bounds.now bytes (group.now, counts))) }
     ensures kept { IfOk result (λ kept. IfSome (S.told source.old) (λ bytes. kept ≡ kept_if by_pages bounds.now bytes (group.now, counts))) }
-    ensures shaped { IfOk result (λ kept. is_shaped (group.now, kept) ≡ true) }
+    ensures rows { IfOk result (λ kept. kept.rows ≡ group.now.num_rows) }
     ensures apart { IfOk result IsApart }
+    ensures first { IfOk result (λ kept. AreFirst by_pages kept.intervals) }
     ensures taken { OnOk result (S.taken source.new ≤ S.taken source.old + indexes_taken by_pages fields.now bounds.now (group.now, counts)) }
 {
     let intervals = kept_runs(alloc, source, group, counts, by_pages, fields, bounds)?;
@@ -85,8 +89,8 @@ fn kept_runs<S: Source>(
     ensures ok { OnOk result (IfSome (S.told source.old) (λ bytes. index_causes_if by_pages fields.now bounds.now bytes (group.now, counts) ≡ [])) }
     ensures fails { IfErr result (FailsBy (S.told source.old) (S.faults source.old) (S.faults source.new) (λ bytes. index_causes_if by_pages fields.now bounds.now bytes (group.now, counts))) }
     ensures kept { IfOk result (λ runs. IfSome (S.told source.old) (λ bytes. runs.items ≡ maximal_runs (λ row. counts && pages_keep by_pages bounds.now bytes group.now row) group.now.num_rows)) }
-    ensures shaped { IfOk result (λ runs. is_well_shaped runs.items group.now.num_rows ≡ true) }
     ensures apart { IfOk result (λ runs. AreApart 0 runs.items group.now.num_rows) }
+    ensures first { IfOk result (λ runs. AreFirst by_pages runs.items) }
     ensures taken { OnOk result (S.taken source.new ≤ S.taken source.old + indexes_taken by_pages fields.now bounds.now (group.now, counts)) }
 {
     if !counts {

@@ -22,12 +22,12 @@ pub fn located_cells_are_cells()
     ensures { LocatedCellsAreCells }
 {}
 
-/// So the cells that a scan gives are those in the chunks' own order, pruned by pages or not.
+/// So, where these are true, the cells that a scan gives are those in the chunks' own order, pruned by pages or not.
 pub fn given_cells_are_cells()
     ensures { GivenCellsAreCells }
 {}
 
-/// So the chunks that a scan gives are those of the file, whatever locations it was read by.
+/// So, where these are true, the chunks that a scan gives are those of the file, whatever locations it was read by.
 pub fn given_chunks_are_the_files()
     ensures { GivenChunksAreTheFiles }
 {}
@@ -43,7 +43,7 @@ pub fn no_row_is_lost()
     ensures { LosesNoRowOfValidFiles }
 {}
 
-/// Two files that agree on the parts which a request looks at in the first give the same scan. So no byte outside of them changes an answer.
+/// Two files of one length that agree on the parts which a request looks at in the first give the same scan. So no byte outside of them changes an answer.
 pub fn same_parts(
     _first: &[u8],
     _second: &[u8],

@@ -1,13 +1,14 @@
-//! Scans of a file's rows that leave out groups and pages which no bound can meet.
+//! Scans of a file's rows that leave out groups and pages in which no row can meet all bounds.
 #![tactic(auto)]
 
 mod bound;
 mod built;
+mod chunks;
 mod column;
 mod decode;
-mod decode_pages;
+mod given;
+mod group_column;
 mod groups;
-mod into_column;
 mod kept;
 pub mod laws;
 mod located;

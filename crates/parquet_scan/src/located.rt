@@ -1,20 +1,23 @@
 //! Columns that are read by the locations of their pages.
-ghost use Rattle.std.specs.Prelude.{◌≡◌, ◌+◌, ◌-◌, ◌^◌, ◌≤◌, [], Some, true, filter, min, map, flat_map, length, sum_by, false, if◌then◌else◌, IfOk, IfErr, IfSome, IsTrue, OnOk};
+ghost use Rattle.std.specs.Prelude.{◌≡◌, ◌+◌, ◌-◌, ◌^◌, ◌≤◌, [], Some, true, filter, min, map, flat_map, length, sum_by, take, false, if◌then◌else◌, All, IfOk, IfErr, IfSome, IsTrue, OnOk};
 ghost use Rattle.columns_core.specs.Array.{cells, data_type_of};
-ghost use Rattle.columns_core.specs.Causes.{ComesOf};
 ghost use Rattle.parquet_base.specs.Intervals.{is_well_shaped, rows_of};
+ghost use Rattle.parquet_base.specs.Pieces.{cut};
 ghost use Rattle.parquet_meta.specs.Indexes.{offset_index_length};
 ghost use Rattle.parquet_meta.specs.Places.{lies_in as lies_in_by};
 ghost use Rattle.parquet_page.specs.Lent.{are_well_shaped, first_start as first_start_by, has_parts, is_wanted as is_wanted_by, located_parts};
-ghost use Rattle.page_decoding.specs.Outcome.{Given, causes_in};
+ghost use Rattle.page_decoding.specs.Bytes.{IsCausedByChunks, cell_bytes, fits_most};
+ghost use Rattle.page_decoding.specs.Outcome.{Given};
+ghost use Rattle.page_decoding.specs.Queue.{IsChunkSize};
 ghost use Rattle.flat_values.specs.Conversion.{Value};
+ghost use Rattle.flat_values.specs.MostBytes.{most_bytes};
 ghost use Rattle.parquet_meta.specs.Keeps.{Keeps};
 ghost use Rattle.parquet_scan.specs.Causes.{causes_of_chunk, pair_causes};
 ghost use Rattle.parquet_scan.specs.Cells.{is_null_type, located_item};
 ghost use Rattle.parquet_scan.specs.Costs.{lent_of_chunk, taken_of_chunk};
-ghost use Rattle.parquet_scan.specs.Decoded.{column_rows};
+ghost use Rattle.parquet_scan.specs.Decoded.{column_rows, pages_for};
 ghost use Rattle.parquet_scan.specs.Located.{entry_causes, entry_part, entry_place, part_causes, part_in, place_before as place_before_by};
-ghost use Rattle.parquet_scan.specs.Scan.{FailsBy, RisesBy};
+ghost use Rattle.parquet_scan.specs.Scan.{FailsBy, RisesBy, RisesJustBy};
 
 use crate::column::place_of_chunk;
 use crate::decode::decode_column;
@@ -22,40 +25,62 @@ use crate::locations::read_locations;
 use columns_core::{Array, DataType, Error, Part};
 use parquet_base::{Interval, Steps};
 use parquet_meta::{ColumnChunkMetaData, Place, RowGroupMetaData, Source, read_exact_at};
-use parquet_page::{FilteredPage, IndexedPageReader, Pages, select_pages};
+use parquet_page::{FilteredPage, IndexedPageReader, select_pages};
 use std::alloc::Global;
+use std::collections::VecDeque;
 use std::sync::ledger::Ledger;
 
-/// The array of a column in these rows of a group, and how many pages were lent.
+/// The arrays of a column in these rows of a group, and how many pages were lent.
 pub(crate) fn read_located<S: Source, L: Ledger>(
     alloc: Global,
     source: &mut S,
     group: &RowGroupMetaData,
     intervals: &[Interval],
+    chunk_size: Option<usize>,
     column: &ColumnChunkMetaData,
     data_type: &DataType,
     steps: &mut Steps<L>,
-) -> Result<(Array, usize), Error>
+) -> Result<(VecDeque<Array>, usize), Error>
     requires shaped { is_well_shaped intervals.now group.now.num_rows ≡ true }
+    requires size { IsChunkSize chunk_size }
     requires pair { pair_causes column.now.descriptor.primitive_type data_type.now ≡ [] }
     requires not_null { is_null_type data_type.now ≡ false }
     ensures keeps { Keeps S.Source source.old source.new }
-    ensures ok { OnOk result (IfSome (S.told source.old) (λ bytes. causes_of_chunk true bytes group.now (rows_of intervals.now) data_type.now column.now ≡ [])) }
-    ensures fails { IfErr result (FailsBy (S.told source.old) (S.faults source.old) (S.faults source.new) (λ bytes. causes_of_chunk true bytes group.now (rows_of intervals.now) data_type.now column.now)) }
-    ensures typed { IfOk result (λ found. data_type_of found.0 ≡ data_type.now) }
-    ensures count { IfOk result (λ found. length (cells found.0) ≡ length (rows_of intervals.now)) }
-    ensures cells { IfOk result (λ found. IfSome (S.told source.old) (λ bytes. map (located_item bytes group.now data_type.now column.now) (rows_of intervals.now) ≡ map (λ cell. Some (Value cell)) (cells found.0))) }
+    ensures ok { OnOk result (IfSome (S.told source.old) (λ bytes.
+        causes_of_chunk true chunk_size bytes group.now (rows_of intervals.now) data_type.now column.now ≡ [])) }
+    ensures fails { IfErr result (FailsBy (S.told source.old) (S.faults source.old) (S.faults source.new) (λ bytes.
+        causes_of_chunk true chunk_size bytes group.now (rows_of intervals.now) data_type.now column.now)) }
+    ensures typed { IfOk result (λ found. All (λ array. data_type_of array ≡ data_type.now) found.0.items) }
+    ensures counts { IfOk result (λ found.
+        map (λ array. length (cells array)) found.0.items ≡ map length (cut chunk_size (rows_of intervals.now))) }
+    ensures cells { IfOk result (λ found. IfSome (S.told source.old) (λ bytes.
+        map (λ array. map (λ cell. Some (Value cell)) (cells array)) found.0.items
+        ≡ map (map (located_item bytes group.now data_type.now column.now)) (cut chunk_size (rows_of intervals.now)))) }
     ensures ticks { steps.old ≤ steps.new }
     ensures pages { IfOk result (λ found. found.1 ≡ min (steps.new - steps.old) (2 ^ 64 - 1)) }
-    ensures lent { OnOk result (RisesBy (S.told source.old) steps.old steps.new (λ bytes. lent_of_chunk true bytes group.now (rows_of intervals.now) column.now)) }
-    ensures taken { OnOk result (RisesBy (S.told source.old) (S.taken source.old) (S.taken source.new) (λ bytes. offset_index_length column.now + taken_of_chunk true bytes group.now (rows_of intervals.now) column.now)) }
+    ensures lent { OnOk result (RisesJustBy (S.told source.old) steps.old steps.new (λ bytes.
+        lent_of_chunk true bytes group.now (rows_of intervals.now) column.now)) }
+    ensures taken { OnOk result (RisesBy (S.told source.old) (S.taken source.old) (S.taken source.new) (λ bytes.
+        offset_index_length column.now + taken_of_chunk true bytes group.now (rows_of intervals.now) column.now)) }
 {
+    let rows = count_of_rows(group, intervals);
     let chunk = place_of_chunk(source, group, column)?;
     let locations = read_locations(alloc, source, group, column)?;
     let pages = select_pages(alloc, intervals, &locations, group.num_rows)?;
     let bodies = read_bodies(alloc, source, chunk, &pages)?;
     let before = read_before(alloc, source, chunk, &pages, !bodies.is_empty())?;
-    decode_located(alloc, column, data_type, before, bodies, pages, steps)
+    decode_located(
+        alloc, column, data_type, rows, chunk_size, before, bodies, pages, steps,
+    )
+}
+
+/// How many rows of a group are given.
+pub(crate) fn count_of_rows(group: &RowGroupMetaData, intervals: &[Interval]) -> usize
+    requires { is_well_shaped intervals.now group.now.num_rows ≡ true }
+    ensures { result ≡ length (rows_of intervals.now) }
+{
+    let _all = group.num_rows;
+    intervals.iter().map(|run| run.length).sum()
 }
 
 /// The parts of the pages that have selected rows, one by one.
@@ -160,30 +185,42 @@ fn lies_in(outer: Place, part: Place) -> bool
         && part.offset as u128 + part.length as u128 <= outer.offset as u128 + outer.length as u128
 }
 
-/// The array of the selected rows of pages in their parts, and how many pages were lent.
+/// The arrays of the selected rows of pages in their parts, so many rows, and how many pages were lent.
 fn decode_located<L: Ledger>(
     alloc: Global,
     column: &ColumnChunkMetaData,
     data_type: &DataType,
+    rows: usize,
+    chunk_size: Option<usize>,
     before: Vec<u8>,
     bodies: Vec<Vec<u8>>,
     pages: Vec<FilteredPage>,
     steps: &mut Steps<L>,
-) -> Result<(Array, usize), Error>
+) -> Result<(VecDeque<Array>, usize), Error>
     requires shaped { are_well_shaped pages.items ≡ true }
     requires parts { has_parts pages.items (map (λ body. body.items) bodies.items) ≡ true }
+    requires size { IsChunkSize chunk_size }
     requires pair { pair_causes column.now.descriptor.primitive_type data_type.now ≡ [] }
     requires not_null { is_null_type data_type.now ≡ false }
-    ensures typed { IfOk result (λ found. data_type_of found.0 ≡ data_type.now) }
-    ensures rows { IfOk result (λ found. let lent = located_parts column.now.descriptor.primitive_type (Some before.items) pages.items (map (λ body. body.items) bodies.items) in
-        map Given (cells found.0) ≡ column_rows column.now.descriptor.primitive_type data_type.now lent.pages lent.causes) }
-    ensures cause { let lent = located_parts column.now.descriptor.primitive_type (Some before.items) pages.items (map (λ body. body.items) bodies.items) in
-        ComesOf result (causes_in (column_rows column.now.descriptor.primitive_type data_type.now lent.pages lent.causes)) }
+    ensures typed { IfOk result (λ found. All (λ array. data_type_of array ≡ data_type.now) found.0.items) }
+    ensures chunks { IfOk result (λ found.
+        let stored = column.now.descriptor.primitive_type in
+        let lent = located_parts stored (Some before.items) pages.items (map (λ body. body.items) bodies.items) in
+        map (λ array. map Given (cells array)) found.0.items
+        ≡ cut chunk_size (take rows (column_rows stored data_type.now lent.pages lent.causes))) }
+    ensures fits { IfOk result (λ found.
+        All (λ array. fits_most (most_bytes data_type.now) (sum_by cell_bytes (cells array)) ≡ true) found.0.items) }
+    ensures cause { let stored = column.now.descriptor.primitive_type in
+        let lent = located_parts stored (Some before.items) pages.items (map (λ body. body.items) bodies.items) in
+        let wanted = take rows (column_rows stored data_type.now lent.pages lent.causes) in
+        IfErr result (IsCausedByChunks (most_bytes data_type.now) chunk_size wanted) }
     ensures ticks { steps.old ≤ steps.new }
     ensures pages { IfOk result (λ found. found.1 ≡ min (steps.new - steps.old) (2 ^ 64 - 1)) }
-    ensures lent { OnOk result (steps.new ≤ steps.old + (length (filter is_wanted_by pages.items) + 1)) }
+    ensures lent { OnOk result (let stored = column.now.descriptor.primitive_type in
+        let lent = located_parts stored (Some before.items) pages.items (map (λ body. body.items) bodies.items) in
+        steps.new ≡ steps.old + length (pages_for stored data_type.now rows lent.pages)) }
 {
-    let mut reader = IndexedPageReader::from_ranges(alloc, Some(before), bodies, column, pages)?;
+    let reader = IndexedPageReader::from_ranges(alloc, Some(before), bodies, column, pages)?;
     let stored = &column.descriptor.primitive_type;
-    decode_column(alloc, &mut reader, stored, data_type, steps)
+    decode_column(alloc, reader, stored, data_type, rows, chunk_size, steps)
 }

@@ -2,7 +2,7 @@
 ghost use Rattle.std.specs.Prelude.{◌≡◌, ◌≤◌, ◌+◌, [], true, All, length, sum_by, map, flat_map, zip, IfOk, IfErr, IfSome, OnOk};
 ghost use Rattle.std.specs.List.{list_all};
 ghost use Rattle.columns_core.specs.Causes.{IsWantOfMemory};
-ghost use Rattle.parquet_base.specs.Intervals.{is_well_shaped, maximal_runs, AreApart};
+ghost use Rattle.parquet_base.specs.Intervals.{maximal_runs, AreApart};
 ghost use Rattle.parquet_page.specs.Locations.{has_shape};
 ghost use Rattle.parquet_meta.specs.Keeps.{Keeps};
 ghost use Rattle.parquet_scan.specs.Causes.{index_causes_of_bound, index_causes_of_group};
@@ -36,7 +36,6 @@ pub(crate) fn kept_by_pages<S: Source>(
     ensures ok { OnOk result (IfSome (S.told source.old) (λ bytes. index_causes_of_group fields.now bounds.now bytes group.now ≡ [])) }
     ensures fails { IfErr result (FailsBy (S.told source.old) (S.faults source.old) (S.faults source.new) (λ bytes. index_causes_of_group fields.now bounds.now bytes group.now)) }
     ensures kept { IfOk result (λ runs. IfSome (S.told source.old) (λ bytes. runs.items ≡ maximal_runs (pages_keep true bounds.now bytes group.now) group.now.num_rows)) }
-    ensures shaped { IfOk result (λ runs. is_well_shaped runs.items group.now.num_rows ≡ true) }
     ensures apart { IfOk result (λ runs. AreApart 0 runs.items group.now.num_rows) }
     ensures taken { OnOk result (S.taken source.new ≤ S.taken source.old + (sum_by (offset_index_of group.now) fields.now + sum_by (column_index_of group.now) bounds.now)) }
 {

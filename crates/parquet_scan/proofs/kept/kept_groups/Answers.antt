@@ -1,15 +1,19 @@
 use Rattle.std.specs.Prelude.{IfSome}
-use Rattle.std.proofs.Common.{rules, ◌≡◌, All, ◌∙◌, ◌++◌, ◌+◌, ap, sym, drop, arith, subst, List, [], ℕ, Option, Bool, false, get_or, refl}
+use Rattle.std.proofs.Common.{rules, ◌≡◌, All, ◌++◌, ◌+◌, sym, drop, map, arith, subst, List, [], ℕ, Option, Bool, false, get_or, refl}
 use Rattle.parquet_meta.specs.declared.metadata.RowGroupMetaData.{RowGroupMetaData}
 use Rattle.std.proofs.lemmas.List.Elements.{All-nil, All-push}
 use Rattle.std.proofs.lemmas.Result.{err_from_is_err_and}
-use Rattle.parquet_scan.specs.Counting.{are_shaped, index_causes_if, index_causes_of_groups, indexes_taken, is_shaped, kept_if, kept_of_groups}
+use Rattle.parquet_scan.specs.Counting.{AreFirst, index_causes_if, index_causes_of_groups, indexes_taken, kept_if, kept_of_groups}
 use Rattle.parquet_scan.specs.declared.scanning.GroupKept.{GroupKept}
 use Rattle.parquet_scan.proofs.CostLemmas.{no_pair_left, pair_left}
-use Rattle.parquet_scan.proofs.PairLemmas.{all_more, map_pair, none_beside, none_pair}
+use Rattle.parquet_scan.proofs.PairLemmas.{map_pair, none_pair}
+use Rattle.parquet_scan.proofs.KeptLemmas.{rows_done, rows_more}
 use Rattle.parquet_scan.specs.Scan.{FailsBy, IsApart}
 use Rattle.parquet_scan.proofs.ScanLemmas.{fails_more, in_pair}
 use Rattle.parquet_scan.proofs.kept.kept_groups.Goals as goal
+
+abbrev IsFirst : Bool → GroupKept → Type 0
+IsFirst by_pages group = AreFirst by_pages group.intervals
 
 pub returns-in_err-kept_group-clause-fails : goal.returns-in_err-kept_group-clause-fails
 returns-in_err-kept_group-clause-fails g c =
@@ -31,9 +35,9 @@ loop-i-init g c = record {
   none = search rules;
   kept = search rules;
   taken = search rules;
-  count = search rules;
+  rows = search rules;
   apart = subst (λ items. All IsApart items) (sym c.new-kept.ensures.items) (All-nil IsApart);
-  shaped = ap (are_shaped c.args.groups.now) c.new-kept.ensures.items ∙ none_beside is_shaped c.args.groups.now;
+  first = subst (λ items. All (IsFirst c.args.by_pages) items) (sym c.new-kept.ensures.items) (All-nil (IsFirst c.args.by_pages));
 }
 
 pub loop-i-preserved : goal.loop-i-preserved
@@ -56,11 +60,14 @@ loop-i-preserved g c =
           (sym c.in_ok-push.ensures.items)
           (map_pair told (kept_if by_pages bounds) groups counts i group count false c.loop-i.kept.items kept c.loop-i-test.true (omega arith) c.index-groups-i.is refl c.loop-i.invariant.kept is);
       taken = omega (arith, c.loop-i.invariant.taken, c.in_ok-kept_group.ensures.taken, pair_left (indexes_taken by_pages c.args.fields.now bounds) groups counts i group count false c.loop-i-test.true (omega arith) c.index-groups-i.is refl);
-      count = search rules;
+      rows = subst (λ (items : List GroupKept). map (λ (group : RowGroupMetaData). group.num_rows) groups ≡ map (λ (group : GroupKept). group.rows) items ++ map (λ (group : RowGroupMetaData). group.num_rows) (drop (i + 1) groups))
+          (sym c.in_ok-push.ensures.items) (rows_more groups c.loop-i.kept.items i group kept c.loop-i-test.true c.index-groups-i.is c.in_ok-kept_group.ensures.rows c.loop-i.invariant.rows);
       apart = subst (λ items. All IsApart items) (sym c.in_ok-push.ensures.items) (All-push IsApart c.loop-i.kept.items kept c.loop-i.invariant.apart c.in_ok-kept_group.ensures.apart);
-      shaped = ap (are_shaped groups) c.in_ok-push.ensures.items
-          ∙ all_more is_shaped groups c.loop-i.kept.items i group kept c.loop-i.invariant.shaped c.loop-i.invariant.count c.loop-i-test.true c.index-groups-i.is c.in_ok-kept_group.ensures.shaped;
+      first = subst (λ items. All (IsFirst by_pages) items) (sym c.in_ok-push.ensures.items) (All-push (IsFirst by_pages) c.loop-i.kept.items kept c.loop-i.invariant.first c.in_ok-kept_group.ensures.first);
     }
 
 pub returns-clause-taken : goal.returns-clause-taken
 returns-clause-taken g c = omega (arith, c.loop-i.invariant.taken, no_pair_left (indexes_taken c.args.by_pages c.args.fields.now c.args.bounds.now) c.args.groups.now c.args.counts.now c.loop-i.i (omega arith))
+
+pub returns-clause-rows : goal.returns-clause-rows
+returns-clause-rows g c = rows_done c.args.groups.now c.loop-i.kept.items c.loop-i.i (omega arith) c.loop-i.invariant.rows

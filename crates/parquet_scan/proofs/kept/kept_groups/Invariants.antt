@@ -1,7 +1,7 @@
-use Rattle.std.proofs.Common.{◌≡◌, ◌≤◌, ◌+◌, ◌++◌, All, drop, length, true}
+use Rattle.std.proofs.Common.{◌≡◌, ◌≤◌, ◌+◌, ◌++◌, All, drop, map}
 use Rattle.std.specs.Prelude.{IfSome}
 use Rattle.parquet_meta.specs.Keeps.{Keeps}
-use Rattle.parquet_scan.specs.Counting.{are_shaped, index_causes_of_groups, indexes_taken_of_groups, kept_of_groups}
+use Rattle.parquet_scan.specs.Counting.{AreFirst, index_causes_of_groups, indexes_taken_of_groups, kept_of_groups}
 use Rattle.parquet_scan.specs.Scan.{IsApart}
 use Rattle.parquet_scan.proofs.kept.kept_groups.Given as goal
 
@@ -16,7 +16,7 @@ invariant-loop-i g l =
       kept : IfSome (source.told l.fn.source) (λ bytes.
           kept_of_groups l.by_pages l.bounds bytes l.groups l.counts ≡ l.kept.items ++ kept_of_groups l.by_pages l.bounds bytes (drop l.i l.groups) (drop l.i l.counts));
       taken : source.taken l.source + indexes_taken_of_groups l.by_pages l.fields l.bounds (drop l.i l.groups) (drop l.i l.counts) ≤ source.taken l.fn.source + indexes_taken_of_groups l.by_pages l.fields l.bounds l.groups l.counts;
-      count : length l.kept.items ≡ l.i;
+      rows : map (λ group. group.num_rows) l.groups ≡ map (λ group. group.rows) l.kept.items ++ map (λ group. group.num_rows) (drop l.i l.groups);
       apart : All IsApart l.kept.items;
-      shaped : are_shaped l.groups l.kept.items ≡ true;
+      first : All (λ group. AreFirst l.by_pages group.intervals) l.kept.items;
     }

@@ -1,12 +1,13 @@
 use Rattle.std.proofs.Common.{◌≡◌, ◌∙◌, ap, subst, sym, true, false, List, ℕ, Bool, []}
 use Rattle.std.specs.Prelude.{Option, ◌&&◌, IfSome, Some, None}
-use Rattle.parquet_base.specs.Intervals.{AreApart, is_well_shaped, maximal_runs}
+use Rattle.parquet_base.specs.Intervals.{AreApart, maximal_runs}
 use Rattle.parquet_base.proofs.SegmentLemmas.{runs_apart}
 use Rattle.parquet_base.specs.declared.interval.Interval.{Interval}
 use Rattle.parquet_meta.specs.declared.metadata.RowGroupMetaData.{RowGroupMetaData}
 use Rattle.parquet_scan.specs.declared.bound.Bound.{Bound}
 use Rattle.parquet_scan.specs.Rows.{pages_keep}
-use Rattle.parquet_scan.proofs.KeptLemmas.{runs_shaped}
+use Rattle.parquet_scan.proofs.KeptLemmas.{none_first, pages_first, whole_first}
+use Rattle.parquet_scan.proofs.PageLemmas.{if_ok}
 use Rattle.parquet_scan.proofs.ScanLemmas.{no_runs}
 use Rattle.parquet_scan.proofs.kept.kept_runs.Goals as goal
 
@@ -29,8 +30,14 @@ pub returns-clause-kept : goal.returns-clause-kept
 returns-clause-kept g c =
     all_kept (g.S.Source.told c.args.source.now) c.args.bounds.now c.args.group.now c.args.by_pages c.args.counts c.in_ok-runs_of_all.field-0.items c.in_ok-runs_of_all.ensures c.if-not-counts.false c.if-by_pages.false
 
-pub returns-clause-shaped : goal.returns-clause-shaped
-returns-clause-shaped g c = ap (λ runs. is_well_shaped runs c.args.group.now.num_rows) c.in_ok-runs_of_all.ensures ∙ runs_shaped (λ row. true) c.args.group.now.num_rows
+pub returns-then-not-counts-clause-first : goal.returns-then-not-counts-clause-first
+returns-then-not-counts-clause-first g c = none_first c.args.by_pages c.new.result.items c.new.ensures.items
+
+pub returns-then-by_pages-clause-first : goal.returns-then-by_pages-clause-first
+returns-then-by_pages-clause-first g c = if_ok c.kept_by_pages.result (λ runs e. pages_first c.args.by_pages runs.items c.if-by_pages.true) c.kept_by_pages.ensures.apart
+
+pub returns-clause-first : goal.returns-clause-first
+returns-clause-first g c = whole_first c.args.by_pages c.in_ok-runs_of_all.field-0.items c.args.group.now.num_rows c.in_ok-runs_of_all.ensures
 
 pub returns-clause-apart : goal.returns-clause-apart
 returns-clause-apart g c = subst (λ runs. AreApart 0 runs c.args.group.now.num_rows) (sym c.in_ok-runs_of_all.ensures) (runs_apart (λ row. true) c.args.group.now.num_rows)

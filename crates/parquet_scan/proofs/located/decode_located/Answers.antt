@@ -1,16 +1,15 @@
-use Rattle.std.proofs.Common.{◌≡◌, ◌∙◌, List, ℕ, arith, ap, subst, sym, length, map, Vec, Global}
-use Rattle.std.specs.Prelude.{filter, zip}
-use Rattle.std.proofs.lemmas.Slice.Zip.{length-zip}
-use Rattle.columns_core.specs.Causes.{ComesOf}
+use Rattle.std.proofs.Common.{◌≡◌, ◌+◌, List, ℕ, subst, sym, length, map, take, Vec, Global}
+use Rattle.std.specs.Prelude.{filter, zip, IfErr, IfOk, OnOk}
+use Rattle.columns_core.specs.Array.{cells}
+use Rattle.parquet_base.specs.Pieces.{cut}
 use Rattle.parquet_page.specs.Lent.{Lent, is_wanted}
 use Rattle.parquet_page.specs.Located.{dictionary_in}
+use Rattle.page_decoding.specs.Bytes.{IsCausedByChunks}
 use Rattle.page_decoding.specs.Column.{DataPagesAre}
-use Rattle.page_decoding.specs.Outcome.{causes_in}
-use Rattle.parquet_scan.specs.Decoded.{column_rows}
-use Rattle.parquet_scan.proofs.CostLemmas.{few_located}
-use Rattle.parquet_scan.proofs.PageLemmas.{if_ok}
+use Rattle.page_decoding.specs.Outcome.{Given}
+use Rattle.flat_values.specs.MostBytes.{most_bytes}
+use Rattle.parquet_scan.specs.Decoded.{column_rows, pages_for}
 use Rattle.parquet_scan.proofs.located.decode_located.Goals as goal
-use Rattle.std.proofs.lemmas.Result.{on_ok_weaker}
 use Rattle.flat_values.proofs.ReaderLemmas.{located_pages_are}
 
 pub decode_column-requires-clause-typed : goal.decode_column-requires-clause-typed
@@ -20,27 +19,19 @@ decode_column-requires-clause-typed g c =
     subst (λ (lent : Lent). DataPagesAre (λ page. page.type ≡ stored) lent.pages) (sym c.in_ok-reader.ensures.lends)
     (located_pages_are (λ page. page.type ≡ stored) stored (λ page same. same) (dictionary_in c.args.before.items) (zip (filter is_wanted c.args.pages.items) (map items c.args.bodies.items)))
 
-pub returns-clause-rows : goal.returns-clause-rows
-returns-clause-rows g c =
+pub returns-clause-chunks : goal.returns-clause-chunks
+returns-clause-chunks g c =
     let stored = c.args.column.now.descriptor.primitive_type in
-    if_ok c.decode_column.result (λ found rows. rows ∙ ap (λ (lent : Lent). column_rows stored c.args.data_type.now lent.pages lent.causes) c.in_ok-reader.ensures.lends) c.decode_column.ensures.rows
+    subst (λ (lent : Lent). IfOk c.decode_column.result (λ found. map (λ array. map Given (cells array)) found.0.items ≡ cut c.args.chunk_size (take c.args.rows (column_rows stored c.args.data_type.now lent.pages lent.causes))))
+    c.in_ok-reader.ensures.lends c.decode_column.ensures.chunks
 
 pub returns-clause-cause : goal.returns-clause-cause
 returns-clause-cause g c =
     let stored = c.args.column.now.descriptor.primitive_type in
-    subst (λ (lent : Lent). ComesOf c.decode_column.result (causes_in (column_rows stored c.args.data_type.now lent.pages lent.causes))) c.in_ok-reader.ensures.lends c.decode_column.ensures.cause
+    subst (λ (lent : Lent). IfErr c.decode_column.result (IsCausedByChunks (most_bytes c.args.data_type.now) c.args.chunk_size (take c.args.rows (column_rows stored c.args.data_type.now lent.pages lent.causes))))
+    c.in_ok-reader.ensures.lends c.decode_column.ensures.cause
 
 pub returns-clause-lent : goal.returns-clause-lent
 returns-clause-lent g c =
-    let items : Vec ℕ Global → List ℕ = λ body. body.items in
-    let wanted = filter is_wanted c.args.pages.items in
-    let bodies = map items c.args.bodies.items in
-    on_ok_weaker c.decode_column.result
-    (λ lent. omega (
-      arith,
-      lent,
-      ap (λ (lent : Lent). length lent.pages) c.in_ok-reader.ensures.lends,
-      few_located c.args.column.now.descriptor.primitive_type (dictionary_in c.args.before.items) (zip wanted bodies),
-      length-zip wanted bodies,
-    ))
-    c.decode_column.ensures.lent
+    let stored = c.args.column.now.descriptor.primitive_type in
+    subst (λ (lent : Lent). OnOk c.decode_column.result (c.decode_column.new.steps ≡ c.args.steps.now + length (pages_for stored c.args.data_type.now c.args.rows lent.pages))) c.in_ok-reader.ensures.lends c.decode_column.ensures.lent

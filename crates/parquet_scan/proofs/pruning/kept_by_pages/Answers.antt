@@ -11,7 +11,7 @@ use Rattle.parquet_page.specs.Locations.{has_shape}
 use Rattle.parquet_scan.specs.Causes.{index_causes_of_bound, offset_causes_of_field}
 use Rattle.parquet_scan.specs.Rows.{bound_keeps, field_locations}
 use Rattle.parquet_scan.specs.Scan.{FailsBy}
-use Rattle.parquet_scan.proofs.PruningLemmas.{all_runs, shaped_from}
+use Rattle.parquet_scan.proofs.PruningLemmas.{all_runs}
 use Rattle.parquet_scan.proofs.ScanLemmas.{fails_more, in_first, in_second, none_of_both}
 use Rattle.parquet_scan.proofs.pruning.kept_by_pages.Goals as goal
 
@@ -78,9 +78,6 @@ returns-clause-kept g c =
     let are = subst (λ (told : Option (List ℕ)). IfSome told (λ bytes. map (λ bound. maximal_runs (λ row. bound_keeps bytes group row bound) group.num_rows) bounds ≡ map items c.in_ok-runs.runs.items)) c.in_ok-locations.ensures.keeps.same c.in_ok-runs.ensures.runs in
     all_runs told group bounds items c.in_ok-runs.runs.items c.in_ok-runs_of_all.field-0.items are
     (c.in_ok-runs_of_all.ensures ∙ ap (λ (lists : List (Vec Interval Global)). maximal_runs (λ row. list_all (λ list. covers list.items row) lists) group.num_rows) c.deref-2.ensures.value)
-
-pub returns-clause-shaped : goal.returns-clause-shaped
-returns-clause-shaped g c = shaped_from c.in_ok-runs_of_all.field-0.items (λ row. list_all (λ list. covers list.items row) c.deref-2.result.now) c.args.group.now.num_rows c.in_ok-runs_of_all.ensures
 
 pub returns-clause-apart : goal.returns-clause-apart
 returns-clause-apart g c =

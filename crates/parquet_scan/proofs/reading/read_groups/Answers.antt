@@ -1,59 +1,100 @@
-use Rattle.std.proofs.Common.{rules, ◌≡◌, ◌≤◌, ◌∙◌, Bool, length, drop, arith, subst, List, ℕ, Option, ap, get_or}
-use Rattle.parquet_meta.specs.declared.metadata.RowGroupMetaData.{RowGroupMetaData}
-use Rattle.std.proofs.lemmas.Grind.{common_steps}
+use Rattle.std.proofs.Common.{rules, ◌≡◌, ◌≤◌, ◌<◌, ◌∙◌, ◌++◌, [], length, drop, arith, sym, subst, List, ℕ, Option, ap, get_or}
+use Rattle.std.specs.Prelude.{IfSome}
 use Rattle.std.proofs.lemmas.List.{drop_all}
 use Rattle.std.proofs.lemmas.Result.{err_from_is_err_and}
-use Rattle.parquet_scan.specs.declared.scanning.GroupKept.{GroupKept}
-use Rattle.parquet_scan.specs.Counting.{causes_if_read, causes_of_groups, is_shaped, lent_if_read, rows_of_groups, taken_if_read}
-use Rattle.parquet_scan.specs.Scan.{FailsBy}
-use Rattle.parquet_scan.proofs.CostLemmas.{rises_pairs}
-use Rattle.parquet_scan.proofs.PairLemmas.{pair_passes}
+use Rattle.parquet_base.specs.Intervals.{row_count}
+use Rattle.parquet_base.specs.declared.interval.Interval.{Interval}
+use Rattle.parquet_meta.specs.declared.metadata.RowGroupMetaData.{RowGroupMetaData}
+use Rattle.parquet_scan.specs.Counting.{AreFirst, causes_if_read, causes_of_groups, chunks_if_read, is_shaped, lent_if_read, rows_of_groups, shown, taken_if_read}
+use Rattle.parquet_scan.specs.Scan.{FailsBy, RisesBy, RisesJustBy}
+use Rattle.parquet_scan.proofs.CostLemmas.{rises_pairs, sum_left}
+use Rattle.parquet_scan.proofs.ExactCounts.{just_pair, just_pairs, most_pair}
+use Rattle.parquet_scan.proofs.PairLemmas.{flat_pair, none_pair, pair_passes}
 use Rattle.parquet_scan.proofs.ScanLemmas.{fails_more, in_pair}
 use Rattle.parquet_scan.proofs.reading.read_groups.Goals as goal
 
-pub read_if_kept-requires-clause-shaped : goal.read_if_kept-requires-clause-shaped
-read_if_kept-requires-clause-shaped g c =
-    let same : (c.index-groups-i.result, c.index-kept-i.result) ≡ (get_or c.args.groups.now c.loop-i.i c.index-groups-i.result, get_or c.args.kept.now c.loop-i.i c.index-kept-i.result) = λ j. (c.index-groups-i.is j, c.index-kept-i.is j) in
-    ap is_shaped same ∙ pair_passes is_shaped c.args.groups.now c.args.kept.now c.loop-i.i c.index-groups-i.result c.index-kept-i.result c.requires.shaped (omega arith) (omega arith)
+pub loop-i-preserved : goal.loop-i-preserved
+loop-i-preserved g c =
+    let told = g.S.Source.told c.args.source.now in
+    let by_pages = c.args.by_pages in
+    let size = c.args.chunk_size in
+    let fields = c.args.fields.now in
+    let groups = c.args.groups.now in
+    let given = c.args.given.now in
+    let i = c.loop-i.i in
+    let group = c.index-groups-i.result in
+    let runs = c.as_slice-runs.result.now in
+    let below : i < length given = omega (arith, c.loop-i-test.true, c.requires.lengths) in
+    let beside = subst (λ (runs : List Interval). runs ≡ get_or given i runs) (sym c.as_slice-runs.ensures) c.index-given-i.is in
+    let same = c.loop-i.invariant.keeps.same in
+    let none = subst (λ (told : Option (List ℕ)). IfSome told (λ bytes. causes_if_read by_pages size fields bytes (group, runs) ≡ [])) same c.in_ok-read_if_given.ensures.ok in
+    let chunks = subst (λ (told : Option (List ℕ)). IfSome told (λ bytes. shown c.read_if_given.new.read.chunks.items ≡ shown c.loop-i.read.chunks.items ++ chunks_if_read by_pages size fields bytes (group, runs))) same c.in_ok-read_if_given.ensures.chunks in
+    let lent = subst (λ (told : Option (List ℕ)). RisesJustBy told c.loop-i.steps c.read_if_given.new.steps (λ bytes. lent_if_read by_pages fields bytes (group, runs))) same c.in_ok-read_if_given.ensures.lent in
+    let taken = subst (λ (told : Option (List ℕ)). RisesBy told (g.S.Source.taken c.loop-i.source) (g.S.Source.taken c.read_if_given.new.source) (λ bytes. taken_if_read by_pages fields bytes (group, runs))) same c.in_ok-read_if_given.ensures.taken in
+    record {
+      keeps = search rules;
+      none = none_pair told (causes_if_read by_pages size fields) groups given i group runs runs c.loop-i-test.true below c.index-groups-i.is beside c.loop-i.invariant.none none;
+      chunks = flat_pair told (chunks_if_read by_pages size fields) groups given i group runs (shown c.args.read.now.chunks.items) (shown c.loop-i.read.chunks.items) (shown c.read_if_given.new.read.chunks.items)
+          c.loop-i-test.true below c.index-groups-i.is beside c.loop-i.invariant.chunks chunks;
+      lent = just_pair told (lent_if_read by_pages fields) groups given i group runs c.args.steps.now c.loop-i.steps c.read_if_given.new.steps c.loop-i-test.true below c.index-groups-i.is beside c.loop-i.invariant.lent lent;
+      taken = most_pair told (taken_if_read by_pages fields) groups given i group runs (g.S.Source.taken c.args.source.now) (g.S.Source.taken c.loop-i.source) (g.S.Source.taken c.read_if_given.new.source)
+          c.loop-i-test.true below c.index-groups-i.is beside c.loop-i.invariant.taken taken;
+      rows = omega (arith, c.loop-i.invariant.rows, c.loop-i.invariant.fits, c.in_ok-read_if_given.ensures.rows, sum_left row_count given i runs below beside);
+      own_rows = search rules;
+      even = λ all. c.in_ok-read_if_given.ensures.even (c.loop-i.invariant.even all);
+      fits = search rules;
+      ticks = search rules;
+      pages = search rules;
+    }
 
-pub returns-in_err-read_if_kept-clause-fails : goal.returns-in_err-read_if_kept-clause-fails
-returns-in_err-read_if_kept-clause-fails g c =
+pub read_if_given-requires-clause-shaped : goal.read_if_given-requires-clause-shaped
+read_if_given-requires-clause-shaped g c =
+    let groups = c.args.groups.now in
+    let given = c.args.given.now in
+    let i = c.loop-i.i in
+    let runs = c.as_slice-runs.result.now in
+    let below : i < length given = omega (arith, c.loop-i-test.true, c.requires.lengths) in
+    let beside = subst (λ (runs : List Interval). runs ≡ get_or given i runs) (sym c.as_slice-runs.ensures) c.index-given-i.is in
+    (λ j. is_shaped (c.index-groups-i.is j, beside j)) ∙ pair_passes is_shaped groups given i c.index-groups-i.result runs c.requires.shaped c.loop-i-test.true below
+
+pub read_if_given-requires-clause-first : goal.read_if_given-requires-clause-first
+read_if_given-requires-clause-first g c =
+    let given = c.args.given.now in
+    let i = c.loop-i.i in
+    let runs = c.as_slice-runs.result.now in
+    let below : i < length given = omega (arith, c.loop-i-test.true, c.requires.lengths) in
+    let beside = subst (λ (runs : List Interval). runs ≡ get_or given i runs) (sym c.as_slice-runs.ensures) c.index-given-i.is in
+    subst (AreFirst c.args.by_pages) (sym beside) (c.requires.first i runs below)
+
+pub returns-in_err-read_if_given-clause-fails : goal.returns-in_err-read_if_given-clause-fails
+returns-in_err-read_if_given-clause-fails g c =
     let p = err_from_is_err_and c.from_residual.result c.from_residual.ensures.1 in
+    let told = g.S.Source.told c.args.source.now in
     let before = g.S.Source.faults c.args.source.now in
     let mid = g.S.Source.faults c.loop-i.source in
-    let now = g.S.Source.faults c.read_if_kept.new.source in
-    let group : RowGroupMetaData × GroupKept = (c.index-groups-i.result, c.index-kept-i.result) in
-    rw (p.1, p.2) (fails_more (g.S.Source.told c.args.source.now) before mid now
-    (λ bytes. causes_if_read c.args.by_pages c.args.fields.now bytes group) (λ bytes. causes_of_groups c.args.by_pages c.args.fields.now bytes c.args.groups.now c.args.kept.now)
-    c.in_err-read_if_kept.field-0.0 c.loop-i.invariant.keeps.later
-    (in_pair (g.S.Source.told c.args.source.now) (causes_if_read c.args.by_pages c.args.fields.now) c.args.groups.now c.args.kept.now c.loop-i.i c.index-groups-i.result c.index-kept-i.result c.index-kept-i.result (omega arith) (omega arith) c.index-groups-i.is c.index-kept-i.is)
-    (subst (λ (told : Option (List ℕ)). FailsBy told mid now (λ bytes. causes_if_read c.args.by_pages c.args.fields.now bytes group) c.in_err-read_if_kept.field-0.0) c.loop-i.invariant.keeps.same c.in_err-read_if_kept.ensures.fails))
+    let now = g.S.Source.faults c.read_if_given.new.source in
+    let given = c.args.given.now in
+    let i = c.loop-i.i in
+    let runs = c.as_slice-runs.result.now in
+    let below : i < length given = omega (arith, c.loop-i-test.true, c.requires.lengths) in
+    let beside = subst (λ (runs : List Interval). runs ≡ get_or given i runs) (sym c.as_slice-runs.ensures) c.index-given-i.is in
+    let group : RowGroupMetaData × List Interval = (c.index-groups-i.result, runs) in
+    let causes : List ℕ → RowGroupMetaData × List Interval → _ = causes_if_read c.args.by_pages c.args.chunk_size c.args.fields.now in
+    rw (p.1, p.2) (fails_more told before mid now (λ bytes. causes bytes group) (λ bytes. causes_of_groups c.args.by_pages c.args.chunk_size c.args.fields.now bytes c.args.groups.now given)
+    c.in_err-read_if_given.field-0.0 c.loop-i.invariant.keeps.later
+    (in_pair told causes c.args.groups.now given i c.index-groups-i.result runs runs c.loop-i-test.true below c.index-groups-i.is beside)
+    (subst (λ (told : Option (List ℕ)). FailsBy told mid now (λ bytes. causes bytes group) c.in_err-read_if_given.field-0.0) c.loop-i.invariant.keeps.same c.in_err-read_if_given.ensures.fails))
 
-none_left : (by_pages : Bool) (groups : List RowGroupMetaData) (kept : List GroupKept) (i : ℕ) → length groups ≤ i → rows_of_groups by_pages (drop i groups) (drop i kept) ≡ 0
-none_left by_pages groups kept i h = ap (λ left. rows_of_groups by_pages left (drop i kept)) (drop_all i groups h)
+none_left : (given : List (List Interval)) (i : ℕ) → length given ≤ i → rows_of_groups (drop i given) ≡ 0
+none_left given i h = ap rows_of_groups (drop_all i given h)
 
 pub returns-clause-rows : goal.returns-clause-rows
-returns-clause-rows g c = omega (arith, c.loop-i.invariant.rows, c.loop-i.invariant.fits, none_left c.args.by_pages c.args.groups.now c.args.kept.now c.loop-i.i (omega arith))
+returns-clause-rows g c = omega (arith, c.loop-i.invariant.rows, c.loop-i.invariant.fits, none_left c.args.given.now c.loop-i.i (omega (arith, c.requires.lengths)))
 
 pub returns-clause-lent : goal.returns-clause-lent
 returns-clause-lent g c =
-    rises_pairs (g.S.Source.told c.args.source.now) (lent_if_read c.args.by_pages c.args.fields.now) c.args.groups.now c.args.kept.now c.loop-i.i c.args.steps.now c.loop-i.steps (omega arith) c.loop-i.invariant.lent
+    just_pairs (g.S.Source.told c.args.source.now) (lent_if_read c.args.by_pages c.args.fields.now) c.args.groups.now c.args.given.now c.loop-i.i c.args.steps.now c.loop-i.steps (omega arith) c.loop-i.invariant.lent
 
 pub returns-clause-taken : goal.returns-clause-taken
 returns-clause-taken g c =
-    rises_pairs (g.S.Source.told c.args.source.now) (taken_if_read c.args.by_pages c.args.fields.now) c.args.groups.now c.args.kept.now c.loop-i.i (g.S.Source.taken c.args.source.now) (g.S.Source.taken c.loop-i.source) (omega arith) c.loop-i.invariant.taken
-
-pub loop-i-preserved : goal.loop-i-preserved
-loop-i-preserved g c = record {
-  keeps = search rules;
-  none = grind (arith, common_steps);
-  chunks = grind (arith, common_steps);
-  lent = grind (arith, common_steps);
-  taken = grind (arith, common_steps);
-  rows = grind (arith, common_steps);
-  own_rows = search rules;
-  even = λ all. c.in_ok-read_if_kept.ensures.even (c.loop-i.invariant.even all);
-  fits = search rules;
-  ticks = search rules;
-  pages = search rules;
-}
+    rises_pairs (g.S.Source.told c.args.source.now) (taken_if_read c.args.by_pages c.args.fields.now) c.args.groups.now c.args.given.now c.loop-i.i (g.S.Source.taken c.args.source.now) (g.S.Source.taken c.loop-i.source) (omega arith) c.loop-i.invariant.taken

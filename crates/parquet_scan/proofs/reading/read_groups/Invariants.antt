@@ -13,14 +13,15 @@ invariant-loop-i g l =
     record {
       keeps : Keeps source l.fn.source l.source;
       none : IfSome (source.told l.fn.source) (λ bytes.
-          causes_of_groups l.by_pages l.fields bytes l.groups l.kept ≡ causes_of_groups l.by_pages l.fields bytes (drop l.i l.groups) (drop l.i l.kept));
+          causes_of_groups l.by_pages l.chunk_size l.fields bytes l.groups l.given ≡ causes_of_groups l.by_pages l.chunk_size l.fields bytes (drop l.i l.groups) (drop l.i l.given));
       chunks : IfSome (source.told l.fn.source) (λ bytes.
-          shown l.fn.read.chunks.items ++ chunks_of_groups l.by_pages l.fields bytes l.groups l.kept ≡ shown l.read.chunks.items ++ chunks_of_groups l.by_pages l.fields bytes (drop l.i l.groups) (drop l.i l.kept));
+          shown l.fn.read.chunks.items ++ chunks_of_groups l.by_pages l.chunk_size l.fields bytes l.groups l.given
+          ≡ shown l.read.chunks.items ++ chunks_of_groups l.by_pages l.chunk_size l.fields bytes (drop l.i l.groups) (drop l.i l.given));
       lent : IfSome (source.told l.fn.source) (λ bytes.
-          l.steps + lent_of_groups l.by_pages l.fields bytes (drop l.i l.groups) (drop l.i l.kept) ≤ l.fn.steps + lent_of_groups l.by_pages l.fields bytes l.groups l.kept);
+          l.steps + lent_of_groups l.by_pages l.fields bytes (drop l.i l.groups) (drop l.i l.given) ≡ l.fn.steps + lent_of_groups l.by_pages l.fields bytes l.groups l.given);
       taken : IfSome (source.told l.fn.source) (λ bytes.
-          source.taken l.source + taken_of_groups l.by_pages l.fields bytes (drop l.i l.groups) (drop l.i l.kept) ≤ source.taken l.fn.source + taken_of_groups l.by_pages l.fields bytes l.groups l.kept);
-      rows : min (l.fn.read.rows + rows_of_groups l.by_pages l.groups l.kept) (2 ^ 64 - 1) ≡ min (l.read.rows + rows_of_groups l.by_pages (drop l.i l.groups) (drop l.i l.kept)) (2 ^ 64 - 1);
+          source.taken l.source + taken_of_groups l.by_pages l.fields bytes (drop l.i l.groups) (drop l.i l.given) ≤ source.taken l.fn.source + taken_of_groups l.by_pages l.fields bytes l.groups l.given);
+      rows : min (l.fn.read.rows + rows_of_groups l.given) (2 ^ 64 - 1) ≡ min (l.read.rows + rows_of_groups (drop l.i l.given)) (2 ^ 64 - 1);
       own_rows : l.fn.read.rows ≡ rows_in l.fn.read.chunks.items → l.read.rows ≡ rows_in l.read.chunks.items;
       even : All AreEqualLengths l.fn.read.chunks.items → All AreEqualLengths l.read.chunks.items;
       fits : l.read.rows < 2 ^ 64;

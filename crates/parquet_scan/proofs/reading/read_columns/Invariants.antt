@@ -1,0 +1,32 @@
+use Rattle.std.proofs.Common.{◌≡◌, ◌≤◌, ◌+◌, ◌-◌, ◌^◌, ◌++◌, Some, drop, length, map, All}
+use Rattle.std.specs.Prelude.{IfSome, min}
+use Rattle.columns_core.specs.Array.{cells, column_of}
+use Rattle.parquet_base.specs.Intervals.{rows_of}
+use Rattle.parquet_base.specs.Pieces.{cut}
+use Rattle.parquet_meta.specs.Keeps.{Keeps}
+use Rattle.parquet_scan.specs.Cells.{given_column}
+use Rattle.parquet_scan.specs.Causes.{causes_of_group}
+use Rattle.parquet_scan.specs.Costs.{lent_of_group}
+use Rattle.parquet_scan.specs.Counting.{columns_taken}
+use Rattle.parquet_scan.proofs.reading.read_columns.Given as goal
+
+-- what is wrong with all columns, and what they have, is what is so of those that are left
+abbrev pub invariant-loop-field : goal.invariant-loop-field
+invariant-loop-field g l =
+    let source = g.S.Source in
+    let rows = rows_of l.runs in
+    let pieces = cut l.chunk_size rows in
+    record {
+      keeps : Keeps source l.fn.source l.source;
+      none : IfSome (source.told l.fn.source) (λ bytes. causes_of_group l.by_pages l.chunk_size l.fields bytes (l.group, rows) ≡ causes_of_group l.by_pages l.chunk_size (drop l.field-index l.fields) bytes (l.group, rows));
+      columns : IfSome (source.told l.fn.source) (λ bytes.
+          map (λ field. map (λ rows. given_column l.by_pages bytes l.group rows field) pieces) l.fields
+          ≡ map (λ column. map (λ array. Some (column_of array)) column.items) l.columns.items ++ map (λ field. map (λ rows. given_column l.by_pages bytes l.group rows field) pieces) (drop l.field-index l.fields));
+      lent : IfSome (source.told l.fn.source) (λ bytes. l.steps + lent_of_group l.by_pages (drop l.field-index l.fields) bytes (l.group, rows) ≡ l.fn.steps + lent_of_group l.by_pages l.fields bytes (l.group, rows));
+      taken : IfSome (source.told l.fn.source) (λ bytes.
+          source.taken l.source + columns_taken l.by_pages (drop l.field-index l.fields) bytes (l.group, rows) ≤ source.taken l.fn.source + columns_taken l.by_pages l.fields bytes (l.group, rows));
+      count : length l.columns.items ≡ l.field-index;
+      counts : All (λ column. map (λ array. length (cells array)) column.items ≡ map length pieces) l.columns.items;
+      ticks : l.fn.steps ≤ l.steps;
+      pages : l.pages ≡ min (l.steps - l.fn.steps) (2 ^ 64 - 1);
+    }
