@@ -17,7 +17,7 @@ pub enum Status {
     Damaged,
     /// A text is not UTF-8, or a key is past its dictionary.
     NotValid,
-    /// A value does not fit its type.
+    /// A value does not fit the type that was asked for.
     Range,
     /// A read failed.
     Reading,

@@ -1,4 +1,4 @@
-//! `pqscan`: rows of a Parquet file as text, without the row groups in which no row can meet the bounds.
+//! `pqscan`: prints rows of a Parquet file, without those that its statistics rule out.
 #![tactic(auto)]
 
 ghost use Rattle.std.specs.Prelude.{◌≡◌, ◌<◌};

@@ -10,7 +10,7 @@ const NUMBERS: Column = Column {
 };
 
 /// Three groups with the ends 1 and 3, 10 and 14, 20 and 22, the second of two pages.
-fn three_groups(alloc: Global) -> Result<Vec<u8>, AllocError> {
+pub(crate) fn three_groups(alloc: Global) -> Result<Vec<u8>, AllocError> {
     let mut file = FileBuilder::new(alloc, NUMBERS)?;
     file.add_plain(&[&[1, 2, 3]], Some((1, 3)))?;
     file.add_plain(&[&[10], &[12, 14]], Some((10, 14)))?;
@@ -88,7 +88,7 @@ const OF_NO_ROWS: [(&str, &[u8]); 2] = [
 ];
 
 /// One group with pages of no values: one before, one between and one behind those that hold its rows.
-fn empty_pages(alloc: Global) -> Result<Vec<u8>, AllocError> {
+pub(crate) fn empty_pages(alloc: Global) -> Result<Vec<u8>, AllocError> {
     let mut file = FileBuilder::new(alloc, NUMBERS)?;
     file.add_plain(&[&[], &[7], &[], &[8, 9], &[]], None)?;
     file.finish()

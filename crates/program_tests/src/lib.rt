@@ -8,11 +8,15 @@ mod files;
 #[cfg(test)]
 mod groups;
 #[cfg(test)]
+mod limits;
+#[cfg(test)]
 mod refused;
 #[cfg(test)]
 mod run_tests;
 #[cfg(test)]
 mod running;
+#[cfg(test)]
+mod samples;
 #[cfg(test)]
 mod spelling;
 #[cfg(test)]

@@ -9,6 +9,7 @@ use Rattle.parquet_scan.specs.declared.bound.Scalar.TheVariants as scalar
 use Rattle.parquet_base.specs.Intervals.{interval}
 use Rattle.pq_common.specs.CellText.{cell_text}
 use Rattle.scan_program.specs.Report.{report}
+use Rattle.scan_program.specs.Sampled.{sample_of}
 use Rattle.scan_program.specs.Words.{spelled_command}
 
 no_words : spelled_command [] ≡ None
@@ -43,6 +44,24 @@ no_such_field = refl
 
 limit_twice : spelled_command (codes "x" ∷ codes "a:Int32" ∷ codes "--limit" ∷ codes "5" ∷ codes "--limit" ∷ codes "6" ∷ []) ≡ None
 limit_twice = refl
+
+six_rows : sample_of (codes "@sample:6:0") ≡ Some (6, 0)
+six_rows = refl
+
+leading_zeros : sample_of (codes "@sample:0000000007:4294967295") ≡ Some (7, 4294967295)
+leading_zeros = refl
+
+past_32_bits : sample_of (codes "@sample:4294967296:0") ≡ None
+past_32_bits = refl
+
+eleven_digits : sample_of (codes "@sample:00000000006:0") ≡ None
+eleven_digits = refl
+
+no_seed : sample_of (codes "@sample:6:") ≡ None
+no_seed = refl
+
+one_colon_more : sample_of (codes "@sample:6:0:0") ≡ None
+one_colon_more = refl
 
 cells : cell_text (Text (codes "a\"b")) ≡ codes "\"a\\x22b\""
 cells = refl

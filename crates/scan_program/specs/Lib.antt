@@ -1,4 +1,5 @@
 pub mod Parsed
 pub mod Program
 pub mod Report
+pub mod Sampled
 pub mod Words

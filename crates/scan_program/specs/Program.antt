@@ -1,5 +1,5 @@
 -- What a run of the program answers.
-use Rattle.std.specs.Prelude.{◌≡◌, ℕ, ◌-◌, ◌^◌, Bool, true, false, List, map, min, Option, IfSome, IsTrue, Result, Ok, Err, String, string_bytes}
+use Rattle.std.specs.Prelude.{◌≡◌, ℕ, ◌-◌, ◌^◌, Bool, true, false, List, map, min, Option, IfSome, IsTrue, String, string_bytes}
 use Rattle.std.specs.declared.alloc.Global.{Global}
 use Rattle.columns_core.specs.declared.error.Error.{Error}
 use Rattle.columns_core.specs.declared.error.Error.TheVariants as error
@@ -84,8 +84,3 @@ pub record IsRefused (request : Request) (told : Option (List ℕ)) (before now 
   pub error : Error
   pub as_status : status ≡ status_of_error error
   pub refuses : Refuses request told before now error
-
--- a call refuses, with a status of which this holds
-abbrev pub EndsBy : {T : Type 0} → Result T Status → (Status → Type 0) → Type 0
-EndsBy (Ok x) P = ⊥
-EndsBy (Err status) P = P status

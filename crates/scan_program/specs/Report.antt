@@ -17,14 +17,14 @@ intervals_text (run ∷ runs) = join_by interval_text (codes " ") (run ∷ runs)
 abbrev pub group_line : ℕ × (ℕ × List Interval) → List ℕ
 group_line group = line (codes "group " ++ decimal group.0 ++ codes " " ++ decimal (group.1).0 ++ codes " " ++ intervals_text (group.1).1)
 
-abbrev pub rows_in : List (DataType × List Cell) → ℕ
-rows_in [] = 0
-rows_in (column ∷ columns) = length column.1
+abbrev pub chunk_length : List (DataType × List Cell) → ℕ
+chunk_length [] = 0
+chunk_length (column ∷ columns) = length column.1
 
 -- the number of rows, and then the rows
 abbrev pub chunk_lines : List (DataType × List Cell) → List ℕ
 chunk_lines columns =
-    line (codes "chunk " ++ decimal (rows_in columns)) ++ flat_map (row_line columns) (range_with_len 0 (rows_in columns))
+    line (codes "chunk " ++ decimal (chunk_length columns)) ++ flat_map (row_line columns) (range_with_len 0 (chunk_length columns))
 
 abbrev pub summary_lines : ℕ → ℕ → List ℕ
 summary_lines rows pages = line (codes "rows " ++ decimal rows) ++ line (codes "pages " ++ decimal pages)

@@ -6,6 +6,8 @@ mod command;
 mod items;
 mod parse;
 mod program;
+mod sampled;
+mod scanned;
 mod text;
 
 pub use program::run;

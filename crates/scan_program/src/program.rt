@@ -1,5 +1,8 @@
 //! Runs of the program.
 ghost use Rattle.std.specs.Prelude.{◌≡◌, ◌≢◌, ◌⊎◌, ◌+◌, ◌≤◌, IfErr, IfNone, IfOk, IfSome, IsTrue, None};
+ghost use Rattle.std.specs.Result.{IsErrAnd};
+ghost use Rattle.columns_core.specs.declared.error.Error.TheVariants.{InvalidArgumentError};
+ghost use Rattle.columns_core.specs.declared.error.Part.TheVariants.{Request};
 ghost use Rattle.parquet_base.specs.Failures.{MayFail};
 ghost use Rattle.parquet_meta.specs.Keeps.{Keeps};
 ghost use Rattle.parquet_scan.specs.Causes.{IsValid};
@@ -8,19 +11,23 @@ ghost use Rattle.parquet_scan.specs.Scan.{OnFile, Refuses};
 ghost use Rattle.pq_common.specs.Written.{IsAppended, IsFrontAppended};
 ghost use Rattle.scan_program.specs.Parsed.{command_of};
 ghost use Rattle.scan_program.specs.Program.{command_in, has_scanned, is_refusal, lent_between, status_of_error};
-ghost use Rattle.scan_program.specs.Program.{EndsBy, IsLegal, IsRefused, OnCommand, OnFileOf, Reports};
+ghost use Rattle.scan_program.specs.Program.{IsLegal, IsRefused, OnCommand, OnFileOf, Reports};
+ghost use Rattle.scan_program.specs.Sampled.{faults_by, is_too_great, sample_in, told_by};
 
 use crate::command::{Asked, read_words};
+use crate::scanned::scan_file;
 use crate::text::report;
 use columns_core::Error;
 use parquet_base::Steps;
 use parquet_meta::Source;
-use parquet_scan::scan_where;
 use pq_common::{Sink, Status, write_all};
 use std::alloc::Global;
 use std::sync::ledger::Ledger;
 
-/// Scans the source as the words ask, the first of which names it, and writes what it found.
+/// Scans what the first word names as the other words ask, and writes what it found.
+///
+/// The first word `@sample:ROWS:SEED`, with two numbers of 1 to 10 decimal digits and 32 bits, names a sample, and every
+/// other the source. A sample has at most 2,000,000 rows; more do not fit any request.
 pub fn run<S: Source, K: Sink, L: Ledger>(
     alloc: Global,
     words: &[String],
@@ -29,6 +36,7 @@ pub fn run<S: Source, K: Sink, L: Ledger>(
     steps: &mut Steps<L>,
 ) -> Status
     ensures keeps { Keeps S.Source source.old source.new }
+    ensures untouched { IfSome (sample_in words.now) (λ _. source.new ≡ source.old) }
     ensures sink_failures { K.faults out.old ≤ K.faults out.new }
     ensures ticks { steps.old ≤ steps.new }
 
@@ -38,26 +46,36 @@ pub fn run<S: Source, K: Sink, L: Ledger>(
 
     // At the end the report on a scan that answers the request stands in the sink, and behind a failed write a front of it.
     ensures done { result ≡ Status.Done → IfSome (command_in words.now) (λ command.
-        Reports command (S.told source.old) (lent_between steps.old steps.new)
+        Reports command (told_by words.now (S.told source.old)) (lent_between steps.old steps.new)
         (IsAppended (K.written out.old) (K.written out.new))) }
     ensures front { result ≡ Status.Writing → IfSome (command_in words.now) (λ command.
-        Reports command (S.told source.old) (lent_between steps.old steps.new)
+        Reports command (told_by words.now (S.told source.old)) (lent_between steps.old steps.new)
         (IsFrontAppended (K.written out.old) (K.written out.new))) }
 
     // What it costs.
-    ensures most_pages { IsTrue (has_scanned result) → OnFileOf (command_in words.now) (S.told source.old)
+    ensures most_pages { let told = told_by words.now (S.told source.old) in
+        IsTrue (has_scanned result) → OnFileOf (command_in words.now) told
         (λ command file. steps.new ≤ steps.old + most_pages command.request file) }
-    ensures taken { IsTrue (has_scanned result) → OnFileOf (command_in words.now) (S.told source.old)
+    ensures taken { let told = told_by words.now (S.told source.old) in
+        IsTrue (has_scanned result) → OnFileOf (command_in words.now) told
         (λ command file. S.taken source.new ≤ S.taken source.old + most_bytes command.request file) }
 
     // A run ends otherwise only where the scan refuses the request; memory may run out at any time.
-    ensures refused { IsTrue (is_refusal result) → IfSome (command_in words.now) (λ command.
-        IsRefused command.request (S.told source.old) (S.faults source.old) (S.faults source.new) result) }
-    ensures complete { OnCommand (command_in words.now) (S.told source.old) (λ command bytes.
+    ensures refused { let told = told_by words.now (S.told source.old) in
+        let before = faults_by words.now (S.faults source.old) in
+        let now = faults_by words.now (S.faults source.new) in
+        IsTrue (is_refusal result) → IfSome (command_in words.now) (λ command.
+        IsRefused command.request told before now result) }
+    ensures complete { let told = told_by words.now (S.told source.old) in
+        let before = faults_by words.now (S.faults source.old) in
+        let now = faults_by words.now (S.faults source.new) in
+        OnCommand (command_in words.now) told (λ command bytes.
         IsLegal command bytes → IsValid command.request bytes
-        → (MayFail (S.faults source.old) (S.faults source.new) → ⊥)
+        → (MayFail before now → ⊥)
         → (MayFail (K.faults out.old) (K.faults out.new) → ⊥)
         → (result ≡ Status.Done) ⊎ (result ≡ Status.Memory)) }
+    ensures too_great { IfSome (sample_in words.now) (λ sample. IsTrue (is_too_great sample)
+        → IfSome (command_in words.now) (λ _. (result ≡ Status.Argument) ⊎ (result ≡ Status.Memory))) }
 
     // Nothing is written but where all is read, and writing fails only where the sink may fail.
     ensures nothing { result ≢ Status.Done → result ≢ Status.Writing → K.written out.new ≡ K.written out.old }
@@ -81,30 +99,40 @@ fn text_for<S: Source, L: Ledger>(
     steps: &mut Steps<L>,
 ) -> Result<Vec<u8>, Status>
     ensures keeps { Keeps S.Source source.old source.new }
+    ensures untouched { IfSome (sample_in words.now) (λ _. source.new ≡ source.old) }
     ensures ticks { steps.old ≤ steps.new }
     ensures ended { IfErr result (λ status. (status ≢ Status.Done) × (status ≢ Status.Writing)) }
     ensures words { IfErr result (λ status. status ≡ Status.Words → command_in words.now ≡ None) }
     ensures no_words { IfNone (command_in words.now)
-        (EndsBy result (λ status. (status ≡ Status.Words) ⊎ (status ≡ Status.Memory))) }
+        (IsErrAnd result (λ status. (status ≡ Status.Words) ⊎ (status ≡ Status.Memory))) }
     ensures text { IfOk result (λ text. IfSome (command_in words.now) (λ command.
-        Reports command (S.told source.old) (lent_between steps.old steps.new)
+        Reports command (told_by words.now (S.told source.old)) (lent_between steps.old steps.new)
         (λ found. found ≡ text.items))) }
-    ensures most_pages { IfOk result (λ _. OnFileOf (command_in words.now) (S.told source.old)
+    ensures most_pages { let told = told_by words.now (S.told source.old) in
+        IfOk result (λ _. OnFileOf (command_in words.now) told
         (λ command file. steps.new ≤ steps.old + most_pages command.request file)) }
-    ensures taken { IfOk result (λ _. OnFileOf (command_in words.now) (S.told source.old)
+    ensures taken { let told = told_by words.now (S.told source.old) in
+        IfOk result (λ _. OnFileOf (command_in words.now) told
         (λ command file. S.taken source.new ≤ S.taken source.old + most_bytes command.request file)) }
-    ensures refused { IfErr result (λ status. IsTrue (is_refusal status) → IfSome (command_in words.now)
-        (λ command.
-        IsRefused command.request (S.told source.old) (S.faults source.old) (S.faults source.new) status)) }
-    ensures complete { IfErr result (λ status. OnCommand (command_in words.now) (S.told source.old)
-        (λ command bytes.
+    ensures refused { let told = told_by words.now (S.told source.old) in
+        let before = faults_by words.now (S.faults source.old) in
+        let now = faults_by words.now (S.faults source.new) in
+        IfErr result (λ status. IsTrue (is_refusal status) → IfSome (command_in words.now) (λ command.
+        IsRefused command.request told before now status)) }
+    ensures complete { let told = told_by words.now (S.told source.old) in
+        let before = faults_by words.now (S.faults source.old) in
+        let now = faults_by words.now (S.faults source.new) in
+        IfErr result (λ status. OnCommand (command_in words.now) told (λ command bytes.
         IsLegal command bytes → IsValid command.request bytes
-        → (MayFail (S.faults source.old) (S.faults source.new) → ⊥) → status ≡ Status.Memory)) }
+        → (MayFail before now → ⊥) → status ≡ Status.Memory)) }
+    ensures too_great { IfSome (sample_in words.now) (λ sample. IsTrue (is_too_great sample)
+        → IfSome (command_in words.now)
+        (λ _. IsErrAnd result (λ status. (status ≡ Status.Argument) ⊎ (status ≡ Status.Memory)))) }
 {
     match read_words(alloc, words) {
         Err(_) => Err(Status::Memory),
         Ok(None) => Err(Status::Words),
-        Ok(Some(asked)) => match scan_text(alloc, &asked, source, steps) {
+        Ok(Some(asked)) => match scan_text(alloc, words, &asked, source, steps) {
             Ok(text) => Ok(text),
             Err(error) => Err(status_of(&error)),
         },
@@ -114,31 +142,31 @@ fn text_for<S: Source, L: Ledger>(
 /// The text of a scan.
 fn scan_text<S: Source, L: Ledger>(
     alloc: Global,
+    words: &[String],
     asked: &Asked,
     source: &mut S,
     steps: &mut Steps<L>,
 ) -> Result<Vec<u8>, Error>
     ensures keeps { Keeps S.Source source.old source.new }
+    ensures untouched { IfSome (sample_in words.now) (λ _. source.new ≡ source.old) }
     ensures ticks { steps.old ≤ steps.new }
-    ensures text { IfOk result (λ text.
-        Reports (command_of asked.now) (S.told source.old) (lent_between steps.old steps.new)
-        (λ found. found ≡ text.items)) }
-    ensures most_pages { IfOk result (λ _. OnFile (S.told source.old)
-        (λ file. steps.new ≤ steps.old + most_pages (command_of asked.now).request file)) }
-    ensures taken { IfOk result (λ _. OnFile (S.told source.old)
-        (λ file. S.taken source.new ≤ S.taken source.old + most_bytes (command_of asked.now).request file)) }
-    ensures refuses { IfErr result
-        (Refuses (command_of asked.now).request (S.told source.old) (S.faults source.old) (S.faults source.new)) }
+    ensures text { let told = told_by words.now (S.told source.old) in
+        IfOk result (λ text.
+        Reports (command_of asked.now) told (lent_between steps.old steps.new) (λ found. found ≡ text.items)) }
+    ensures most_pages { let told = told_by words.now (S.told source.old) in
+        IfOk result (λ _. OnFile told (λ file.
+        steps.new ≤ steps.old + most_pages (command_of asked.now).request file)) }
+    ensures taken { let told = told_by words.now (S.told source.old) in
+        IfOk result (λ _. OnFile told (λ file.
+        S.taken source.new ≤ S.taken source.old + most_bytes (command_of asked.now).request file)) }
+    ensures refuses { let told = told_by words.now (S.told source.old) in
+        let before = faults_by words.now (S.faults source.old) in
+        let now = faults_by words.now (S.faults source.new) in
+        IfErr result (Refuses (command_of asked.now).request told before now) }
+    ensures too_great { IfSome (sample_in words.now) (λ sample. IsTrue (is_too_great sample)
+        → IsErrAnd result (λ e. e ≡ InvalidArgumentError Request)) }
 {
-    let scan = scan_where(
-        alloc,
-        source,
-        &asked.schema,
-        asked.bounds.as_slice(),
-        asked.chunk_size,
-        asked.limit,
-        steps,
-    )?;
+    let scan = scan_file(alloc, words, asked, source, steps)?;
     report(alloc, asked.summary, &scan)
 }
 

@@ -1,0 +1,105 @@
+//! Scans of the file that the words name.
+ghost use Rattle.std.specs.Prelude.{◌≡◌, ◌+◌, ◌≤◌, IfErr, IfOk, IfSome, IsTrue};
+ghost use Rattle.std.specs.Result.{IsErrAnd};
+ghost use Rattle.columns_core.specs.declared.error.Error.TheVariants.{InvalidArgumentError};
+ghost use Rattle.columns_core.specs.declared.error.Part.TheVariants.{Request};
+ghost use Rattle.parquet_meta.specs.Keeps.{Keeps};
+ghost use Rattle.parquet_scan.specs.Costs.{most_bytes, most_pages};
+ghost use Rattle.parquet_scan.specs.Scan.{Answers, OnFile, Refuses};
+ghost use Rattle.scan_program.specs.Parsed.{command_of};
+ghost use Rattle.scan_program.specs.Program.{lent_between};
+ghost use Rattle.scan_program.specs.Sampled.{faults_by, is_too_great, sample_bytes, sample_in, told_by};
+
+use crate::command::Asked;
+use crate::sampled::sample_named;
+use columns_core::Error;
+use parquet_base::Steps;
+use parquet_meta::{MemorySource, Source};
+use parquet_sample::sample_file;
+use parquet_scan::{Scan, scan_where};
+use std::alloc::Global;
+use std::sync::ledger::Ledger;
+
+/// Scans the sample that the first word names or, where it names none, the source.
+pub(crate) fn scan_file<S: Source, L: Ledger>(
+    alloc: Global,
+    words: &[String],
+    asked: &Asked,
+    source: &mut S,
+    steps: &mut Steps<L>,
+) -> Result<Scan, Error>
+    ensures keeps { Keeps S.Source source.old source.new }
+    ensures untouched { IfSome (sample_in words.now) (λ _. source.new ≡ source.old) }
+    ensures ticks { steps.old ≤ steps.new }
+    ensures answers { let told = told_by words.now (S.told source.old) in
+        IfOk result (Answers (command_of asked.now).request told) }
+    ensures pages { IfOk result (λ scan. scan.pages ≡ lent_between steps.old steps.new) }
+    ensures most_pages { let told = told_by words.now (S.told source.old) in
+        IfOk result (λ _. OnFile told (λ file.
+        steps.new ≤ steps.old + most_pages (command_of asked.now).request file)) }
+    ensures taken { let told = told_by words.now (S.told source.old) in
+        IfOk result (λ _. OnFile told (λ file.
+        S.taken source.new ≤ S.taken source.old + most_bytes (command_of asked.now).request file)) }
+    ensures refuses { let told = told_by words.now (S.told source.old) in
+        let before = faults_by words.now (S.faults source.old) in
+        let now = faults_by words.now (S.faults source.new) in
+        IfErr result (Refuses (command_of asked.now).request told before now) }
+    ensures too_great { IfSome (sample_in words.now) (λ sample.
+        IsTrue (is_too_great sample) → IsErrAnd result (λ e. e ≡ InvalidArgumentError Request)) }
+{
+    match sample_named(words) {
+        Some(sample) => scan_sample(alloc, sample, asked, steps),
+        None => scan_source(alloc, asked, source, steps),
+    }
+}
+
+/// Scans a sample, whose bytes are there as long as this takes.
+fn scan_sample<L: Ledger>(
+    alloc: Global,
+    sample: (u32, u32),
+    asked: &Asked,
+    steps: &mut Steps<L>,
+) -> Result<Scan, Error>
+    ensures ticks { steps.old ≤ steps.new }
+    ensures answers { IfOk result (Answers (command_of asked.now).request (sample_bytes sample)) }
+    ensures pages { IfOk result (λ scan. scan.pages ≡ lent_between steps.old steps.new) }
+    ensures most_pages { IfOk result (λ _. OnFile (sample_bytes sample)
+        (λ file. steps.new ≤ steps.old + most_pages (command_of asked.now).request file)) }
+    ensures refuses { IfErr result (Refuses (command_of asked.now).request (sample_bytes sample) 0 0) }
+    ensures too_great { IsTrue (is_too_great sample)
+        → IsErrAnd result (λ e. e ≡ InvalidArgumentError Request) }
+{
+    let (rows, seed) = sample;
+    let mut source = MemorySource::new(sample_file(alloc, rows, seed)?);
+    scan_source(alloc, asked, &mut source, steps)
+}
+
+/// Scans a source.
+fn scan_source<S: Source, L: Ledger>(
+    alloc: Global,
+    asked: &Asked,
+    source: &mut S,
+    steps: &mut Steps<L>,
+) -> Result<Scan, Error>
+    ensures keeps { Keeps S.Source source.old source.new }
+    ensures ticks { steps.old ≤ steps.new }
+    ensures answers { IfOk result (Answers (command_of asked.now).request (S.told source.old)) }
+    ensures pages { IfOk result (λ scan. scan.pages ≡ lent_between steps.old steps.new) }
+    ensures most_pages { IfOk result (λ _. OnFile (S.told source.old)
+        (λ file. steps.new ≤ steps.old + most_pages (command_of asked.now).request file)) }
+    ensures taken { IfOk result (λ _. OnFile (S.told source.old)
+        (λ file. S.taken source.new ≤ S.taken source.old + most_bytes (command_of asked.now).request file)) }
+    ensures refuses { let faults = S.faults in
+        IfErr result
+        (Refuses (command_of asked.now).request (S.told source.old) (faults source.old) (faults source.new)) }
+{
+    scan_where(
+        alloc,
+        source,
+        &asked.schema,
+        asked.bounds.as_slice(),
+        asked.chunk_size,
+        asked.limit,
+        steps,
+    )
+}
