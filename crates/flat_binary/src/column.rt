@@ -3,17 +3,17 @@ ghost use Rattle.std.specs.Prelude.{◌≡◌, IfSome, None};
 ghost use Rattle.std.specs.Option.{option_copied};
 ghost use Rattle.columns_core.specs.declared.data_type.DataType.{out-DataType};
 ghost use Rattle.page_decoding.specs.Queue.{IsChunkSize};
-ghost use Rattle.parquet_meta.specs.declared.metadata.PhysicalType.TheVariants.{Boolean, FixedLenByteArray, Int32, Int64, Int96};
+ghost use Rattle.parquet_meta.specs.declared.metadata.PhysicalType.TheVariants.{Boolean, ByteArray, FixedLenByteArray, Int32, Int64, Int96};
 ghost use Rattle.parquet_page.specs.Lending.{DataPagesAre};
 ghost use Rattle.flat_values.specs.Arrays.{decoding_by};
-ghost use Rattle.flat_values.specs.Pairs.{from_boolean, from_fixed, from_int32, from_int64, from_int96};
+ghost use Rattle.flat_values.specs.Pairs.{from_boolean, from_byte_array, from_fixed, from_int32, from_int64, from_int96, from_physical};
 ghost use Rattle.flat_values.specs.Units.{unit_factor};
-ghost use Rattle.flat_binary.specs.Built.{collected_by};
 ghost use Rattle.flat_binary.specs.Collected.{Collects, IsNotBuilt};
 ghost use Rattle.flat_binary.specs.Left.{converted_left, decoded_left, supply_of};
 
 use crate::collect::collect_arrays;
 use crate::decoded::decoded_arrays;
+use binary_values::ByteValues;
 use columns_core::{Array, DataType, Error, IntervalUnit, Part, TimeUnit, days_ms};
 use flat_values::{
     ColumnArrays, DaysAndMillis, DaysToMillis, Decimals, FixedNumbers, FixedValues, Int96Time,
@@ -28,6 +28,8 @@ use std::collections::VecDeque;
 use std::sync::ledger::Ledger;
 
 /// The rows of pages, at most so many, in arrays of a type of values, and how many pages were lent, at most `usize::MAX`.
+///
+/// `NotYetImplemented` for nulls, for dictionaries and for a type that the stored one is not read as.
 pub fn collect_column<I: Pages, L: Ledger>(
     alloc: Global,
     pages: I,
@@ -41,11 +43,13 @@ pub fn collect_column<I: Pages, L: Ledger>(
     requires typed { DataPagesAre (λ page. page.type.physical_type ≡ physical) (I.to_come pages) }
     requires size { IsChunkSize chunk_size }
     requires fresh { I.lent_count pages ≡ 0 }
-    ensures collects { IfSome (collected_by physical (option_copied logical.entry) data_type) (λ rule.
+    ensures collects { let unit = option_copied logical.entry in
+        IfSome (from_physical physical unit (out-DataType data_type)) (λ rule.
         let supply = supply_of I.to_come I.causes I.row_count I.lent_count pages in
         let left = converted_left physical data_type chunk_size num_rows supply rule in
         Collects (λ found. found.0.items) (λ found. found.1) left result steps.old steps.new) }
-    ensures refused { let rule = collected_by physical (option_copied logical.entry) data_type in
+    ensures refused { let unit = option_copied logical.entry in
+        let rule = from_physical physical unit (out-DataType data_type) in
         rule ≡ None → IsNotBuilt result steps.old steps.new }
 {
     match physical {
@@ -62,9 +66,10 @@ pub fn collect_column<I: Pages, L: Ledger>(
         PhysicalType::FixedLenByteArray(length) => {
             collect_fixed(alloc, pages, length, data_type, chunk_size, num_rows, steps)
         }
-        PhysicalType::Float | PhysicalType::Double | PhysicalType::ByteArray => {
-            Err(Error::NotYetImplemented(Part::Schema))
+        PhysicalType::ByteArray => {
+            collect_byte_array(alloc, pages, data_type, chunk_size, num_rows, steps)
         }
+        PhysicalType::Float | PhysicalType::Double => Err(Error::NotYetImplemented(Part::Schema)),
     }
 }
 
@@ -296,6 +301,46 @@ fn collect_fixed<I: Pages, L: Ledger>(
         }
         DataType::Interval(IntervalUnit::DayTime) if length == 12 => {
             let values = FixedNumbers::<days_ms, DaysAndMillis>::new(DaysAndMillis);
+            collect_values(alloc, pages, values, data_type, chunk_size, num_rows, steps)
+        }
+        _ => Err(Error::NotYetImplemented(Part::Schema)),
+    }
+}
+
+/// Of strings that tell their own lengths.
+fn collect_byte_array<I: Pages, L: Ledger>(
+    alloc: Global,
+    pages: I,
+    data_type: DataType,
+    chunk_size: Option<usize>,
+    num_rows: usize,
+    steps: &mut Steps<L>,
+) -> Result<(VecDeque<Array>, usize), Error>
+    requires typed { DataPagesAre (λ page. page.type.physical_type ≡ ByteArray) (I.to_come pages) }
+    requires size { IsChunkSize chunk_size }
+    requires fresh { I.lent_count pages ≡ 0 }
+    ensures collects { IfSome (from_byte_array (out-DataType data_type)) (λ rule.
+        let supply = supply_of I.to_come I.causes I.row_count I.lent_count pages in
+        let left = converted_left ByteArray data_type chunk_size num_rows supply rule in
+        Collects (λ found. found.0.items) (λ found. found.1) left result steps.old steps.new) }
+    ensures refused { let rule = from_byte_array (out-DataType data_type) in
+        rule ≡ None → IsNotBuilt result steps.old steps.new }
+{
+    match &data_type {
+        DataType::Utf8 => {
+            let values = ByteValues::<i32>::new(true);
+            collect_values(alloc, pages, values, data_type, chunk_size, num_rows, steps)
+        }
+        DataType::LargeUtf8 => {
+            let values = ByteValues::<i64>::new(true);
+            collect_values(alloc, pages, values, data_type, chunk_size, num_rows, steps)
+        }
+        DataType::Binary => {
+            let values = ByteValues::<i32>::new(false);
+            collect_values(alloc, pages, values, data_type, chunk_size, num_rows, steps)
+        }
+        DataType::LargeBinary => {
+            let values = ByteValues::<i64>::new(false);
             collect_values(alloc, pages, values, data_type, chunk_size, num_rows, steps)
         }
         _ => Err(Error::NotYetImplemented(Part::Schema)),

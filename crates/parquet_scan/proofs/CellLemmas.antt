@@ -39,14 +39,14 @@ use Rattle.page_decoding.proofs.RowLemmas.{one_of-left, one_of-right}
 use Rattle.flat_values.specs.Agreement.{AreEntriesOf}
 use Rattle.flat_values.specs.Conversion.{Conversion, Item, Value}
 use Rattle.flat_values.specs.MostBytes.{most_bytes}
-use Rattle.flat_values.specs.Outcomes.{dictionary_cells, outcome_of, selected_outcomes}
+use Rattle.flat_values.specs.Outcomes.{outcome_of, selected_outcomes}
 use Rattle.flat_values.specs.Pairs.{conversion}
 use Rattle.flat_values.proofs.OutcomeLemmas.{cells_in-given}
 use Rattle.parquet_scan.specs.Causes.{begins_below, causes_of_chunk, causes_of_data, causes_of_dictionary, causes_of_walk, given_causes, has_dictionary, item_causes, pair_causes, piece_causes, row_causes, rows_held, walked_causes}
 use Rattle.parquet_scan.specs.Cells.{Reading, chunk_of, dictionary_content, item_among, item_in, items_in, rows_of, walked_item, walked_reading}
 use Rattle.parquet_scan.specs.Costs.{lent_of_chunk, with_dictionary_page}
 use Rattle.flat_binary.specs.PagesWanted.{pages_wanted}
-use Rattle.parquet_scan.specs.Decoded.{column_rows, pages_by, pages_for, rows_by}
+use Rattle.parquet_scan.specs.Decoded.{column_entries, column_rows, pages_by, pages_for, rows_by}
 use Rattle.parquet_scan.proofs.CauseLemmas.{TellsOf, then_next}
 use Rattle.parquet_scan.proofs.PageLemmas.{HasWrongFirst, IsOver, IsRefused, content_with, dictionary_first, first_taken, first_taken_wrong, items_many, page_given, page_refused, pair_rule, some_cause}
 use Rattle.parquet_scan.proofs.PieceLemmas.{AreUnder, IsGivenCut, bytes_as, bytes_if_there, cut-lengths, cut-map, given-cut, passes_in, pieces-as, pieces_fit, under-items, under-more, under-refused, under-take}
@@ -256,10 +256,10 @@ module _ (reading : Reading) (rule : Conversion) (entries : Option (List Cell)) 
   lent_pages pages = map (data_of reading.stored None) pages
 
   abbrev data_rows : List ChunkPage → List Cause → List Outcome
-  data_rows pages causes = rows (dictionary_cells rule reading.stored.physical_type) (selected_outcomes rule) entries (lent_pages pages) causes
+  data_rows pages causes = rows (column_entries reading.data_type rule reading.stored.physical_type) (selected_outcomes rule) entries (lent_pages pages) causes
 
   abbrev data_wanted : ℕ → List ChunkPage → List Content
-  data_wanted wanted pages = pages_wanted (dictionary_cells rule reading.stored.physical_type) (selected_outcomes rule) entries wanted (lent_pages pages)
+  data_wanted wanted pages = pages_wanted (column_entries reading.data_type rule reading.stored.physical_type) (selected_outcomes rule) entries wanted (lent_pages pages)
 
   -- Nothing is wrong with the pages that are opened for so many rows, nor behind all pages where these hold fewer, and each of the
   -- first items is a value.
@@ -412,7 +412,7 @@ module _ (stored : PrimitiveType) (data_type : DataType) (rule : Conversion) (pa
   walk_lent dictionary walk = behind_dictionary dictionary (lent_data stored walk)
 
   abbrev walk_rows : Dictionary → Walk → List Outcome
-  walk_rows dictionary walk = rows_by stored.physical_type (walk_lent dictionary walk).pages (walk_lent dictionary walk).causes rule
+  walk_rows dictionary walk = rows_by data_type stored.physical_type (walk_lent dictionary walk).pages (walk_lent dictionary walk).causes rule
 
   -- what is wrong with the first rows of pages that begin at a place
   abbrev walk_causes : Dictionary → ℕ → ℕ → Walk → List Cause
@@ -425,7 +425,7 @@ module _ (stored : PrimitiveType) (data_type : DataType) (rule : Conversion) (pa
   pub record IsWalkGiven (dictionary : Dictionary) (start wanted : ℕ) (walk : Walk) (cells : List Cell) : Type 0 where
     pub none : walk_causes dictionary start wanted walk ≡ []
     pub items : map (walk_item dictionary start walk) (range_with_len 0 wanted) ≡ map (λ cell. Some (Value cell)) cells
-    pub lent : length (pages_by stored.physical_type wanted (walk_lent dictionary walk).pages rule) ≡ with_dictionary_page dictionary (length (filter (begins_below wanted) (placed_pages start 0 walk.pages)))
+    pub lent : length (pages_by data_type stored.physical_type wanted (walk_lent dictionary walk).pages rule) ≡ with_dictionary_page dictionary (length (filter (begins_below wanted) (placed_pages start 0 walk.pages)))
 
   -- the causes of opened pages in their places are those of the pages
   opened_causes : (reading : Reading) (start more : ℕ) (pages : List ChunkPage)
@@ -629,8 +629,8 @@ module _ (told : Option (List ℕ)) (size : Option ℕ) (group : RowGroupMetaDat
 
   wanted_are : wanted ≡ take (length rows) (walk_rows stored_as data_type rule.0 rule.1 (chunk_dictionary chunk) walk)
   wanted_are =
-      ap (λ o. take (length rows) (option_map_or (rows_by stored_as.physical_type lent.pages lent.causes) o [])) rule.1
-      ∙ ap (λ (lent : Lent). take (length rows) (rows_by stored_as.physical_type lent.pages lent.causes rule.0)) lent_are
+      ap (λ o. take (length rows) (option_map_or (rows_by data_type stored_as.physical_type lent.pages lent.causes) o [])) rule.1
+      ∙ ap (λ (lent : Lent). take (length rows) (rows_by data_type stored_as.physical_type lent.pages lent.causes rule.0)) lent_are
 
   wanted_more : length rows ≡ suc (length rows - 1)
   wanted_more = omega (arith, is.some)
@@ -687,8 +687,8 @@ module _ (told : Option (List ℕ)) (size : Option ℕ) (group : RowGroupMetaDat
   told_lent given e = at told is.found where
     pages : length (pages_for stored_as data_type (length rows) lent.pages) ≡ with_dictionary_page (chunk_dictionary chunk) (length (filter (begins_below (length rows)) (pages_of_chunk column.num_values chunk)))
     pages =
-        ap (λ o. length (option_map_or (pages_by stored_as.physical_type (length rows) lent.pages) o [])) rule.1
-        ∙ ap (λ (lent : Lent). length (pages_by stored_as.physical_type (length rows) lent.pages rule.0)) lent_are
+        ap (λ o. length (option_map_or (pages_by data_type stored_as.physical_type (length rows) lent.pages) o [])) rule.1
+        ∙ ap (λ (lent : Lent). length (pages_by data_type stored_as.physical_type (length rows) lent.pages rule.0)) lent_are
         ∙ (chunk_given given e).lent
 
     at : (told : Option (List ℕ)) → IfSome told (λ bytes. option_map (bytes_at bytes) (chunk_of bytes group column) ≡ Some chunk)

@@ -1,30 +1,32 @@
 -- The arrays of a column, by the definitions of a scan.
 use Rattle.std.proofs.Common.{◌≡◌, ◌∙◌, ℕ, ◌+◌, ◌-◌, ◌^◌, ◌≤◌, Bool, true, false, List, [], ◌∷◌, length, map, take, Option, ap, ap₂, refl, subst, sym}
 use Rattle.std.proofs.lemmas.Bool.{and_parts, not-true}
-use Rattle.std.specs.Prelude.{◌&&◌, ◌||◌, not, is_some, min, All, None, Some, Result, Ok, Err, IfErr, IfOk, IfSome, OnOk, if◌then◌else◌, sum_by}
+use Rattle.std.specs.Prelude.{◌&&◌, not, is_some, min, All, None, Some, Result, Ok, Err, IfErr, IfOk, IfSome, OnOk, if◌then◌else◌, sum_by}
 use Rattle.std.specs.Option.{option_map_or}
 use Rattle.columns_core.specs.Array.{cells, data_type_of}
-use Rattle.columns_core.specs.Causes.{NotYetImplemented}
-use Rattle.columns_core.specs.Types.{Layer}
+use Rattle.columns_core.specs.Causes.{Cause, NotYetImplemented}
+use Rattle.columns_core.specs.Types.{Layer, value_type, value_type_at}
 use Rattle.columns_core.specs.declared.array.Array.{Array}
+use Rattle.columns_core.specs.declared.cell.Cell.{Cell}
 use Rattle.columns_core.specs.declared.data_type.DataType.{DataType, out-DataType}
 use Rattle.columns_core.specs.declared.data_type.DataType.TheOpen.{DataType-F}
 use Rattle.columns_core.specs.declared.error.Error.{Error}
 use Rattle.parquet_base.specs.Pieces.{cut}
 use Rattle.parquet_meta.specs.declared.metadata.PhysicalType.{PhysicalType}
-use Rattle.parquet_meta.specs.declared.metadata.PhysicalType.TheVariants.{Boolean, Int32, Int64, Int96, Float, Double, ByteArray, FixedLenByteArray}
 use Rattle.parquet_meta.specs.declared.metadata.PrimitiveLogicalType.{PrimitiveLogicalType}
 use Rattle.parquet_meta.specs.declared.metadata.PrimitiveType.{PrimitiveType}
-use Rattle.parquet_page.specs.Content.{Content, DataOf, DictOf}
+use Rattle.parquet_page.specs.Content.{Content, DataOf, DictContent, DictOf}
 use Rattle.parquet_page.specs.Lending.{AreOfType, DataPagesAre}
 use Rattle.page_decoding.specs.Bytes.{IsCausedByChunks, cell_bytes, fits_most}
+use Rattle.page_decoding.specs.Column.{rows as all_rows}
 use Rattle.page_decoding.specs.Outcome.{Given}
 use Rattle.flat_values.specs.Arrays.{decoding_by}
 use Rattle.flat_values.specs.ColumnLeft.{ColumnLeft, wanted}
 use Rattle.flat_values.specs.Conversion.{Conversion}
-use Rattle.flat_values.specs.MostBytes.{most_bytes, most_bytes_at}
-use Rattle.flat_values.specs.Pairs.{conversion, conversion_at, from_boolean, from_byte_array, from_fixed, from_int32, from_int64, from_int96, from_physical, is_repeated}
-use Rattle.flat_binary.specs.Built.{collected_by, is_built_pair, is_byte_array, is_dictionary, is_dictionary_at, is_null_at, is_null_type}
+use Rattle.flat_values.specs.MostBytes.{most_bytes}
+use Rattle.flat_values.specs.Outcomes.{fitted_by, selected_outcomes}
+use Rattle.flat_values.specs.Pairs.{conversion, conversion_at, from_physical, is_repeated}
+use Rattle.flat_binary.specs.Built.{is_dictionary, is_dictionary_at, is_null_at, is_null_type}
 use Rattle.flat_binary.specs.Collected.{AreCollected, Collects}
 use Rattle.flat_binary.specs.Left.{Supply, converted_left, decoded_left}
 use Rattle.flat_binary.specs.PagesWanted.{pages_wanted}
@@ -47,47 +49,24 @@ found_only false rule some = refl
 record IsCarried (stored : PrimitiveType) (data_type : DataType) : Type 0 where
   rule : conversion stored data_type ≡ from_physical stored.physical_type stored.logical_type (out-DataType data_type)
   some : is_some (from_physical stored.physical_type stored.logical_type (out-DataType data_type)) ≡ true
-  built : is_byte_array stored.physical_type ≡ false
+  own_values : value_type data_type ≡ data_type
+
+-- a type that is no dictionary's is that of its own values
+own_type : (data_type : DataType) (layer : Layer) → is_dictionary_at layer ≡ false → value_type_at data_type layer ≡ data_type
+own_type data_type (DataType-F.Dictionary key entry ordered) value = cc
+own_type data_type layer value = refl
 
 is_carried : (stored : PrimitiveType) (data_type : DataType) → pair_causes stored data_type ≡ [] → is_null_type data_type ≡ false → IsCarried stored data_type
 is_carried stored data_type none present =
-    let carried = and_parts (is_built_pair stored data_type) (is_some (conversion stored data_type)) (none_of (is_built_pair stored data_type && is_some (conversion stored data_type)) NotYetImplemented none) in
-    let values = and_parts (not (is_byte_array stored.physical_type)) (not (is_dictionary data_type)) (sym (ap (λ nulls. nulls || (not (is_byte_array stored.physical_type) && not (is_dictionary data_type))) present) ∙ carried.0) in
+    let carried = and_parts (not (is_dictionary data_type)) (is_some (conversion stored data_type)) (none_of (not (is_dictionary data_type) && is_some (conversion stored data_type)) NotYetImplemented none) in
+    let value = not-true (is_dictionary data_type) carried.0 in
     let only = found_only (is_repeated stored.repetition) (conversion_at stored.physical_type stored.logical_type (out-DataType data_type)) carried.1 in
-    let rule = only ∙ as_values stored.physical_type stored.logical_type (out-DataType data_type) present (not-true (is_dictionary data_type) values.1) in
+    let rule = only ∙ as_values stored.physical_type stored.logical_type (out-DataType data_type) present value in
     record {
       rule = rule;
       some = sym (ap is_some rule) ∙ carried.1;
-      built = not-true (is_byte_array stored.physical_type) values.0;
+      own_values = own_type data_type (out-DataType data_type) value;
     }
-
--- ---- types with places for bytes
-
-none_some : (rule : Option Conversion) → rule ≡ None → is_some rule ≡ true → ⊥
-none_some rule none some = absurd_of (sym (ap is_some none) ∙ some) where
-  absurd_of : false ≡ true → ⊥
-  absurd_of e = cc
-
--- a type that byte strings alone are read as
-only_bytes : (layer : Layer) → from_boolean layer ≡ None → from_int32 layer ≡ None → ((logical : Option PrimitiveLogicalType) → from_int64 logical layer ≡ None) → from_int96 layer ≡ None → ((size : ℕ) → from_fixed size layer ≡ None)
-    → (physical : PhysicalType) (logical : Option PrimitiveLogicalType) → is_byte_array physical ≡ false → is_some (from_physical physical logical layer) ≡ true → ⊥
-only_bytes layer boolean int32 int64 int96 fixed Boolean logical built some = none_some (from_boolean layer) boolean some
-only_bytes layer boolean int32 int64 int96 fixed Int32 logical built some = none_some (from_int32 layer) int32 some
-only_bytes layer boolean int32 int64 int96 fixed Int64 logical built some = none_some (from_int64 logical layer) (int64 logical) some
-only_bytes layer boolean int32 int64 int96 fixed Int96 logical built some = none_some (from_int96 layer) int96 some
-only_bytes layer boolean int32 int64 int96 fixed Float logical built some = none_some None refl some
-only_bytes layer boolean int32 int64 int96 fixed Double logical built some = none_some None refl some
-only_bytes layer boolean int32 int64 int96 fixed ByteArray logical built some = no_true built where
-  no_true : true ≡ false → ⊥
-  no_true e = cc
-only_bytes layer boolean int32 int64 int96 fixed (FixedLenByteArray size) logical built some = none_some (from_fixed size layer) (fixed size) some
-
-no_most : (physical : PhysicalType) (logical : Option PrimitiveLogicalType) (layer : Layer) → is_byte_array physical ≡ false → is_some (from_physical physical logical layer) ≡ true → most_bytes_at layer ≡ None
-no_most physical logical DataType-F.Utf8 built some = absurd (only_bytes DataType-F.Utf8 refl refl (λ _. refl) refl (λ _. refl) physical logical built some)
-no_most physical logical DataType-F.LargeUtf8 built some = absurd (only_bytes DataType-F.LargeUtf8 refl refl (λ _. refl) refl (λ _. refl) physical logical built some)
-no_most physical logical DataType-F.Binary built some = absurd (only_bytes DataType-F.Binary refl refl (λ _. refl) refl (λ _. refl) physical logical built some)
-no_most physical logical DataType-F.LargeBinary built some = absurd (only_bytes DataType-F.LargeBinary refl refl (λ _. refl) refl (λ _. refl) physical logical built some)
-no_most physical logical layer built some = refl
 
 -- ---- what is left of a column
 
@@ -101,19 +80,23 @@ pub record IsWhole (stored : PrimitiveType) (data_type : DataType) (size : Optio
   pub lent : left.lent ≡ supply.lent
 
 chosen : (found : Option Conversion) → is_some found ≡ true → (rule : Conversion) × (found ≡ Some rule)
-chosen None some = absurd (none_some None refl some)
+chosen None some = absurd cc
 chosen (Some rule) some = (rule, refl)
 
-whole_by : (stored : PrimitiveType) (data_type : DataType) (size : Option ℕ) (rows : ℕ) (supply : Supply) (rule : Conversion) → most_bytes data_type ≡ None → conversion stored data_type ≡ Some rule
-    → IsWhole stored data_type size rows supply (decoded_left (decoding_by None rule stored.physical_type) data_type size rows supply)
-whole_by stored data_type size rows supply rule none converted = record {
-  typed = refl;
-  most = sym none;
-  cut_by = refl;
-  rows_left = ap (λ found. take rows (option_map_or (rows_by stored.physical_type supply.pages supply.causes) found [])) (sym converted);
-  pages_left = ap (λ found. option_map_or (pages_by stored.physical_type rows supply.pages) found []) (sym converted);
-  lent = refl;
-}
+whole_by : (stored : PrimitiveType) (data_type : DataType) (size : Option ℕ) (rows : ℕ) (supply : Supply) (rule : Conversion) → value_type data_type ≡ data_type → conversion stored data_type ≡ Some rule
+    → IsWhole stored data_type size rows supply (converted_left stored.physical_type data_type size rows supply rule)
+whole_by stored data_type size rows supply rule own converted =
+    let entries : DataType → DictContent → Result (List Cell) (List Cause) = λ type. fitted_by (most_bytes type) rule stored.physical_type in
+    record {
+      typed = refl;
+      most = refl;
+      cut_by = refl;
+      rows_left = ap (λ type. take rows (all_rows (entries type) (selected_outcomes rule) None supply.pages supply.causes)) (sym own)
+          ∙ ap (λ found. take rows (option_map_or (rows_by data_type stored.physical_type supply.pages supply.causes) found [])) (sym converted);
+      pages_left = ap (λ type. pages_wanted (entries type) (selected_outcomes rule) None rows supply.pages) (sym own)
+          ∙ ap (λ found. option_map_or (pages_by data_type stored.physical_type rows supply.pages) found []) (sym converted);
+      lent = refl;
+    }
 
 -- A column of a pair that is carried has a conversion, and is read by it.
 pub is_whole : (stored : PrimitiveType) (data_type : DataType) (size : Option ℕ) (rows : ℕ) (supply : Supply) → pair_causes stored data_type ≡ [] → is_null_type data_type ≡ false
@@ -121,9 +104,7 @@ pub is_whole : (stored : PrimitiveType) (data_type : DataType) (size : Option �
 is_whole stored data_type size rows supply none present =
     let carried = is_carried stored data_type none present in
     let pair = chosen (from_physical stored.physical_type stored.logical_type (out-DataType data_type)) carried.some in
-    let most = no_most stored.physical_type stored.logical_type (out-DataType data_type) carried.built carried.some in
-    let P : Option ℕ → Type 0 = λ most. IsWhole stored data_type size rows supply (decoded_left (decoding_by most pair.0 stored.physical_type) data_type size rows supply) in
-    (pair.0, (pair.1, subst P (sym most) (whole_by stored data_type size rows supply pair.0 most (carried.rule ∙ pair.1))))
+    (pair.0, (pair.1, whole_by stored data_type size rows supply pair.0 carried.own_values (carried.rule ∙ pair.1)))
 
 -- pages of a column have its type
 pub of_type : (stored : PrimitiveType) (pages : List Content) → AreOfType stored pages → DataPagesAre (λ page. page.type.physical_type ≡ stored.physical_type) pages
@@ -176,14 +157,13 @@ decoded_by arrays count stored data_type size rows supply left result steps step
 -- A column of a pair that is carried, collected by its conversion.
 pub is_decoded : {X : Type 0} (arrays : X → List Array) (count : X → ℕ) (stored : PrimitiveType) (data_type own : DataType) (logical : Option PrimitiveLogicalType) (size : Option ℕ) (rows : ℕ) (supply : Supply) (result : Result X Error) (steps steps_now : ℕ)
     → pair_causes stored data_type ≡ [] → is_null_type data_type ≡ false → logical ≡ stored.logical_type → own ≡ data_type
-    → IfSome (collected_by stored.physical_type logical own) (λ rule. Collects arrays count (converted_left stored.physical_type own size rows supply rule) result steps steps_now)
+    → IfSome (from_physical stored.physical_type logical (out-DataType own)) (λ rule. Collects arrays count (converted_left stored.physical_type own size rows supply rule) result steps steps_now)
     → IsDecoded arrays count stored data_type size rows supply result steps steps_now
 is_decoded arrays count stored data_type own logical size rows supply result steps steps_now none present same copy collects =
     let pair = is_whole stored data_type size rows supply none present in
-    let W : DataType → Type 0 = λ type. IfSome (collected_by stored.physical_type logical type) (λ rule. Collects arrays count (converted_left stored.physical_type type size rows supply rule) result steps steps_now) in
+    let W : DataType → Type 0 = λ type. IfSome (from_physical stored.physical_type logical (out-DataType type)) (λ rule. Collects arrays count (converted_left stored.physical_type type size rows supply rule) result steps steps_now) in
     let R : Conversion → Type 0 = λ rule. Collects arrays count (converted_left stored.physical_type data_type size rows supply rule) result steps steps_now in
     let L : Option PrimitiveLogicalType → Type 0 = λ logical. IfSome (from_physical stored.physical_type logical (out-DataType data_type)) R in
-    let B : Bool → Type 0 = λ bytes. IfSome (if bytes then None else from_physical stored.physical_type logical (out-DataType data_type)) R in
-    let found : IfSome (from_physical stored.physical_type stored.logical_type (out-DataType data_type)) R = subst L same (subst B (is_carried stored data_type none present).built (subst W copy collects)) in
+    let found : IfSome (from_physical stored.physical_type stored.logical_type (out-DataType data_type)) R = subst L same (subst W copy collects) in
     let by : R pair.0 = subst (λ rule. IfSome rule R) pair.1.0 found in
     decoded_by arrays count stored data_type size rows supply (converted_left stored.physical_type data_type size rows supply pair.0) result steps steps_now pair.1.1 by

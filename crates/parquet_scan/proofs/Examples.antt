@@ -1,19 +1,22 @@
 -- Worked examples of the definitions.
 use Rattle.std.proofs.Common.{◌≡◌, ℕ, ◌<◌, pos, true, false, List, [], ◌∷◌, Some, None, refl, ap}
 use Rattle.std.specs.Prelude.{codes}
+use Rattle.std.specs.Str.{chars, is_utf8}
 use Rattle.std.proofs.lemmas.Bool.{lt-ltb}
 use denote.Hole.Carrier
 use Rattle.columns_core.specs.Causes.{NotYetImplemented, OutOfSpec, Overflow}
 use Rattle.columns_core.specs.declared.cell.Cell.{Int, Null, Text}
 use Rattle.columns_core.specs.declared.data_type.DataType as type
+use Rattle.columns_core.specs.declared.data_type.DataType.{DataType}
 use Rattle.columns_core.specs.declared.data_type.Field.{Field}
+use Rattle.columns_core.specs.declared.data_type.IntegerType.TheVariants as integer
 use Rattle.columns_core.specs.declared.data_type.TimeUnit.TheVariants.{Nanosecond}
 use Rattle.parquet_base.specs.Bytes.{little_endian}
 use Rattle.parquet_base.specs.Reading.{given}
 use Rattle.parquet_base.specs.Varint.{varint, varint_within}
 use Rattle.parquet_encoding.specs.Bits.{packed}
 use Rattle.parquet_encoding.specs.Hybrid.{hybrid, runs, first_run}
-use Rattle.parquet_encoding.specs.Plain.{plain_fixed}
+use Rattle.parquet_encoding.specs.Plain.{first_string, plain_bytes, plain_fixed}
 use Rattle.parquet_meta.specs.declared.metadata.ColumnChunkMetaData.{ColumnChunkMetaData}
 use Rattle.parquet_meta.specs.declared.metadata.ParquetTimeUnit.TheVariants.{Milliseconds}
 use Rattle.parquet_meta.specs.declared.metadata.PhysicalType.{PhysicalType}
@@ -30,6 +33,7 @@ use Rattle.parquet_page.specs.Spelling.{page_keys, places_and_values, spelled}
 use Rattle.parquet_page.specs.Values.{dictionary_keys, plain_values}
 use Rattle.flat_values.specs.Conversion.{Value}
 use Rattle.flat_values.specs.Items.{page_items}
+use Rattle.flat_values.specs.Outcomes.{dictionary_cells}
 use Rattle.parquet_scan.specs.declared.bound.Scalar.{Scalar}
 use Rattle.parquet_scan.specs.declared.bound.Scalar.TheVariants as scalar
 use Rattle.parquet_scan.specs.Bound.{meets, keeps}
@@ -158,11 +162,44 @@ before_the_chunk = refl
 past_the_chunk : dictionary_before 10 (1 ∷ 2 ∷ []) (record { offset = pos 13; compressed_page_size = pos 8; first_row_index = pos 0 } ∷ []) ≡ Undefined
 past_the_chunk = refl
 
+-- ---- texts and byte strings
+
+-- one byte that is no text, as a text and as a byte string
+abbrev no_text : DataType → Dictionary → Reading
+no_text data_type dictionary = record { stored = stored_as ByteArray; dictionary = dictionary; data_type = data_type }
+
+abbrev one_byte : List PlacedPage
+one_byte = record { start = 0; first_row = 0; page = record { size = 22; header = V1 1 (pos 0) (pos 3); body = 1 ∷ 0 ∷ 0 ∷ 0 ∷ 255 ∷ [] } } ∷ []
+
+abbrev one_entry : Dictionary
+one_entry = Defined (record { size = 18; num_values = 1; encoding = pos 0; body = 1 ∷ 0 ∷ 0 ∷ 0 ∷ 255 ∷ [] })
+
+as_text : row_causes (item_among (no_text type.Utf8 NoDictionary) one_byte) (0 ∷ []) ≡ OutOfSpec ∷ []
+unfolding type.out-DataType denote.Hole.Carrier.out page_items spelled places_and_values prefixed_parts presence plain_values plain_bytes first_string little_endian is_utf8 chars
+as_text = refl
+
+as_bytes : row_causes (item_among (no_text type.Binary NoDictionary) one_byte) (0 ∷ []) ≡ []
+unfolding type.out-DataType denote.Hole.Carrier.out page_items spelled places_and_values prefixed_parts presence plain_values plain_bytes first_string little_endian
+as_bytes = refl
+
+-- All entries are judged, whether a key names them or not.
+entry_as_text : causes_of_dictionary (no_text type.Utf8 one_entry) one_entry ≡ OutOfSpec ∷ []
+unfolding type.out-DataType denote.Hole.Carrier.out dictionary_cells plain_values plain_bytes first_string little_endian is_utf8 chars
+entry_as_text = refl
+
+entry_as_bytes : causes_of_dictionary (no_text type.Binary one_entry) one_entry ≡ []
+unfolding type.out-DataType denote.Hole.Carrier.out dictionary_cells plain_values plain_bytes first_string little_endian
+entry_as_bytes = refl
+
 -- ---- pairs of types
 
-bytes_as_text : pair_causes (stored_as ByteArray) type.Utf8 ≡ NotYetImplemented ∷ []
+bytes_as_text : pair_causes (stored_as ByteArray) type.Utf8 ≡ []
 unfolding type.out-DataType denote.Hole.Carrier.out
 bytes_as_text = refl
+
+texts_by_keys : pair_causes (stored_as ByteArray) (type.Dictionary integer.Int32 type.Utf8 false) ≡ NotYetImplemented ∷ []
+unfolding type.out-DataType denote.Hole.Carrier.out
+texts_by_keys = refl
 
 bytes_as_nulls : pair_causes (stored_as ByteArray) type.Null ≡ []
 unfolding type.out-DataType denote.Hole.Carrier.out

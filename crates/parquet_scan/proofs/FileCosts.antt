@@ -16,7 +16,7 @@ use Rattle.parquet_meta.specs.declared.metadata.ColumnChunkMetaData.{ColumnChunk
 use Rattle.parquet_meta.specs.declared.metadata.FileMetaData.{FileMetaData}
 use Rattle.parquet_meta.specs.declared.metadata.RowGroupMetaData.{RowGroupMetaData}
 use Rattle.parquet_scan.specs.Causes.{IsValid}
-use Rattle.parquet_scan.specs.Costs.{all_index_bytes, bytes_behind_footer, index_bytes, lent_of_column, lent_of_group, lent_of_read, most_bytes, most_of_column, most_of_group, most_of_read, most_pages, offset_index_of, pages_lent, taken_of_column, taken_of_group}
+use Rattle.parquet_scan.specs.Costs.{all_index_bytes, bytes_behind_footer, index_bytes, lent_of_column, lent_of_group, lent_of_read, most_bytes_taken, most_of_column, most_of_group, most_of_read, most_pages, offset_index_of, pages_lent, taken_of_column, taken_of_group}
 use Rattle.parquet_scan.specs.Counting.{are_shaped, column_taken, columns_taken, indexes_taken, indexes_taken_of_groups, is_read, is_shaped, lent_of_groups, taken_if_read, taken_of_groups}
 use Rattle.parquet_scan.specs.Request.{Request, is_legal}
 use Rattle.parquet_scan.specs.Rows.{File, column_named, file_of, file_with, first_rows, gives_rows, group_counts, groups_of, groups_read, intervals, kept, kept_rows, pages_keep, prunes_pages}
@@ -278,7 +278,7 @@ at_most request metadata (Ok x) (Some bytes) before now k = omega (arith, k, few
 
 pub all_taken : {X : Type 0} (request : Request) (metadata : FileMetaData) (r : Result X Error) (told : Option (List ℕ)) (before mid now : ℕ) → mid ≤ before + most_taken told
     → OnOk r (RisesBy told mid now (λ bytes. bytes_behind_footer request (file_with bytes metadata)))
-    → IfOk r (λ _. IfSome told (λ bytes. now ≤ before + most_bytes request (file_with bytes metadata)))
+    → IfOk r (λ _. IfSome told (λ bytes. now ≤ before + most_bytes_taken request (file_with bytes metadata)))
 all_taken request metadata (Err e) told before mid now first k = tt
 all_taken request metadata (Ok x) None before mid now first k = tt
 all_taken request metadata (Ok x) (Some bytes) before mid now first k = omega (arith, first, k)

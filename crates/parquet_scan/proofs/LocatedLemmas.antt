@@ -32,13 +32,13 @@ use Rattle.page_decoding.specs.Column.{entries_behind, followed_by, page_rows, r
 use Rattle.page_decoding.specs.Outcome.{Outcome, Given, Refused, causes_in}
 use Rattle.flat_values.specs.Agreement.{AreEntriesOf}
 use Rattle.flat_values.specs.Conversion.{Conversion, Item, Value}
-use Rattle.flat_values.specs.Outcomes.{dictionary_cells, outcome_of, selected_outcomes}
+use Rattle.flat_values.specs.Outcomes.{outcome_of, selected_outcomes}
 use Rattle.flat_values.specs.Pairs.{conversion}
 use Rattle.parquet_scan.specs.Causes.{causes_of_data, causes_of_dictionary, causes_of_found, causes_of_opened, has_dictionary, is_opened, opened_located}
 use Rattle.parquet_scan.specs.Cells.{Reading, dictionary_content, item_at, item_located, items_in, named_page}
 use Rattle.parquet_scan.specs.Costs.{with_dictionary_page}
 use Rattle.flat_binary.specs.PagesWanted.{pages_wanted}
-use Rattle.parquet_scan.specs.Decoded.{pages_by, rows_by}
+use Rattle.parquet_scan.specs.Decoded.{column_entries, pages_by, rows_by}
 use Rattle.parquet_scan.specs.Located.{entry_part, entry_place, part_in}
 use Rattle.parquet_scan.proofs.CellLemmas.{causes_behind, causes_if_there, items_there, map_rows}
 use Rattle.parquet_scan.proofs.PageLemmas.{HasWrongItem, IsOver, IsRefused, content_with, dictionary_first, first_given, first_wrong, items_many, page_given, page_refused, some_cause}
@@ -337,19 +337,19 @@ module _ (reading : Reading) (rule : Conversion) (entries : Option (List Cell)) 
   lent parts = lent_parts reading.stored parts
 
   abbrev rows_over : Lent → List Outcome
-  rows_over others = rows (dictionary_cells rule reading.stored.physical_type) (selected_outcomes rule) entries others.pages others.causes
+  rows_over others = rows (column_entries reading.data_type rule reading.stored.physical_type) (selected_outcomes rule) entries others.pages others.causes
 
   abbrev pages_over : ℕ → Lent → List Content
-  pages_over wanted others = pages_wanted (dictionary_cells rule reading.stored.physical_type) (selected_outcomes rule) entries wanted others.pages
+  pages_over wanted others = pages_wanted (column_entries reading.data_type rule reading.stored.physical_type) (selected_outcomes rule) entries wanted others.pages
 
   -- where the first page has a row that is wanted, it is lent, and others for what is wanted behind it
-  one_lent : (page : Content) (pages : List Content) (own rest : ℕ) → 0 < own → length (page_rows (dictionary_cells rule reading.stored.physical_type) (selected_outcomes rule) entries page) ≡ own → entries_behind (dictionary_cells rule reading.stored.physical_type) (selected_outcomes rule) entries page ≡ entries
+  one_lent : (page : Content) (pages : List Content) (own rest : ℕ) → 0 < own → length (page_rows (column_entries reading.data_type rule reading.stored.physical_type) (selected_outcomes rule) entries page) ≡ own → entries_behind (column_entries reading.data_type rule reading.stored.physical_type) (selected_outcomes rule) entries page ≡ entries
       → length (pages_over (own + rest) (record { pages = page ∷ pages; causes = [] })) ≡ suc (length (pages_over rest (record { pages = pages; causes = [] })))
   one_lent page pages own rest some long same =
       let more : own + rest ≡ suc (own + rest - 1) = omega (arith, some) in
       let left : suc (own + rest - 1) - own ≡ rest = omega (arith, some) in
       ap (λ n. length (pages_over n (record { pages = page ∷ pages; causes = [] }))) more
-      ∙ (λ i. suc (length (pages_wanted (dictionary_cells rule reading.stored.physical_type) (selected_outcomes rule) (same i) (suc (own + rest - 1) - long i) pages)))
+      ∙ (λ i. suc (length (pages_wanted (column_entries reading.data_type rule reading.stored.physical_type) (selected_outcomes rule) (same i) (suc (own + rest - 1) - long i) pages)))
       ∙ ap (λ n. suc (length (pages_over n (record { pages = pages; causes = [] })))) left
 
   -- Nothing is wrong with the pages of parts, and each item of theirs that is selected is a value.
@@ -497,7 +497,7 @@ module _ (reading : Reading) (rule : Conversion) (entries : Option (List Cell)) 
 
 module _ (reading : Reading) (rule : Conversion) (pair : conversion reading.stored reading.data_type ≡ Some rule) where
   abbrev rows_lent : List (FilteredPage × List ℕ) → List Outcome
-  rows_lent parts = rows_by reading.stored.physical_type (located_lent reading.stored reading.dictionary parts).pages (located_lent reading.stored reading.dictionary parts).causes rule
+  rows_lent parts = rows_by reading.data_type reading.stored.physical_type (located_lent reading.stored reading.dictionary parts).pages (located_lent reading.stored reading.dictionary parts).causes rule
 
   -- Nothing is wrong with the pages of parts nor with the dictionary, and each item that is selected is a value.
   pub record AreLocatedGiven (parts : List (FilteredPage × List ℕ)) : Type 0 where
@@ -505,7 +505,7 @@ module _ (reading : Reading) (rule : Conversion) (pair : conversion reading.stor
     pub none : causes_of_opened reading (pages_of parts) ≡ []
     pub outcomes : rows_lent parts ≡ map Given cells
     pub items : parts_items reading parts ≡ cells_as cells
-    pub lent_all : length (pages_by reading.stored.physical_type (length cells) (located_lent reading.stored reading.dictionary parts).pages rule) ≡ with_dictionary_page reading.dictionary (length parts)
+    pub lent_all : length (pages_by reading.data_type reading.stored.physical_type (length cells) (located_lent reading.stored reading.dictionary parts).pages rule) ≡ with_dictionary_page reading.dictionary (length parts)
 
   pub located_given : (parts : List (FilteredPage × List ℕ)) → list_all is_shaped_part parts ≡ true → AllByRecursion IsSomePart parts → causes_in (rows_lent parts) ≡ [] → AreLocatedGiven parts
   unfolding located_lent
@@ -522,7 +522,7 @@ module _ (reading : Reading) (rule : Conversion) (pair : conversion reading.stor
           length-map (rows_of part.0.selected_rows) (λ row. option_and_then (item_at reading row) (wanted_page part.0 part.1)),
           length-append (part_items reading part) (parts_items reading others),
         ) in
-        let P : ℕ → Type 0 = λ n. length (pages_by reading.stored.physical_type n (behind_dictionary reading.dictionary (lent_parts reading.stored (part ∷ others))).pages rule) ≡ with_dictionary_page reading.dictionary (length (part ∷ others)) in
+        let P : ℕ → Type 0 = λ n. length (pages_by reading.data_type reading.stored.physical_type n (behind_dictionary reading.dictionary (lent_parts reading.stored (part ∷ others))).pages rule) ≡ with_dictionary_page reading.dictionary (length (part ∷ others)) in
         record {
           cells = parts.cells;
           none = λ i. behind.none i ++ parts.none i;

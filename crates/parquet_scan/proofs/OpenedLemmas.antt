@@ -398,11 +398,11 @@ module _ (size : Option ℕ) (group : RowGroupMetaData) (column : ColumnChunkMet
     total = parts_count reading_before entries bodies read.counted ∙ selected_total group intervals list entries read.selected read.shaped
 
     -- all rows are wanted
-    wanted_are : wanted ≡ rows_by stored.physical_type lent.pages lent.causes rule.0
+    wanted_are : wanted ≡ rows_by data_type stored.physical_type lent.pages lent.causes rule.0
     wanted_are =
         let short = located_short reading_before rule.0 rule.1 parts parts_shaped parts_some in
-        ap (λ o. take (length (rows_of intervals)) (option_map_or (rows_by stored.physical_type lent.pages lent.causes) o [])) rule.1
-        ∙ take_all (length (rows_of intervals)) (rows_by stored.physical_type lent.pages lent.causes rule.0) (omega (arith, short.few, total))
+        ap (λ o. take (length (rows_of intervals)) (option_map_or (rows_by data_type stored.physical_type lent.pages lent.causes) o [])) rule.1
+        ∙ take_all (length (rows_of intervals)) (rows_by data_type stored.physical_type lent.pages lent.causes rule.0) (omega (arith, short.few, total))
 
     -- Nothing is wrong with what was opened of it, and the items of the parts are the cells of these pieces.
     record AreAllGiven (given : List (List Cell)) : Type 0 where
@@ -416,15 +416,15 @@ module _ (size : Option ℕ) (group : RowGroupMetaData) (column : ColumnChunkMet
     all_given given e =
         let pieces = given-cut size wanted given read.size_some e in
         let same = pieces.rows ∙ wanted_are in
-        let all = located_given reading_before rule.0 rule.1 parts parts_shaped parts_some (given-whole [] pieces.cells (rows_by stored.physical_type lent.pages lent.causes rule.0) same) in
+        let all = located_given reading_before rule.0 rule.1 parts parts_shaped parts_some (given-whole [] pieces.cells (rows_by data_type stored.physical_type lent.pages lent.causes rule.0) same) in
         let long : length (rows_of intervals) ≡ length all.cells = sym total ∙ ap length all.items ∙ length-map all.cells (λ cell. Some (Value cell)) in
         record {
           cells = pieces.cells;
           cut = pieces.cut;
           none = all.none;
           items = all.items ∙ ap cells_as (same_cells pieces.cells all.cells (same ∙ all.outcomes));
-          pages = ap (λ o. length (option_map_or (pages_by stored.physical_type (length (rows_of intervals)) lent.pages) o [])) rule.1
-              ∙ ap (λ n. length (pages_by stored.physical_type n lent.pages rule.0)) long ∙ all.lent_all;
+          pages = ap (λ o. length (option_map_or (pages_by data_type stored.physical_type (length (rows_of intervals)) lent.pages) o [])) rule.1
+              ∙ ap (λ n. length (pages_by data_type stored.physical_type n lent.pages rule.0)) long ∙ all.lent_all;
         }
 
     -- there is a cell for each row that is selected
@@ -483,7 +483,7 @@ module _ (size : Option ℕ) (group : RowGroupMetaData) (column : ColumnChunkMet
       let some = parts_some (Some bytes) read in
       let under : AreUnder wanted (map item (rows_of intervals)) = (let P : List Outcome → List (Option Item) → Type 0 = λ outcomes items. AreUnder outcomes items in
       subst (λ outcomes. P outcomes (map item (rows_of intervals))) (sym (wanted_are (Some bytes) read))
-      (subst (P (rows_by stored.physical_type lent.pages lent.causes rule.0)) (sym (items_are bytes read)) (located_short reading_before rule.0 rule.1 parts shaped some).under)) in
+      (subst (P (rows_by data_type stored.physical_type lent.pages lent.causes rule.0)) (sym (items_are bytes read)) (located_short reading_before rule.0 rule.1 parts shaped some).under)) in
       let items : causes_of_parts reading_before parts ≡ row_causes item (rows_of intervals) = ap (flat_map causes_if_there) (sym (items_are bytes read)) ∙ sym (rows_caused item (rows_of intervals)) in
       let among : (o : Option Cause) → IsOneOf (causes_in wanted) o → IsOneOf (causes_of_opened reading_before (pages_of parts) ++ row_causes item (rows_of intervals)) o
       = λ o one. subst (λ causes. IsOneOf (causes_of_opened reading_before (pages_of parts) ++ causes) o) items

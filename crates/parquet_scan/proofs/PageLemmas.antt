@@ -1,12 +1,13 @@
 -- What the pages of a column give, and what their items are.
 use Rattle.std.proofs.Common.{◌≡◌, ℕ, suc, ◌+◌, ◌-◌, Bool, true, false, List, [], ◌∷◌, ◌++◌, length, map, take, refl, sym, ◌∙◌, ap, subst, arith, inl, inr, append-nil}
-use Rattle.std.specs.Prelude.{◌&&◌, Option, Some, None, ◌⊎◌, is_some, option_map, unwrap_or, flat_map, IsSome, if◌then◌else◌, Result, Ok, Err, IfErr, IfOk, OnOk}
+use Rattle.std.specs.Prelude.{◌&&◌, not, Option, Some, None, ◌⊎◌, is_some, option_map, unwrap_or, flat_map, sum_by, IsSome, if◌then◌else◌, Result, Ok, Err, IfErr, IfOk, OnOk}
 use Rattle.std.specs.Option.{option_map_or}
 use Rattle.std.specs.Result.{result_ok}
 use Rattle.std.proofs.lemmas.List.{length-map, take-map}
 use Rattle.columns_core.specs.Causes.{Cause, ExternalFormat, NotYetImplemented, OutOfSpec, Overflow, IsOneOf, and_then, is_empty, unless}
 use Rattle.columns_core.specs.declared.cell.Cell.{Cell}
 use Rattle.columns_core.specs.declared.data_type.DataType.{DataType}
+use Rattle.columns_core.specs.Types.{value_type}
 use Rattle.parquet_base.specs.Reading.{◌>>=◌, given}
 use Rattle.parquet_base.specs.declared.interval.Interval.{Interval}
 use Rattle.parquet_encoding.proofs.StepLemmas.{bind_some, is_something, nothing_is, some_is}
@@ -21,6 +22,7 @@ use Rattle.parquet_page.specs.Selected.{selected_of}
 use Rattle.parquet_page.specs.Spelling.{dictionary_entries, has_plain_entries, header_encoding, is_keys, page_encoding, page_keys, places_and_values, spelled}
 use Rattle.parquet_page.specs.Stored.{Stored}
 use Rattle.parquet_page.specs.Values.{Encoding, Plain, Keys, DeltaPacked, DeltaLengths, dictionary_keys, encoding_of, unless_none, values_in}
+use Rattle.page_decoding.specs.Bytes.{cell_bytes, fits_most}
 use Rattle.page_decoding.specs.Column.{followed_by, rows}
 use Rattle.page_decoding.specs.Outcome.{Outcome, Given, Refused, all_given, causes_in, cells_in, page_outcomes, refusal_of, refused}
 use Rattle.page_decoding.proofs.FilteredLemmas.{places-length}
@@ -30,15 +32,16 @@ use Rattle.page_decoding.proofs.RowLemmas.{causes_in-append}
 use Rattle.flat_values.specs.Agreement.{AreEntriesOf}
 use Rattle.flat_values.specs.Conversion.{Conversion, Item, Value, NotInRange, NotText, convert_place}
 use Rattle.flat_values.specs.Items.{page_items}
-use Rattle.flat_values.specs.Outcomes.{dictionary_cells, outcome_of, place_outcomes, selected_outcomes, stored_outcome}
+use Rattle.flat_values.specs.MostBytes.{most_bytes}
+use Rattle.flat_values.specs.Outcomes.{dictionary_cells, fitted, outcome_of, place_outcomes, selected_outcomes, stored_outcome}
 use Rattle.flat_values.specs.Pairs.{conversion}
 use Rattle.flat_values.proofs.AgreementLemmas.{places_give_items, as_many, entries_converted}
 use Rattle.parquet_scan.specs.Causes.{causes_of_data, causes_of_defined, causes_of_dictionary, causes_of_entries, entry_count, has_dictionary, item_causes, pair_causes}
 use Rattle.parquet_scan.specs.Cells.{Reading, content_of, dictionary_content, items_in}
 use Rattle.parquet_scan.specs.Costs.{with_dictionary_page}
 use Rattle.flat_binary.specs.PagesWanted.{pages_wanted}
-use Rattle.parquet_scan.specs.Decoded.{pages_by, rows_by}
-use Rattle.flat_binary.specs.Built.{is_built_pair}
+use Rattle.parquet_scan.specs.Decoded.{column_entries, pages_by, rows_by}
+use Rattle.flat_binary.specs.Built.{is_dictionary}
 use Rattle.parquet_scan.proofs.CauseLemmas.{one_cases}
 use Rattle.flat_values.proofs.FlatLemmas.{selected-map}
 
@@ -118,7 +121,7 @@ items_many reading page items e =
 -- ---- a pair that is carried
 
 pub pair_rule : (stored : PrimitiveType) (data_type : DataType) → pair_causes stored data_type ≡ [] → (rule : Conversion) × (conversion stored data_type ≡ Some rule)
-pair_rule stored data_type none = by (is_built_pair stored data_type) (conversion stored data_type) none where
+pair_rule stored data_type none = by (not (is_dictionary data_type)) (conversion stored data_type) none where
   by : (b : Bool) (o : Option Conversion) → unless (b && is_some o) NotYetImplemented ≡ [] → (rule : Conversion) × (o ≡ Some rule)
   by true (Some rule) none = (rule, refl)
   by true None none = absurd cc
@@ -393,17 +396,39 @@ pub record IsOver (reading : Reading) (rule : Conversion) (others : Lent) : Type
   pub are : AreEntriesOf rule reading.stored.physical_type (dictionary_content reading.dictionary) entries
   pub has : has_dictionary reading.dictionary ≡ is_some entries
   pub none : causes_of_dictionary reading reading.dictionary ≡ []
-  pub outcomes : rows_by reading.stored.physical_type (behind_dictionary reading.dictionary others).pages (behind_dictionary reading.dictionary others).causes rule
-      ≡ rows (dictionary_cells rule reading.stored.physical_type) (selected_outcomes rule) entries others.pages others.causes
-  pub lent : (wanted count : ℕ) → length (pages_wanted (dictionary_cells rule reading.stored.physical_type) (selected_outcomes rule) entries (suc wanted) others.pages) ≡ suc count
-      → length (pages_by reading.stored.physical_type (suc wanted) (behind_dictionary reading.dictionary others).pages rule) ≡ with_dictionary_page reading.dictionary (suc count)
+  pub outcomes : rows_by reading.data_type reading.stored.physical_type (behind_dictionary reading.dictionary others).pages (behind_dictionary reading.dictionary others).causes rule
+      ≡ rows (column_entries reading.data_type rule reading.stored.physical_type) (selected_outcomes rule) entries others.pages others.causes
+  pub lent : (wanted count : ℕ) → length (pages_wanted (column_entries reading.data_type rule reading.stored.physical_type) (selected_outcomes rule) entries (suc wanted) others.pages) ≡ suc count
+      → length (pages_by reading.data_type reading.stored.physical_type (suc wanted) (behind_dictionary reading.dictionary others).pages rule) ≡ with_dictionary_page reading.dictionary (suc count)
 
 -- a dictionary with which something is wrong
 pub record IsRefused (reading : Reading) (rule : Conversion) (others : Lent) : Type 0 where
   pub cause : Cause
   pub causes : List Cause
   pub are : causes_of_dictionary reading reading.dictionary ≡ cause ∷ causes
-  pub outcomes : rows_by reading.stored.physical_type (behind_dictionary reading.dictionary others).pages (behind_dictionary reading.dictionary others).causes rule ≡ Refused (cause ∷ causes) ∷ []
+  pub outcomes : rows_by reading.data_type reading.stored.physical_type (behind_dictionary reading.dictionary others).pages (behind_dictionary reading.dictionary others).causes rule ≡ Refused (cause ∷ causes) ∷ []
+
+-- entries, if their bytes fit
+abbrev if_fits : Bool → List Cell → Result (List Cell) (List Cause)
+if_fits fits cells = if fits then Ok cells else Err (Overflow ∷ [])
+
+-- those whose bytes fit are entries
+fitted_cells : (most : Option ℕ) (found : Result (List Cell) (List Cause)) (cells : List Cell) → fitted most found ≡ Ok cells → found ≡ Ok cells
+fitted_cells None found cells e = e
+fitted_cells (Some most) (Err causes) cells e = e
+fitted_cells (Some most) (Ok found) cells e = by (fits_most (Some most) (sum_by cell_bytes found)) e where
+  by : (b : Bool) → if_fits b found ≡ Ok cells → if_fits true found ≡ Ok cells
+  by true e = e
+  by false e = absurd cc
+
+-- what is wrong with them is wrong with the entries, or is something
+still_wrong : (most : Option ℕ) (found : Result (List Cell) (List Cause)) → (found ≡ Err [] → ⊥) → fitted most found ≡ Err [] → ⊥
+still_wrong None found not e = not e
+still_wrong (Some most) (Err causes) not e = not e
+still_wrong (Some most) (Ok found) not e = by (fits_most (Some most) (sum_by cell_bytes found)) e where
+  by : (b : Bool) → if_fits b found ≡ Err [] → ⊥
+  by true e = cc
+  by false e = cc
 
 -- what is wrong with entries is something
 not_empty : (rule : Conversion) (type : PhysicalType) (page : DictContent) → dictionary_cells rule type page ≡ Err [] → ⊥
@@ -427,32 +452,32 @@ module _ (stored : PrimitiveType) (data_type : DataType) (rule : Conversion) (pa
   abbrev lent_if : Bool → DictionaryPage → Lent
   lent_if plain page = if plain then in_front (dictionary_of page) others else record { pages = []; causes = NotYetImplemented ∷ [] }
 
-  caused : (page : DictionaryPage) (plain : Bool) (found : Result (List Cell) (List Cause)) → has_plain_entries page.encoding ≡ plain → dictionary_cells rule stored.physical_type (held page) ≡ found
+  caused : (page : DictionaryPage) (plain : Bool) (found : Result (List Cell) (List Cause)) → has_plain_entries page.encoding ≡ plain → column_entries data_type rule stored.physical_type (held page) ≡ found
       → causes_of_dictionary (over (Defined page)) (Defined page) ≡ and_then (unless plain NotYetImplemented) (causes_of_entries found)
-  caused page plain found is e = ap (λ o. option_map_or (causes_of_defined stored.physical_type page) o []) pair ∙ (λ i. and_then (unless (is i) NotYetImplemented) (causes_of_entries (e i)))
+  caused page plain found is e = ap (λ o. option_map_or (causes_of_defined (over (Defined page)) page) o []) pair ∙ (λ i. and_then (unless (is i) NotYetImplemented) (causes_of_entries (e i)))
 
-  given_behind : (page : DictionaryPage) (found : Result (List Cell) (List Cause)) → has_plain_entries page.encoding ≡ true → dictionary_cells rule stored.physical_type (held page) ≡ found
-      → rows_by stored.physical_type (behind_dictionary (Defined page) others).pages (behind_dictionary (Defined page) others).causes rule
-      ≡ followed_by (refusal_of found) (rows (dictionary_cells rule stored.physical_type) (selected_outcomes rule) (result_ok found) others.pages others.causes)
+  given_behind : (page : DictionaryPage) (found : Result (List Cell) (List Cause)) → has_plain_entries page.encoding ≡ true → column_entries data_type rule stored.physical_type (held page) ≡ found
+      → rows_by data_type stored.physical_type (behind_dictionary (Defined page) others).pages (behind_dictionary (Defined page) others).causes rule
+      ≡ followed_by (refusal_of found) (rows (column_entries data_type rule stored.physical_type) (selected_outcomes rule) (result_ok found) others.pages others.causes)
   given_behind page found plain e =
-      ap (λ b. rows_by stored.physical_type (lent_if b page).pages (lent_if b page).causes rule) plain
-      ∙ ap (λ found. followed_by (refusal_of found) (rows (dictionary_cells rule stored.physical_type) (selected_outcomes rule) (result_ok found) others.pages others.causes)) e
+      ap (λ b. rows_by data_type stored.physical_type (lent_if b page).pages (lent_if b page).causes rule) plain
+      ∙ ap (λ found. followed_by (refusal_of found) (rows (column_entries data_type rule stored.physical_type) (selected_outcomes rule) (result_ok found) others.pages others.causes)) e
 
-  lent_behind : (page : DictionaryPage) (cells : List Cell) → has_plain_entries page.encoding ≡ true → dictionary_cells rule stored.physical_type (held page) ≡ Ok cells → (wanted count : ℕ)
-      → length (pages_wanted (dictionary_cells rule stored.physical_type) (selected_outcomes rule) (Some cells) (suc wanted) others.pages) ≡ suc count
-      → length (pages_by stored.physical_type (suc wanted) (behind_dictionary (Defined page) others).pages rule) ≡ suc count + 1
+  lent_behind : (page : DictionaryPage) (cells : List Cell) → has_plain_entries page.encoding ≡ true → column_entries data_type rule stored.physical_type (held page) ≡ Ok cells → (wanted count : ℕ)
+      → length (pages_wanted (column_entries data_type rule stored.physical_type) (selected_outcomes rule) (Some cells) (suc wanted) others.pages) ≡ suc count
+      → length (pages_by data_type stored.physical_type (suc wanted) (behind_dictionary (Defined page) others).pages rule) ≡ suc count + 1
   lent_behind page cells plain e wanted count many =
       let all : suc wanted - 0 ≡ suc wanted = omega arith in
-      let lent = ap (λ b. length (pages_by stored.physical_type (suc wanted) (lent_if b page).pages rule)) plain
-      ∙ ap (λ found. suc (length (pages_wanted (dictionary_cells rule stored.physical_type) (selected_outcomes rule) (result_ok found) (suc wanted - length (refusal_of found)) others.pages))) e
-      ∙ ap (λ n. suc (length (pages_wanted (dictionary_cells rule stored.physical_type) (selected_outcomes rule) (Some cells) n others.pages))) all in
+      let lent = ap (λ b. length (pages_by data_type stored.physical_type (suc wanted) (lent_if b page).pages rule)) plain
+      ∙ ap (λ found. suc (length (pages_wanted (column_entries data_type rule stored.physical_type) (selected_outcomes rule) (result_ok found) (suc wanted - length (refusal_of found)) others.pages))) e
+      ∙ ap (λ n. suc (length (pages_wanted (column_entries data_type rule stored.physical_type) (selected_outcomes rule) (Some cells) n others.pages))) all in
       omega (arith, lent, many)
 
-  defined_first : (page : DictionaryPage) (plain : Bool) (found : Result (List Cell) (List Cause)) → has_plain_entries page.encoding ≡ plain → dictionary_cells rule stored.physical_type (held page) ≡ found
+  defined_first : (page : DictionaryPage) (plain : Bool) (found : Result (List Cell) (List Cause)) → has_plain_entries page.encoding ≡ plain → column_entries data_type rule stored.physical_type (held page) ≡ found
       → IsOver (over (Defined page)) rule others ⊎ IsRefused (over (Defined page)) rule others
   defined_first page true (Ok cells) plain e =
-      inl (record { entries = Some cells; are = subst (λ o. AreEntriesOf rule stored.physical_type o (Some cells)) (sym (ap (λ plain. given plain (held page)) plain)) e; has = refl; none = caused page true (Ok cells) plain e; outcomes = given_behind page (Ok cells) plain e; lent = lent_behind page cells plain e })
-  defined_first page true (Err []) plain e = absurd (not_empty rule stored.physical_type (held page) e)
+      inl (record { entries = Some cells; are = subst (λ o. AreEntriesOf rule stored.physical_type o (Some cells)) (sym (ap (λ plain. given plain (held page)) plain)) (fitted_cells (most_bytes (value_type data_type)) (dictionary_cells rule stored.physical_type (held page)) cells e); has = refl; none = caused page true (Ok cells) plain e; outcomes = given_behind page (Ok cells) plain e; lent = lent_behind page cells plain e })
+  defined_first page true (Err []) plain e = absurd (still_wrong (most_bytes (value_type data_type)) (dictionary_cells rule stored.physical_type (held page)) (not_empty rule stored.physical_type (held page)) e)
   defined_first page true (Err (cause ∷ causes)) plain e =
       inr (record { cause = cause; causes = causes; are = caused page true (Err (cause ∷ causes)) plain e; outcomes = given_behind page (Err (cause ∷ causes)) plain e })
   defined_first page false found plain e =
@@ -460,13 +485,13 @@ module _ (stored : PrimitiveType) (data_type : DataType) (rule : Conversion) (pa
         cause = NotYetImplemented;
         causes = [];
         are = caused page false found plain e;
-        outcomes = ap (λ b. rows_by stored.physical_type (lent_if b page).pages (lent_if b page).causes rule) plain;
+        outcomes = ap (λ b. rows_by data_type stored.physical_type (lent_if b page).pages (lent_if b page).causes rule) plain;
       })
 
   pub dictionary_first : (dictionary : Dictionary) → IsOver (over dictionary) rule others ⊎ IsRefused (over dictionary) rule others
   dictionary_first NoDictionary = inl (record { entries = None; are = tt; has = refl; none = refl; outcomes = refl; lent = λ wanted count e. e })
   dictionary_first Undefined = inr (record { cause = ExternalFormat; causes = []; are = refl; outcomes = refl })
-  dictionary_first (Defined page) = defined_first page (has_plain_entries page.encoding) (dictionary_cells rule stored.physical_type (held page)) refl refl
+  dictionary_first (Defined page) = defined_first page (has_plain_entries page.encoding) (column_entries data_type rule stored.physical_type (held page)) refl refl
 
 -- ---- results
 

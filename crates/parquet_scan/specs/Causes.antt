@@ -26,11 +26,11 @@ use Rattle.parquet_page.specs.Opened.{page_causes}
 use Rattle.parquet_page.specs.Spelling.{dictionary_entries, has_plain_entries}
 use Rattle.flat_values.specs.Conversion.{Conversion, Item, Value, NotInRange, NotText}
 use Rattle.flat_values.specs.MostBytes.{most_bytes}
-use Rattle.flat_values.specs.Outcomes.{dictionary_cells}
 use Rattle.flat_values.specs.Pairs.{conversion}
 use Rattle.parquet_scan.specs.declared.bound.Bound.{Bound}
 use Rattle.parquet_scan.specs.Cells.{Reading, chunk_of, content_of, dictionary_content, is_null_type, located_item, located_pages, located_reading, walked_item, walked_reading}
-use Rattle.flat_binary.specs.Built.{is_carried_pair}
+use Rattle.flat_binary.specs.Built.{is_built_pair}
+use Rattle.parquet_scan.specs.Decoded.{column_entries}
 use Rattle.parquet_scan.specs.NotBuilt.{not_built}
 use Rattle.parquet_scan.specs.Request.{Request, begins}
 use Rattle.parquet_scan.specs.Pages.{column_index_causes, locations, locations_causes}
@@ -39,9 +39,9 @@ use Rattle.parquet_scan.specs.Statistics.{statistics_causes}
 
 -- ---- the requested fields, in the schema
 
--- a pair of types that is carried
+-- a pair of types that is carried and built
 abbrev pub pair_causes : PrimitiveType → DataType → List Cause
-pair_causes stored data_type = unless (is_carried_pair stored data_type) NotYetImplemented
+pair_causes stored data_type = unless (is_built_pair stored data_type) NotYetImplemented
 
 -- A field that names columns has exactly one, which is flat and may be read as the field's type.
 abbrev pub descriptor_causes : DataType → List ColumnDescriptor → List Cause
@@ -81,31 +81,33 @@ index_causes request file =
 
 -- ---- what is opened of a column
 
--- what is wrong with entries that are converted
+-- what is wrong with entries that are to be converted
 abbrev pub causes_of_entries : Result (List Cell) (List Cause) → List Cause
 causes_of_entries (Ok cells) = []
 causes_of_entries (Err causes) = causes
 
--- what is wrong with a dictionary page that is read by a rule: the encoding of its entries, or one of them
-abbrev pub causes_of_defined : PhysicalType → DictionaryPage → Conversion → List Cause
-causes_of_defined type page rule =
-    and_then (unless (has_plain_entries page.encoding) NotYetImplemented) (causes_of_entries (dictionary_cells rule type (record { body = page.body; num_values = page.num_values })))
+-- what is wrong with a dictionary page that is read by a rule: the encoding of its entries, one of them, or the sum of their bytes
+abbrev pub causes_of_defined : Reading → DictionaryPage → Conversion → List Cause
+causes_of_defined reading page rule =
+    and_then (unless (has_plain_entries page.encoding) NotYetImplemented)
+    (causes_of_entries (column_entries reading.data_type rule reading.stored.physical_type (record { body = page.body; num_values = page.num_values })))
 
 -- A dictionary that has to stand at the start of a chunk and does not is damaged.
 abbrev pub causes_of_dictionary : Reading → Dictionary → List Cause
 causes_of_dictionary reading NoDictionary = []
 causes_of_dictionary reading Undefined = ExternalFormat ∷ []
-causes_of_dictionary reading (Defined page) = option_map_or (causes_of_defined reading.stored.physical_type page) (conversion reading.stored reading.data_type) []
+causes_of_dictionary reading (Defined page) = option_map_or (causes_of_defined reading page) (conversion reading.stored reading.data_type) []
 
 abbrev pub has_dictionary : Dictionary → Bool
 has_dictionary NoDictionary = false
 has_dictionary _ = true
 
--- how many entries a dictionary has, as far as they are spelled
+-- how many entries a dictionary has, where they are spelled
 abbrev pub entry_count : PhysicalType → Dictionary → Option ℕ
 entry_count type dictionary = option_map length (option_and_then (dictionary_entries type) (dictionary_content dictionary))
 
--- what is wrong with a data page as a whole
+-- What is wrong with a data page as a whole. Its keys have no other limit than the entries: columns that are read as dictionaries are not
+-- built.
 abbrev pub causes_of_data : Reading → ChunkPage → List Cause
 causes_of_data reading page =
     page_causes None (has_dictionary reading.dictionary) (entry_count reading.stored.physical_type reading.dictionary) (content_of reading.stored page)
@@ -129,7 +131,7 @@ item_bytes NotText = 0
 abbrev pub bytes_of_rows : (ℕ → Option Item) → List ℕ → ℕ
 bytes_of_rows item rows = sum_by (λ row. option_map_or item_bytes (item row) 0) rows
 
--- The bytes of the rows of one chunk fit the places of the type.
+-- what is wrong with the rows of one chunk together: their bytes pass the offsets of the type
 abbrev pub piece_causes : DataType → (ℕ → Option Item) → List ℕ → List Cause
 piece_causes data_type item rows = unless (fits_most (most_bytes data_type) (bytes_of_rows item rows)) Overflow
 

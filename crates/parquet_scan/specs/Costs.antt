@@ -146,5 +146,5 @@ bytes_behind_footer request file =
     all_index_bytes request file + sum_by (taken_of_group (prunes_pages request (groups_of file)) request.fields file.bytes) (groups_read request file)
 
 -- and the footer with the 8 bytes behind it
-abbrev pub most_bytes : Request → File → ℕ
-most_bytes request file = (footer_place file.bytes).length + bytes_behind_footer request file
+abbrev pub most_bytes_taken : Request → File → ℕ
+most_bytes_taken request file = (footer_place file.bytes).length + bytes_behind_footer request file

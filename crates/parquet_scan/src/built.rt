@@ -11,7 +11,7 @@ use crate::Bound;
 use crate::request::field_of;
 use columns_core::{DataType, Error, Field, Part, Schema};
 use flat_values::carries;
-use parquet_meta::{PhysicalType, PrimitiveType};
+use parquet_meta::PrimitiveType;
 
 /// Refuses a bound on a field that is not of the type Int32.
 pub(crate) fn check_built(schema: &Schema, bounds: &[Bound]) -> Result<(), Error>
@@ -44,18 +44,16 @@ pub(crate) fn check_pair(stored: &PrimitiveType, data_type: &DataType) -> Result
     ensures ok { OnOk result (pair_causes stored.now data_type.now ≡ []) }
     ensures cause { ComesOf result (pair_causes stored.now data_type.now) }
 {
-    if is_built_pair(stored, data_type) && carries(stored, data_type) {
+    if !is_dictionary(data_type) && carries(stored, data_type) {
         return Ok(());
     }
     Err(Error::NotYetImplemented(Part::Schema))
 }
 
-fn is_built_pair(stored: &PrimitiveType, data_type: &DataType) -> bool
-    ensures { result ≡ pairs.is_built_pair stored.now data_type.now }
+fn is_dictionary(data_type: &DataType) -> bool
+    ensures { result ≡ pairs.is_dictionary data_type.now }
 {
-    is_null_type(data_type)
-        || !matches!(stored.physical_type, PhysicalType::ByteArray)
-            && !matches!(data_type, DataType::Dictionary(_, _, _))
+    matches!(data_type, DataType::Dictionary(_, _, _))
 }
 
 pub(crate) fn is_null_type(data_type: &DataType) -> bool

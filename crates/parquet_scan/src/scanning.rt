@@ -5,7 +5,7 @@ ghost use Rattle.columns_core.specs.Chunk.{AreEqualLengths};
 ghost use Rattle.parquet_meta.specs.Keeps.{Keeps};
 ghost use Rattle.parquet_scan.specs.Causes.{index_causes, metadata_causes, read_causes};
 ghost use Rattle.parquet_scan.specs.Cells.{columns_of, given_chunks};
-ghost use Rattle.parquet_scan.specs.Costs.{bytes_behind_footer, most_bytes, most_pages, pages_lent};
+ghost use Rattle.parquet_scan.specs.Costs.{bytes_behind_footer, most_bytes_taken, most_pages, pages_lent};
 ghost use Rattle.parquet_scan.specs.Request as spec;
 ghost use Rattle.parquet_scan.specs.Rows.{file_with, given_count, group_counts};
 ghost use Rattle.parquet_scan.specs.Scan.{Answers, FailsBy, IsApart, OnFile, Refuses, RisesBy, RisesJustBy, kept_groups as kept_groups_by, kept_of, request_of, rows_in};
@@ -71,7 +71,7 @@ pub fn scan_where<S: Source, L: Ledger>(
         IfOk result (λ _. OnFile (S.told source.old) (λ file. steps.new ≤ steps.old + most_pages request file)) }
     ensures taken { let request = request_of schema.now bounds.now chunk_size limit in
         IfOk result (λ _. OnFile (S.told source.old) (λ file.
-        S.taken source.new ≤ S.taken source.old + most_bytes request file)) }
+        S.taken source.new ≤ S.taken source.old + most_bytes_taken request file)) }
 {
     let metadata = read_metadata(alloc, source)?;
     if !is_legal(&metadata, schema, bounds, chunk_size, limit) {

@@ -16,3 +16,6 @@ collect_int96-requires-clause-typed g c = subst (HaveType (g.I.Pages.to_come c.a
 
 pub collect_fixed-requires-clause-typed : goal.collect_fixed-requires-clause-typed
 collect_fixed-requires-clause-typed g c = subst (HaveType (g.I.Pages.to_come c.args.pages)) c.in-FixedLenByteArray.is c.requires.typed
+
+pub collect_byte_array-requires-clause-typed : goal.collect_byte_array-requires-clause-typed
+collect_byte_array-requires-clause-typed g c = subst (HaveType (g.I.Pages.to_come c.args.pages)) c.in-ByteArray.is c.requires.typed

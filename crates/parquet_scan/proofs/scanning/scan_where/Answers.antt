@@ -4,7 +4,7 @@ use Rattle.std.proofs.lemmas.Result.{err_from_is_err_and}
 use Rattle.columns_core.specs.Causes.{cause_of}
 use Rattle.parquet_scan.specs.Causes.{metadata_causes}
 use Rattle.parquet_scan.specs.Cells.{columns_of, given_chunks}
-use Rattle.parquet_scan.specs.Costs.{bytes_behind_footer, most_bytes, most_pages, pages_lent}
+use Rattle.parquet_scan.specs.Costs.{bytes_behind_footer, most_bytes_taken, most_pages, pages_lent}
 use Rattle.parquet_scan.specs.Rows.{file_with, given_count}
 use Rattle.parquet_scan.specs.Scan.{FailsBy, RisesBy, RisesJustBy, kept_groups, kept_of, request_of}
 use Rattle.parquet_scan.specs.declared.scanning.Scan.{Scan}
@@ -116,6 +116,6 @@ returns-clause-taken g c =
     let mid = g.S.Source.taken c.read_metadata.new.source in
     let now = g.S.Source.taken c.scan_groups.new.source in
     let scan = c.scan_groups.result in
-    on_file (λ (scan : Scan) file. now ≤ start + most_bytes request file) scan told metadata c.in_ok-metadata.ensures.footer
+    on_file (λ (scan : Scan) file. now ≤ start + most_bytes_taken request file) scan told metadata c.in_ok-metadata.ensures.footer
     (all_taken request metadata scan told start mid now c.in_ok-metadata.ensures.taken
     (subst (λ (told : Option (List ℕ)). OnOk scan (RisesBy told mid now (λ bytes. bytes_behind_footer request (file_with bytes metadata)))) c.in_ok-metadata.ensures.keeps.same c.scan_groups.ensures.taken))
