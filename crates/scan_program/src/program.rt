@@ -6,7 +6,7 @@ ghost use Rattle.columns_core.specs.declared.error.Part.TheVariants.{Request};
 ghost use Rattle.parquet_base.specs.Failures.{MayFail};
 ghost use Rattle.parquet_meta.specs.Keeps.{Keeps};
 ghost use Rattle.parquet_scan.specs.Causes.{IsValid};
-ghost use Rattle.parquet_scan.specs.Costs.{most_bytes, most_pages};
+ghost use Rattle.parquet_scan.specs.Costs.{most_bytes_taken, most_pages, pages_lent};
 ghost use Rattle.parquet_scan.specs.Scan.{OnFile, Refuses};
 ghost use Rattle.pq_common.specs.Written.{IsAppended, IsFrontAppended};
 ghost use Rattle.scan_program.specs.Parsed.{command_of};
@@ -53,12 +53,15 @@ pub fn run<S: Source, K: Sink, L: Ledger>(
         (IsFrontAppended (K.written out.old) (K.written out.new))) }
 
     // What it costs.
+    ensures pages_lent { let told = told_by words.now (S.told source.old) in
+        IsTrue (has_scanned result) → OnFileOf (command_in words.now) told
+        (λ command file. steps.new ≡ steps.old + pages_lent command.request file) }
     ensures most_pages { let told = told_by words.now (S.told source.old) in
         IsTrue (has_scanned result) → OnFileOf (command_in words.now) told
         (λ command file. steps.new ≤ steps.old + most_pages command.request file) }
     ensures taken { let told = told_by words.now (S.told source.old) in
         IsTrue (has_scanned result) → OnFileOf (command_in words.now) told
-        (λ command file. S.taken source.new ≤ S.taken source.old + most_bytes command.request file) }
+        (λ command file. S.taken source.new ≤ S.taken source.old + most_bytes_taken command.request file) }
 
     // A run ends otherwise only where the scan refuses the request; memory may run out at any time.
     ensures refused { let told = told_by words.now (S.told source.old) in
@@ -108,12 +111,15 @@ fn text_for<S: Source, L: Ledger>(
     ensures text { IfOk result (λ text. IfSome (command_in words.now) (λ command.
         Reports command (told_by words.now (S.told source.old)) (lent_between steps.old steps.new)
         (λ found. found ≡ text.items))) }
+    ensures pages_lent { let told = told_by words.now (S.told source.old) in
+        IfOk result (λ _. OnFileOf (command_in words.now) told
+        (λ command file. steps.new ≡ steps.old + pages_lent command.request file)) }
     ensures most_pages { let told = told_by words.now (S.told source.old) in
         IfOk result (λ _. OnFileOf (command_in words.now) told
         (λ command file. steps.new ≤ steps.old + most_pages command.request file)) }
     ensures taken { let told = told_by words.now (S.told source.old) in
         IfOk result (λ _. OnFileOf (command_in words.now) told
-        (λ command file. S.taken source.new ≤ S.taken source.old + most_bytes command.request file)) }
+        (λ command file. S.taken source.new ≤ S.taken source.old + most_bytes_taken command.request file)) }
     ensures refused { let told = told_by words.now (S.told source.old) in
         let before = faults_by words.now (S.faults source.old) in
         let now = faults_by words.now (S.faults source.new) in
@@ -153,12 +159,15 @@ fn scan_text<S: Source, L: Ledger>(
     ensures text { let told = told_by words.now (S.told source.old) in
         IfOk result (λ text.
         Reports (command_of asked.now) told (lent_between steps.old steps.new) (λ found. found ≡ text.items)) }
+    ensures pages_lent { let told = told_by words.now (S.told source.old) in
+        IfOk result (λ _. OnFile told (λ file.
+        steps.new ≡ steps.old + pages_lent (command_of asked.now).request file)) }
     ensures most_pages { let told = told_by words.now (S.told source.old) in
         IfOk result (λ _. OnFile told (λ file.
         steps.new ≤ steps.old + most_pages (command_of asked.now).request file)) }
     ensures taken { let told = told_by words.now (S.told source.old) in
         IfOk result (λ _. OnFile told (λ file.
-        S.taken source.new ≤ S.taken source.old + most_bytes (command_of asked.now).request file)) }
+        S.taken source.new ≤ S.taken source.old + most_bytes_taken (command_of asked.now).request file)) }
     ensures refuses { let told = told_by words.now (S.told source.old) in
         let before = faults_by words.now (S.faults source.old) in
         let now = faults_by words.now (S.faults source.new) in

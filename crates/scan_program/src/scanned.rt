@@ -4,7 +4,7 @@ ghost use Rattle.std.specs.Result.{IsErrAnd};
 ghost use Rattle.columns_core.specs.declared.error.Error.TheVariants.{InvalidArgumentError};
 ghost use Rattle.columns_core.specs.declared.error.Part.TheVariants.{Request};
 ghost use Rattle.parquet_meta.specs.Keeps.{Keeps};
-ghost use Rattle.parquet_scan.specs.Costs.{most_bytes, most_pages};
+ghost use Rattle.parquet_scan.specs.Costs.{most_bytes_taken, most_pages, pages_lent};
 ghost use Rattle.parquet_scan.specs.Scan.{Answers, OnFile, Refuses};
 ghost use Rattle.scan_program.specs.Parsed.{command_of};
 ghost use Rattle.scan_program.specs.Program.{lent_between};
@@ -34,12 +34,15 @@ pub(crate) fn scan_file<S: Source, L: Ledger>(
     ensures answers { let told = told_by words.now (S.told source.old) in
         IfOk result (Answers (command_of asked.now).request told) }
     ensures pages { IfOk result (λ scan. scan.pages ≡ lent_between steps.old steps.new) }
+    ensures pages_lent { let told = told_by words.now (S.told source.old) in
+        IfOk result (λ _. OnFile told (λ file.
+        steps.new ≡ steps.old + pages_lent (command_of asked.now).request file)) }
     ensures most_pages { let told = told_by words.now (S.told source.old) in
         IfOk result (λ _. OnFile told (λ file.
         steps.new ≤ steps.old + most_pages (command_of asked.now).request file)) }
     ensures taken { let told = told_by words.now (S.told source.old) in
         IfOk result (λ _. OnFile told (λ file.
-        S.taken source.new ≤ S.taken source.old + most_bytes (command_of asked.now).request file)) }
+        S.taken source.new ≤ S.taken source.old + most_bytes_taken (command_of asked.now).request file)) }
     ensures refuses { let told = told_by words.now (S.told source.old) in
         let before = faults_by words.now (S.faults source.old) in
         let now = faults_by words.now (S.faults source.new) in
@@ -63,6 +66,8 @@ fn scan_sample<L: Ledger>(
     ensures ticks { steps.old ≤ steps.new }
     ensures answers { IfOk result (Answers (command_of asked.now).request (sample_bytes sample)) }
     ensures pages { IfOk result (λ scan. scan.pages ≡ lent_between steps.old steps.new) }
+    ensures pages_lent { IfOk result (λ _. OnFile (sample_bytes sample)
+        (λ file. steps.new ≡ steps.old + pages_lent (command_of asked.now).request file)) }
     ensures most_pages { IfOk result (λ _. OnFile (sample_bytes sample)
         (λ file. steps.new ≤ steps.old + most_pages (command_of asked.now).request file)) }
     ensures refuses { IfErr result (Refuses (command_of asked.now).request (sample_bytes sample) 0 0) }
@@ -85,10 +90,12 @@ fn scan_source<S: Source, L: Ledger>(
     ensures ticks { steps.old ≤ steps.new }
     ensures answers { IfOk result (Answers (command_of asked.now).request (S.told source.old)) }
     ensures pages { IfOk result (λ scan. scan.pages ≡ lent_between steps.old steps.new) }
+    ensures pages_lent { IfOk result (λ _. OnFile (S.told source.old)
+        (λ file. steps.new ≡ steps.old + pages_lent (command_of asked.now).request file)) }
     ensures most_pages { IfOk result (λ _. OnFile (S.told source.old)
         (λ file. steps.new ≤ steps.old + most_pages (command_of asked.now).request file)) }
     ensures taken { IfOk result (λ _. OnFile (S.told source.old)
-        (λ file. S.taken source.new ≤ S.taken source.old + most_bytes (command_of asked.now).request file)) }
+        (λ file. S.taken source.new ≤ S.taken source.old + most_bytes_taken (command_of asked.now).request file)) }
     ensures refuses { let faults = S.faults in
         IfErr result
         (Refuses (command_of asked.now).request (S.told source.old) (faults source.old) (faults source.new)) }
