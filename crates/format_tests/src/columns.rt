@@ -305,15 +305,15 @@ fn lists_are_cut_from_their_items(rt: HostRuntime) -> Result<(), Fail> {
     Ok(())
 }
 
-/// Two columns, of one row more than there are in the second.
-fn structs(rt: &HostRuntime, more: usize) -> Result<StructArray, Error> {
+/// A column of two numbers beside so many nulls.
+fn structs(rt: &HostRuntime, nulls: usize) -> Result<StructArray, Error> {
     let mut fields = Vec::new(rt.alloc());
     fields.push(field(rt, "number", DataType::Int64)?)?;
     fields.push(field(rt, "nothing", DataType::Null)?)?;
     let mut columns = Vec::new(rt.alloc());
     let values = numbers(rt, DataType::Int64, &[5i64, 6], &[true, true])?;
     columns.push(Array::Int64(values))?;
-    columns.push(Array::Null(NullArray::new(2 + more)))?;
+    columns.push(Array::Null(NullArray::new(nulls)))?;
     let data_type = DataType::Struct(Seq::new(fields));
     let validity = mask(rt, &[false, true])?;
     StructArray::try_new(data_type, columns, Some(validity))
@@ -321,14 +321,14 @@ fn structs(rt: &HostRuntime, more: usize) -> Result<StructArray, Error> {
 
 #[test]
 fn structs_are_columns_side_by_side(rt: HostRuntime) -> Result<(), Fail> {
-    let array = Array::Struct(structs(&rt, 0)?);
+    let array = Array::Struct(structs(&rt, 2)?);
     let mut row = Vec::new(rt.alloc());
     row.push(Cell::Int(6))?;
     row.push(Cell::Null)?;
     assert!(rt; has_cell(&rt, &array, 0, &Cell::Null)?);
     assert!(rt; has_cell(&rt, &array, 1, &Cell::Cells(Seq::new(row)))?);
     assert!(rt; array.try_clone(rt.alloc())? == array);
-    assert!(rt; is_refused(structs(&rt, 1)));
+    assert!(rt; is_refused(structs(&rt, 3)));
     let none = DataType::Struct(Seq::new(Vec::new(rt.alloc())));
     assert!(rt; is_refused(StructArray::try_new(none, Vec::new(rt.alloc()), None)));
     Ok(())
@@ -336,7 +336,7 @@ fn structs_are_columns_side_by_side(rt: HostRuntime) -> Result<(), Fail> {
 
 #[test]
 fn maps_are_lists_of_pairs(rt: HostRuntime) -> Result<(), Fail> {
-    let pairs = Array::Struct(structs(&rt, 0)?);
+    let pairs = Array::Struct(structs(&rt, 2)?);
     let pair = field(&rt, "pair", pairs.data_type().try_clone(rt.alloc())?)?;
     let data_type = DataType::Map(Boxed::new(rt.alloc(), pair)?, false);
     let array = Array::Map(MapArray::try_new(data_type, offsets(&rt, &[2, 0])?, pairs, None)?);

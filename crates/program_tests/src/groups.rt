@@ -1,21 +1,17 @@
 //! Files of several groups, and what is opened of them.
+use crate::parts::NUMBERS;
 use crate::running::has_answers;
-use crate::written::{Column, FileBuilder};
+use crate::written::FileBuilder;
 use std::alloc::{AllocError, Global};
 use std::test::*;
 
-const NUMBERS: Column = Column {
-    name: "a",
-    is_time: false,
-};
-
 /// Three groups with the ends 1 and 3, 10 and 14, 20 and 22, the second of two pages.
 pub(crate) fn three_groups(alloc: Global) -> Result<Vec<u8>, AllocError> {
-    let mut file = FileBuilder::new(alloc, NUMBERS)?;
-    file.add_plain(&[&[1, 2, 3]], Some((1, 3)))?;
-    file.add_plain(&[&[10], &[12, 14]], Some((10, 14)))?;
-    file.add_plain(&[&[20, 22]], Some((20, 22)))?;
-    file.finish()
+    let mut file = FileBuilder::new(alloc)?;
+    file.add_numbers(NUMBERS, &[&[1, 2, 3]], Some((1, 3)))?;
+    file.add_numbers(NUMBERS, &[&[10], &[12, 14]], Some((10, 14)))?;
+    file.add_numbers(NUMBERS, &[&[20, 22]], Some((20, 22)))?;
+    file.finish(&[NUMBERS])
 }
 
 const OF_THREE_GROUPS: [(&str, &[u8]); 5] = [
@@ -50,10 +46,10 @@ fn groups_are_kept_each_by_its_ends(rt: HostRuntime) -> Result<(), Fail> {
 
 /// Two groups, the first of which has no statistics.
 fn two_groups(alloc: Global) -> Result<Vec<u8>, AllocError> {
-    let mut file = FileBuilder::new(alloc, NUMBERS)?;
-    file.add_plain(&[&[7, 5]], None)?;
-    file.add_plain(&[&[9]], Some((9, 9)))?;
-    file.finish()
+    let mut file = FileBuilder::new(alloc)?;
+    file.add_numbers(NUMBERS, &[&[7, 5]], None)?;
+    file.add_numbers(NUMBERS, &[&[9]], Some((9, 9)))?;
+    file.finish(&[NUMBERS])
 }
 
 const OF_TWO_GROUPS: [(&str, &[u8]); 2] = [
@@ -69,11 +65,11 @@ const OF_TWO_GROUPS: [(&str, &[u8]); 2] = [
 
 /// A group of no rows and no pages between two of one row.
 fn no_rows_between(alloc: Global) -> Result<Vec<u8>, AllocError> {
-    let mut file = FileBuilder::new(alloc, NUMBERS)?;
-    file.add_plain(&[&[1]], None)?;
-    file.add_plain(&[], None)?;
-    file.add_plain(&[&[-1]], Some((-1, -1)))?;
-    file.finish()
+    let mut file = FileBuilder::new(alloc)?;
+    file.add_numbers(NUMBERS, &[&[1]], None)?;
+    file.add_numbers(NUMBERS, &[], None)?;
+    file.add_numbers(NUMBERS, &[&[-1]], Some((-1, -1)))?;
+    file.finish(&[NUMBERS])
 }
 
 const OF_NO_ROWS: [(&str, &[u8]); 2] = [
@@ -89,9 +85,9 @@ const OF_NO_ROWS: [(&str, &[u8]); 2] = [
 
 /// One group with pages of no values: one before, one between and one behind those that hold its rows.
 pub(crate) fn empty_pages(alloc: Global) -> Result<Vec<u8>, AllocError> {
-    let mut file = FileBuilder::new(alloc, NUMBERS)?;
-    file.add_plain(&[&[], &[7], &[], &[8, 9], &[]], None)?;
-    file.finish()
+    let mut file = FileBuilder::new(alloc)?;
+    file.add_numbers(NUMBERS, &[&[], &[7], &[], &[8, 9], &[]], None)?;
+    file.finish(&[NUMBERS])
 }
 
 /// The page behind the last row is not opened.

@@ -2,6 +2,8 @@
 #![tactic(auto)]
 
 #[cfg(test)]
+mod compact;
+#[cfg(test)]
 mod edges;
 #[cfg(test)]
 mod files;
@@ -9,6 +11,8 @@ mod files;
 mod groups;
 #[cfg(test)]
 mod limits;
+#[cfg(test)]
+mod parts;
 #[cfg(test)]
 mod refused;
 #[cfg(test)]
@@ -19,5 +23,7 @@ mod running;
 mod samples;
 #[cfg(test)]
 mod spelling;
+#[cfg(test)]
+mod texts;
 #[cfg(test)]
 mod written;

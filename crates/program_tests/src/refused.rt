@@ -1,19 +1,22 @@
 //! Values, keys and places that no column can have.
 use crate::files::F1;
+use crate::parts::{Column, Indexes, NUMBERS, Page, Stored};
 use crate::running::answer_on;
-use crate::written::{Column, FileBuilder};
+use crate::written::FileBuilder;
 use std::alloc::{AllocError, Global};
 use std::test::*;
 
 /// A file of one time in milliseconds.
 fn time(alloc: Global, value: i64) -> Result<Vec<u8>, AllocError> {
     let column = Column {
-        name: "a",
-        is_time: true,
+        stored: Stored::Times,
+        ..NUMBERS
     };
-    let mut file = FileBuilder::new(alloc, column)?;
-    file.add_plain(&[&[value]], None)?;
-    file.finish()
+    let mut file = FileBuilder::new(alloc)?;
+    file.add_page(Page::of_times(&[value]))?;
+    file.end_chunk(column, None, Indexes::Absent)?;
+    file.end_group()?;
+    file.finish(&[column])
 }
 
 /// Times in milliseconds, the unit that each is asked in, and the answer. The nanoseconds of the first and the third fit 64 bits.
@@ -49,13 +52,12 @@ fn times_that_pass_64_bits(rt: HostRuntime) -> Result<(), Fail> {
 
 /// A file whose dictionary has the entries 5 and 9.
 fn coded(alloc: Global, keys: &[u8]) -> Result<Vec<u8>, AllocError> {
-    let column = Column {
-        name: "a",
-        is_time: false,
-    };
-    let mut file = FileBuilder::new(alloc, column)?;
-    file.add_coded(&[5, 9], keys)?;
-    file.finish()
+    let mut file = FileBuilder::new(alloc)?;
+    file.add_dictionary(Page::of_numbers(&[5, 9]))?;
+    file.add_page(Page::of_keys(keys))?;
+    file.end_chunk(NUMBERS, None, Indexes::Absent)?;
+    file.end_group()?;
+    file.finish(&[NUMBERS])
 }
 
 /// Keys of a page, and what a run answers.

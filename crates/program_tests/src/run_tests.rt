@@ -179,7 +179,7 @@ fn has_cells(alloc: Global, item: &str, cells: &str) -> Result<bool, Fail> {
 }
 
 #[test]
-fn truth_values_and_fixed_bytes(rt: HostRuntime) -> Result<(), Fail> {
+fn truth_values_and_bytes(rt: HostRuntime) -> Result<(), Fail> {
     let columns = [
         ("truth:Boolean", "null true false true null false true true"),
         (
@@ -201,6 +201,11 @@ fn truth_values_and_fixed_bytes(rt: HostRuntime) -> Result<(), Fail> {
             "3/1000 0/0 -1/2 5/6 3/1000 0/0 0/0 8/9",
         ),
         ("name:Null", "null null null null null null null null"),
+        ("name:Utf8", "\"x\" null \"yz\" \"\" \"q\" null \"r\" \"s\""),
+        (
+            "name:LargeBinary",
+            "0x78 null 0x797a 0x 0x71 null 0x72 0x73",
+        ),
     ];
     for (item, cells) in columns.iter() {
         assert!(rt; has_cells(rt.alloc(), item, cells)?);
@@ -285,7 +290,16 @@ fn times_in_other_units(rt: HostRuntime) -> Result<(), Fail> {
 
 #[test]
 fn pairs_that_are_not_carried(rt: HostRuntime) -> Result<(), Fail> {
-    for item in ["name:Utf8", "delta:Int64", "fixed:FixedSizeBinary(3)"] {
+    for item in [
+        "name:Int32",
+        "name:Decimal(4,0)",
+        "name:FixedSizeBinary(1)",
+        "name:Dictionary(Int32,Utf8)",
+        "delta:Int64",
+        "delta:Binary",
+        "fixed:FixedSizeBinary(3)",
+        "fixed:LargeBinary",
+    ] {
         let refused = text_of(rt.alloc(), &["x", item], &PAIRS)?;
         assert_eq!(rt;
             refused.as_slice(),

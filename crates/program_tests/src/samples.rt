@@ -16,8 +16,9 @@ fn answer_of(alloc: Global, line: &str) -> Result<Vec<u8>, Fail> {
     text_of(alloc, &words, &[])
 }
 
-/// Words, and what a run answers. The number of a row is in the column `id`; `qty` has it where it is no multiple of 5.
-const SAMPLES: [(&str, &[u8]); 12] = [
+/// Words, and what a run answers. The number of a row is in the column `id`; `qty` has it where it is no multiple of 5;
+/// `name` has it behind an r.
+const SAMPLES: [(&str, &[u8]); 16] = [
     (
         "@sample:6:0 id:Int64 qty:Int32",
         b"\x00group 0 6 0+6\nchunk 6\n0\tnull\n1\t1\n2\t2\n3\t3\n4\t4\n5\tnull\n",
@@ -41,6 +42,23 @@ const SAMPLES: [(&str, &[u8]); 12] = [
     (
         "@sample:6:0 id:Int64 qty:Int32 --chunk 4 --limit 5",
         b"\x00group 0 6 0+6\nchunk 4\n0\tnull\n1\t1\n2\t2\n3\t3\nchunk 1\n4\t4\n",
+    ),
+    (
+        "@sample:6:0 id:Int64 qty:Int32 name:Utf8 --chunk 4",
+        b"\x00group 0 6 0+6\nchunk 4\n0\tnull\t\"r0\"\n1\t1\t\"r1\"\n2\t2\t\"r2\"\n3\t3\t\"r3\"\nchunk 2\n4\t4\t\"r4\"\n5\tnull\t\"r5\"\n",
+    ),
+    (
+        "@sample:6:0 id:Int64 qty:Int32 name:Utf8 --chunk 4 --limit 5",
+        b"\x00group 0 6 0+6\nchunk 4\n0\tnull\t\"r0\"\n1\t1\t\"r1\"\n2\t2\t\"r2\"\n3\t3\t\"r3\"\nchunk 1\n4\t4\t\"r4\"\n",
+    ),
+    (
+        "@sample:2:4294967295 name:LargeUtf8",
+        b"\x00group 0 2 0+2\nchunk 2\n\"r4294967295\"\n\"r4294967296\"\n",
+    ),
+    // The second page of `qty` begins at row 700, that of `name` at row 450.
+    (
+        "@sample:2000:0 name:Binary qty:Int32 qty>=980 --limit 2",
+        b"\x00group 0 2000 700+1300\nchunk 2\n0x72373030\tnull\n0x72373031\t701\n",
     ),
     // The third page of `qty` begins at row 1400, the second of `id` at row 1000.
     (

@@ -1,7 +1,8 @@
 //! Options, types, values and names as words spell them, each asked of the first file.
 use crate::files::F1;
+use crate::parts::{self, Column};
 use crate::running::{answer_on, answer_to, text_of};
-use crate::written::{Column, FileBuilder};
+use crate::written::FileBuilder;
 use pq_common::Status;
 use std::alloc::{AllocError, Global};
 use std::test::*;
@@ -372,15 +373,13 @@ fn words_in_other_places(rt: HostRuntime) -> Result<(), Fail> {
 
 /// A file of the numbers 1 and 3 in a column of this name.
 fn named(alloc: Global, name: &'static str) -> Result<Vec<u8>, AllocError> {
-    let mut file = FileBuilder::new(
-        alloc,
-        Column {
-            name,
-            is_time: false,
-        },
-    )?;
-    file.add_plain(&[&[1, 3]], Some((1, 3)))?;
-    file.finish()
+    let column = Column {
+        name,
+        ..parts::NUMBERS
+    };
+    let mut file = FileBuilder::new(alloc)?;
+    file.add_numbers(column, &[&[1, 3]], Some((1, 3)))?;
+    file.finish(&[column])
 }
 
 /// The report on both rows.

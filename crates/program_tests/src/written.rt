@@ -1,337 +1,364 @@
-//! Files of one required column, written field by field in the compact protocol: pages, chunks and the footer.
-use parquet_thrift::{BINARY, I32, I64, LIST, STRUCT, TRUE};
+//! Files of flat columns: pages, chunks, indexes and the footer, field by field in the compact protocol.
+use crate::compact::Written;
+use crate::parts::{Column, Indexes, Levels, Page, Stored, Values};
+use parquet_thrift::{BINARY, FALSE, I32, STRUCT, TRUE};
 use std::alloc::{AllocError, Global};
 
 /// The word that a file begins and ends with.
 const MAGIC: &[u8] = b"PAR1";
 
-/// The column of a file.
-#[derive(Clone, Copy)]
-pub(crate) struct Column {
-    /// At most 127 bytes.
-    pub(crate) name: &'static str,
-    /// Whether it stores times in milliseconds, of 64 bits each, and not numbers of 32 bits.
-    pub(crate) is_time: bool,
-}
-
-/// The chunk of a group: how many values, the place of its dictionary if it has one, that of its first data page, and the
-/// place behind it. Statistics tell the ends where they are there, and that no value is null.
+/// A chunk: the places of its first byte, of its first data page and behind its pages, and how many pages and rows it has.
 #[derive(Clone, Copy)]
 struct Chunk {
-    rows: usize,
-    dictionary: Option<usize>,
     start: usize,
+    data: usize,
     end: usize,
-    ends: Option<(i64, i64)>,
+    pages: usize,
+    rows: usize,
 }
 
-/// A file that grows by groups. Its places, sizes and counts are below 8192, and it has at most 14 groups.
+/// A file that grows by pages, chunks and groups. Its places, sizes and counts are below 8192, and it has at most 14 groups,
+/// and 14 chunks in each.
 #[derive(Drop)]
 pub(crate) struct FileBuilder {
-    column: Column,
-    /// The magic, and the pages of all groups.
+    alloc: Global,
+    /// The magic, and the pages and indexes of all chunks.
     file: Written,
-    /// What the footer says of the groups.
+    /// The chunk that is written, and the locations of its pages.
+    chunk: Chunk,
+    locations: Written,
+    /// What the footer says of the chunks before it in its group, and how many rows each has.
+    chunks: Written,
+    chunk_count: usize,
+    group_rows: usize,
+    /// What the footer says of the groups before, and how many rows they have together.
     groups: Written,
-    count: usize,
+    group_count: usize,
     rows: usize,
 }
 
 impl FileBuilder {
     /// A file without a group.
-    pub(crate) fn new(alloc: Global, column: Column) -> Result<Self, AllocError> {
+    pub(crate) fn new(alloc: Global) -> Result<Self, AllocError> {
         let mut file = Written::new(alloc);
         file.raw(MAGIC)?;
+        let chunk = Chunk::at(file.len());
         Ok(FileBuilder {
-            column,
+            alloc,
             file,
+            chunk,
+            locations: Written::new(alloc),
+            chunks: Written::new(alloc),
+            chunk_count: 0,
+            group_rows: 0,
             groups: Written::new(alloc),
-            count: 0,
+            group_count: 0,
             rows: 0,
         })
     }
 
-    /// Adds a group of plain pages with these values and, where they are numbers of 32 bits, of these ends.
-    pub(crate) fn add_plain(
+    /// Begins a chunk with its dictionary, whose rows are the entries.
+    pub(crate) fn add_dictionary(&mut self, page: Page<'_>) -> Result<(), AllocError> {
+        write_dictionary_header(&mut self.file, page)?;
+        write_values(&mut self.file, page.values)?;
+        self.chunk.data = self.file.len();
+        self.chunk.end = self.chunk.data;
+        Ok(())
+    }
+
+    /// Adds a data page to the chunk.
+    pub(crate) fn add_page(&mut self, page: Page<'_>) -> Result<(), AllocError> {
+        let place = self.file.len();
+        write_page(&mut self.file, page)?;
+        self.chunk.end = self.file.len();
+        self.locations.long(1, place)?;
+        self.locations.int(1, self.chunk.end.saturating_sub(place))?;
+        self.locations.long(1, self.chunk.rows)?;
+        self.locations.end()?;
+        self.chunk.pages = self.chunk.pages.saturating_add(1);
+        self.chunk.rows = self.chunk.rows.saturating_add(page.rows);
+        Ok(())
+    }
+
+    /// Ends the chunk, which is one of this column. None of its values is null where the ends of all of them are told.
+    pub(crate) fn end_chunk(
         &mut self,
+        column: Column,
+        ends: Option<(i64, i64)>,
+        indexes: Indexes<'_>,
+    ) -> Result<(), AllocError> {
+        self.chunks.long(2, self.chunk.data)?;
+        self.chunks.begin(1)?;
+        write_meta_data(&mut self.chunks, column, self.chunk, ends)?;
+        self.chunks.end()?;
+        self.write_indexes(indexes)?;
+        self.chunks.end()?;
+        self.chunk_count = self.chunk_count.saturating_add(1);
+        self.group_rows = self.chunk.rows;
+        self.chunk = Chunk::at(self.file.len());
+        self.locations = Written::new(self.alloc);
+        Ok(())
+    }
+
+    /// Writes the indexes of the chunk, and where they stand.
+    fn write_indexes(&mut self, indexes: Indexes<'_>) -> Result<(), AllocError> {
+        if let Indexes::Absent = indexes {
+            return Ok(());
+        }
+        let place = self.file.len();
+        self.file.list(1, self.chunk.pages, STRUCT)?;
+        self.file.raw(self.locations.as_slice())?;
+        self.file.end()?;
+        self.tell_index(place)?;
+        let Indexes::Ends(ends) = indexes else {
+            return Ok(());
+        };
+        let place = self.file.len();
+        write_column_index(&mut self.file, ends)?;
+        self.tell_index(place)
+    }
+
+    /// The place and the length of an index that has just been written.
+    fn tell_index(&mut self, place: usize) -> Result<(), AllocError> {
+        self.chunks.long(1, place)?;
+        self.chunks.int(1, self.file.len().saturating_sub(place))
+    }
+
+    /// Ends the group, of which each column has a chunk.
+    pub(crate) fn end_group(&mut self) -> Result<(), AllocError> {
+        self.groups.list(1, self.chunk_count, STRUCT)?;
+        self.groups.raw(self.chunks.as_slice())?;
+        self.groups.long(1, 0)?;
+        self.groups.long(1, self.group_rows)?;
+        self.groups.end()?;
+        self.group_count = self.group_count.saturating_add(1);
+        self.rows = self.rows.saturating_add(self.group_rows);
+        self.chunks = Written::new(self.alloc);
+        self.chunk_count = 0;
+        Ok(())
+    }
+
+    /// Adds a group of one chunk of numbers, in plain pages.
+    pub(crate) fn add_numbers(
+        &mut self,
+        column: Column,
         pages: &[&[i64]],
         ends: Option<(i64, i64)>,
     ) -> Result<(), AllocError> {
-        let start = self.file.bytes.len();
-        let mut rows = 0usize;
-        for values in pages {
-            let size = values.len().saturating_mul(self.width());
-            self.file.data_header(values.len(), 0, size)?;
-            self.add_values(values)?;
-            rows = rows.saturating_add(values.len());
+        for numbers in pages {
+            self.add_page(Page::of_numbers(numbers))?;
         }
-        self.add_group(rows, None, start, ends)
+        self.end_chunk(column, ends, Indexes::Absent)?;
+        self.end_group()
     }
 
-    /// Adds a group of a dictionary with these entries and one page of these keys.
-    pub(crate) fn add_coded(&mut self, entries: &[i64], keys: &[u8]) -> Result<(), AllocError> {
-        let dictionary = self.file.bytes.len();
-        let size = entries.len().saturating_mul(self.width());
-        self.file.dictionary_header(entries.len(), size)?;
-        self.add_values(entries)?;
-        let start = self.file.bytes.len();
-        self.file.key_page(keys)?;
-        self.add_group(keys.len(), Some(dictionary), start, None)
-    }
-
-    /// The whole file.
-    pub(crate) fn finish(self) -> Result<Vec<u8>, AllocError> {
+    /// The whole file, whose groups have the chunks of these columns.
+    pub(crate) fn finish(self, columns: &[Column]) -> Result<Vec<u8>, AllocError> {
         let FileBuilder {
-            column,
             mut file,
             groups,
-            count,
+            group_count,
             rows,
+            ..
         } = self;
-        let footer = file.bytes.len();
-        file.schema(column)?;
+        let footer = file.len();
+        write_schema(&mut file, columns)?;
         file.long(1, rows)?;
-        file.list(1, count, STRUCT)?;
-        file.raw(&groups.bytes)?;
+        file.list(1, group_count, STRUCT)?;
+        file.raw(groups.as_slice())?;
         file.end()?;
-        let size = file.bytes.len().saturating_sub(footer);
+        let size = file.len().saturating_sub(footer);
         file.raw(&[(size % 256) as u8, (size / 256 % 256) as u8, 0, 0])?;
         file.raw(MAGIC)?;
         Ok(file.into_bytes())
     }
+}
 
-    /// How many bytes a value takes.
-    fn width(&self) -> usize {
-        if self.column.is_time { 8 } else { 4 }
-    }
-
-    /// Adds values as a plain page has them.
-    fn add_values(&mut self, values: &[i64]) -> Result<(), AllocError> {
-        for value in values {
-            let bytes = value.to_le_bytes();
-            if self.column.is_time {
-                self.file.raw(&bytes)?;
-            } else {
-                self.file.raw(&bytes[..4])?;
-            }
+impl Chunk {
+    /// One without a page.
+    fn at(place: usize) -> Self {
+        Chunk {
+            start: place,
+            data: place,
+            end: place,
+            pages: 0,
+            rows: 0,
         }
-        Ok(())
-    }
-
-    /// Says of a group, whose pages are written, what the footer says.
-    fn add_group(
-        &mut self,
-        rows: usize,
-        dictionary: Option<usize>,
-        start: usize,
-        ends: Option<(i64, i64)>,
-    ) -> Result<(), AllocError> {
-        let end = self.file.bytes.len();
-        let chunk = Chunk {
-            rows,
-            dictionary,
-            start,
-            end,
-            ends,
-        };
-        self.groups.group(self.column, chunk)?;
-        self.count = self.count.saturating_add(1);
-        self.rows = self.rows.saturating_add(rows);
-        Ok(())
     }
 }
 
-/// Bytes in the compact protocol.
-#[derive(Drop)]
-struct Written {
-    bytes: Vec<u8>,
+fn write_dictionary_header(out: &mut Written, page: Page<'_>) -> Result<(), AllocError> {
+    let size = page.size();
+    out.int(1, 2)?;
+    out.int(1, size)?;
+    out.int(1, size)?;
+    out.begin(4)?;
+    out.int(1, page.rows)?;
+    out.int(1, page.values.encoding())?;
+    out.end()?;
+    out.end()
 }
 
-impl Written {
-    fn new(alloc: Global) -> Self {
-        Written {
-            bytes: Vec::new(alloc),
+/// A data page.
+fn write_page(out: &mut Written, page: Page<'_>) -> Result<(), AllocError> {
+    match page.levels {
+        Levels::Absent => write_first_header(out, page)?,
+        Levels::First(levels) => {
+            write_first_header(out, page)?;
+            out.raw(&[(levels.len() % 256) as u8, 0, 0, 0])?;
+            out.raw(levels)?;
+        }
+        Levels::Second(levels) => {
+            write_second_header(out, page)?;
+            out.raw(levels)?;
         }
     }
+    write_values(out, page.values)
+}
 
-    fn into_bytes(self) -> Vec<u8> {
-        self.bytes
-    }
+/// The header of a data page of the first form.
+fn write_first_header(out: &mut Written, page: Page<'_>) -> Result<(), AllocError> {
+    let size = page.size();
+    out.int(1, 0)?;
+    out.int(1, size)?;
+    out.int(1, size)?;
+    out.begin(2)?;
+    out.int(1, page.rows)?;
+    out.int(1, page.values.encoding())?;
+    out.int(1, 3)?;
+    out.int(1, 3)?;
+    out.end()?;
+    out.end()
+}
 
-    /// Bytes as they are.
-    fn raw(&mut self, bytes: &[u8]) -> Result<(), AllocError> {
-        self.bytes.extend_from_slice(bytes)
-    }
+/// The header of a data page of the second form.
+fn write_second_header(out: &mut Written, page: Page<'_>) -> Result<(), AllocError> {
+    let size = page.size();
+    out.int(1, 3)?;
+    out.int(1, size)?;
+    out.int(1, size)?;
+    out.begin(5)?;
+    out.int(1, page.rows)?;
+    out.int(1, 0)?;
+    out.int(1, page.rows)?;
+    out.int(1, page.values.encoding())?;
+    out.int(1, page.levels.size())?;
+    out.int(1, 0)?;
+    out.end()?;
+    out.end()
+}
 
-    /// The head of a field, whose id is at most 15 above the one before.
-    fn field(&mut self, step: u8, kind: u8) -> Result<(), AllocError> {
-        self.bytes.push(step.wrapping_mul(16) | kind)?;
-        Ok(())
-    }
-
-    /// A number from 0 to 8191.
-    fn number(&mut self, number: usize) -> Result<(), AllocError> {
-        let double = number % 8192 * 2;
-        self.bytes.push((double % 128 + 128) as u8)?;
-        self.bytes.push((double / 128 % 128) as u8)?;
-        Ok(())
-    }
-
-    fn int(&mut self, step: u8, number: usize) -> Result<(), AllocError> {
-        self.field(step, I32)?;
-        self.number(number)
-    }
-
-    fn long(&mut self, step: u8, number: usize) -> Result<(), AllocError> {
-        self.field(step, I64)?;
-        self.number(number)
-    }
-
-    fn binary(&mut self, step: u8, bytes: &[u8]) -> Result<(), AllocError> {
-        self.field(step, BINARY)?;
-        self.counted(bytes)
-    }
-
-    /// At most 127 bytes, behind their number.
-    fn counted(&mut self, bytes: &[u8]) -> Result<(), AllocError> {
-        self.bytes.push((bytes.len() % 128) as u8)?;
-        self.raw(bytes)
-    }
-
-    /// The head of a list of at most 14 values.
-    fn list(&mut self, step: u8, count: usize, kind: u8) -> Result<(), AllocError> {
-        self.field(step, LIST)?;
-        self.field((count % 15) as u8, kind)
-    }
-
-    /// A struct begins, as a field.
-    fn begin(&mut self, step: u8) -> Result<(), AllocError> {
-        self.field(step, STRUCT)
-    }
-
-    /// A struct ends.
-    fn end(&mut self) -> Result<(), AllocError> {
-        self.bytes.push(0)?;
-        Ok(())
-    }
-
-    /// The header of a data page of the first form.
-    fn data_header(
-        &mut self,
-        count: usize,
-        encoding: usize,
-        size: usize,
-    ) -> Result<(), AllocError> {
-        self.int(1, 0)?;
-        self.int(1, size)?;
-        self.int(1, size)?;
-        self.begin(2)?;
-        self.int(1, count)?;
-        self.int(1, encoding)?;
-        self.int(1, 3)?;
-        self.int(1, 3)?;
-        self.end()?;
-        self.end()
-    }
-
-    /// The header of a dictionary page.
-    fn dictionary_header(&mut self, count: usize, size: usize) -> Result<(), AllocError> {
-        self.int(1, 2)?;
-        self.int(1, size)?;
-        self.int(1, size)?;
-        self.begin(4)?;
-        self.int(1, count)?;
-        self.int(1, 0)?;
-        self.end()?;
-        self.end()
-    }
-
-    /// A page of keys: the width of 8 bits, and a run of one copy of each key.
-    fn key_page(&mut self, keys: &[u8]) -> Result<(), AllocError> {
-        let size = keys.len().saturating_mul(2).saturating_add(1);
-        self.data_header(keys.len(), 8, size)?;
-        self.bytes.push(8)?;
-        for key in keys {
-            self.raw(&[2, *key])?;
-        }
-        Ok(())
-    }
-
-    /// The version, and the schema of a required column.
-    fn schema(&mut self, column: Column) -> Result<(), AllocError> {
-        self.int(1, 1)?;
-        self.list(1, 2, STRUCT)?;
-        self.binary(4, b"schema")?;
-        self.int(1, 1)?;
-        self.end()?;
-        self.int(1, if column.is_time { 2 } else { 1 })?;
-        self.int(2, 0)?;
-        self.binary(1, column.name.as_bytes())?;
-        if column.is_time {
-            self.milliseconds()?;
-        }
-        self.end()
-    }
-
-    /// The logical type of times in milliseconds, behind the name of a column.
-    fn milliseconds(&mut self) -> Result<(), AllocError> {
-        self.begin(6)?;
-        self.begin(8)?;
-        self.field(1, TRUE)?;
-        self.begin(1)?;
-        self.begin(1)?;
-        self.end()?;
-        self.end()?;
-        self.end()?;
-        self.end()
-    }
-
-    /// A group of one chunk.
-    fn group(&mut self, column: Column, chunk: Chunk) -> Result<(), AllocError> {
-        let size = chunk
-            .end
-            .saturating_sub(chunk.dictionary.unwrap_or(chunk.start));
-        self.list(1, 1, STRUCT)?;
-        self.long(2, chunk.start)?;
-        self.begin(1)?;
-        self.chunk(column, chunk, size)?;
-        self.end()?;
-        self.end()?;
-        self.long(1, size)?;
-        self.long(1, chunk.rows)?;
-        self.end()
-    }
-
-    /// The fields of a chunk's metadata.
-    fn chunk(&mut self, column: Column, chunk: Chunk, size: usize) -> Result<(), AllocError> {
-        self.int(1, if column.is_time { 2 } else { 1 })?;
-        self.list(1, 1, I32)?;
-        self.number(if chunk.dictionary.is_some() { 8 } else { 0 })?;
-        self.list(1, 1, BINARY)?;
-        self.counted(column.name.as_bytes())?;
-        self.int(1, 0)?;
-        self.long(1, chunk.rows)?;
-        self.long(1, size)?;
-        self.long(1, size)?;
-        self.long(2, chunk.start)?;
-        match chunk.dictionary {
-            Some(place) => {
-                self.long(2, place)?;
-                self.statistics(1, chunk.ends)
+fn write_values(out: &mut Written, values: Values<'_>) -> Result<(), AllocError> {
+    match values {
+        Values::Numbers(numbers) => {
+            for number in numbers {
+                out.raw(&number.to_le_bytes()[..4])?;
             }
-            None => self.statistics(3, chunk.ends),
+            Ok(())
         }
+        Values::Times(times) => {
+            for time in times {
+                out.raw(&time.to_le_bytes())?;
+            }
+            Ok(())
+        }
+        Values::Keys(keys) => {
+            out.raw(&[8])?;
+            for key in keys {
+                out.raw(&[2, *key])?;
+            }
+            Ok(())
+        }
+        Values::Bytes(_, bytes) => out.raw(bytes),
     }
+}
 
-    /// Statistics without a null, where the ends are known.
-    fn statistics(&mut self, step: u8, ends: Option<(i64, i64)>) -> Result<(), AllocError> {
-        let Some((least, greatest)) = ends else {
-            return Ok(());
-        };
-        self.begin(step)?;
-        self.long(3, 0)?;
-        self.binary(2, &greatest.to_le_bytes()[..4])?;
-        self.binary(1, &least.to_le_bytes()[..4])?;
-        self.end()
+/// A column index of pages without a null.
+fn write_column_index(out: &mut Written, ends: &[(i64, i64)]) -> Result<(), AllocError> {
+    out.list(1, ends.len(), TRUE)?;
+    for _ in ends {
+        out.raw(&[FALSE])?;
     }
+    out.list(1, ends.len(), BINARY)?;
+    for (least, _) in ends {
+        out.counted(&least.to_le_bytes()[..4])?;
+    }
+    out.list(1, ends.len(), BINARY)?;
+    for (_, greatest) in ends {
+        out.counted(&greatest.to_le_bytes()[..4])?;
+    }
+    out.end()
+}
+
+/// The version, and the schema.
+fn write_schema(out: &mut Written, columns: &[Column]) -> Result<(), AllocError> {
+    out.int(1, 1)?;
+    out.list(1, columns.len().saturating_add(1), STRUCT)?;
+    out.binary(4, b"schema")?;
+    out.int(1, columns.len())?;
+    out.end()?;
+    for column in columns {
+        out.int(1, column.stored.number())?;
+        out.int(2, if column.is_optional { 1 } else { 0 })?;
+        out.binary(1, column.name.as_bytes())?;
+        if let Stored::Times = column.stored {
+            write_milliseconds(out)?;
+        }
+        out.end()?;
+    }
+    Ok(())
+}
+
+/// The logical type of times in milliseconds, behind the name of a column.
+fn write_milliseconds(out: &mut Written) -> Result<(), AllocError> {
+    out.begin(6)?;
+    out.begin(8)?;
+    out.field(1, TRUE)?;
+    out.begin(1)?;
+    out.begin(1)?;
+    out.end()?;
+    out.end()?;
+    out.end()?;
+    out.end()
+}
+
+/// The fields of a chunk's metadata.
+fn write_meta_data(
+    out: &mut Written,
+    column: Column,
+    chunk: Chunk,
+    ends: Option<(i64, i64)>,
+) -> Result<(), AllocError> {
+    let size = chunk.end.saturating_sub(chunk.start);
+    out.int(1, column.stored.number())?;
+    out.list(1, 1, I32)?;
+    out.number(0)?;
+    out.list(1, 1, BINARY)?;
+    out.counted(column.name.as_bytes())?;
+    out.int(1, 0)?;
+    out.long(1, chunk.rows)?;
+    out.long(1, size)?;
+    out.long(1, size)?;
+    out.long(2, chunk.data)?;
+    if chunk.start < chunk.data {
+        out.long(2, chunk.start)?;
+        return write_statistics(out, 1, ends);
+    }
+    write_statistics(out, 3, ends)
+}
+
+/// Statistics without a null, where the ends are known.
+fn write_statistics(
+    out: &mut Written,
+    step: u8,
+    ends: Option<(i64, i64)>,
+) -> Result<(), AllocError> {
+    let Some((least, greatest)) = ends else {
+        return Ok(());
+    };
+    out.begin(step)?;
+    out.long(3, 0)?;
+    out.binary(2, &greatest.to_le_bytes()[..4])?;
+    out.binary(1, &least.to_le_bytes()[..4])?;
+    out.end()
 }
