@@ -1,4 +1,4 @@
-"""What the inputs of the benchmarks are written with: numbers of several bytes, and packed numbers."""
+"""What the inputs of the benchmarks are written with: numbers of several bytes, packed numbers and their runs, and deltas."""
 
 
 def varint(n):
@@ -19,3 +19,28 @@ def packed(values, width):
     for i, value in enumerate(values):
         number |= value << (i * width)
     return number.to_bytes((len(values) * width + 7) // 8, "little")
+
+
+def packed_runs(values, width):
+    """Runs of 63 groups, the longest whose header is one byte."""
+    out = bytearray()
+    for at in range(0, len(values), 504):
+        run = values[at : at + 504]
+        out += varint((len(run) + 7) // 8 << 1 | 1) + packed(run, width)
+    return bytes(out)
+
+
+def delta(values):
+    """Blocks of 128 steps in four parts."""
+    steps = [b - a for a, b in zip(values, values[1:])]
+    out = bytearray(varint(128) + varint(4) + varint(len(values)) + zigzag(values[0]))
+    for at in range(0, len(steps), 128):
+        block = steps[at : at + 128]
+        least = min(block)
+        over = [step - least for step in block] + [0] * (128 - len(block))
+        parts = [over[i : i + 32] for i in range(0, 128, 32)]
+        widths = [max(part).bit_length() for part in parts]
+        out += zigzag(least) + bytes(widths)
+        for part, width in zip(parts, widths):
+            out += packed(part, width)
+    return bytes(out)

@@ -5,35 +5,11 @@ import sys
 
 sys.dont_write_bytecode = True
 sys.path.insert(0, os.path.join(os.path.dirname(os.path.abspath(__file__)), ".."))
-from formats import packed, varint, zigzag
+from formats import delta, packed_runs
 
 folder = sys.argv[1]
 COUNT = 100_000
 ENTRIES = 1000
-
-
-def packed_runs(values, width):
-    """Runs of 63 groups, the longest whose header is one byte."""
-    out = bytearray()
-    for at in range(0, len(values), 504):
-        run = values[at : at + 504]
-        out += varint((len(run) + 7) // 8 << 1 | 1) + packed(run, width)
-    return bytes(out)
-
-
-def delta(values):
-    steps = [b - a for a, b in zip(values, values[1:])]
-    out = bytearray(varint(128) + varint(4) + varint(len(values)) + zigzag(values[0]))
-    for at in range(0, len(steps), 128):
-        block = steps[at : at + 128]
-        least = min(block)
-        over = [step - least for step in block] + [0] * (128 - len(block))
-        parts = [over[i : i + 32] for i in range(0, 128, 32)]
-        widths = [max(part).bit_length() for part in parts]
-        out += zigzag(least) + bytes(widths)
-        for part, width in zip(parts, widths):
-            out += packed(part, width)
-    return bytes(out)
 
 
 def little(values, size):

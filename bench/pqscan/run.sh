@@ -1,46 +1,93 @@
 #!/bin/sh
-# Times whole scans of one column of 2,000,000 rows beside a plain Rust scan: all rows, and 1 row in 1000 by group statistics and by page
-# indexes. Proves and builds pqscan first where that is not done yet. Usage: bench/pqscan/run.sh [FOLDER]
+# Times whole scans of one column beside a plain Rust scan, and compares the memory that both take: numbers of 32 bits and texts, all rows,
+# a few of them, in chunks, and counted alone. Both programs must write the same text for each request, and for each of a table of
+# requests on small files. Each time is the best of so many runs. Proves and builds pqscan first where that is not done yet, unless a
+# program is named. Inputs are kept in the folder, bench/data where none is named.
+# Usage: [RUNS=NUMBER] [PQSCAN=PROGRAM] bench/pqscan/run.sh [FOLDER]
 set -eu
 here=$(cd "$(dirname "$0")" && pwd)
 top=$(cd "$here/../.." && pwd)
-work=${1:-$(mktemp -d)}
+work=${1:-$top/bench/data}
+runs=${RUNS:-21}
+ours=${PQSCAN:-$top/crates/pqscan/out/pqscan}
 mkdir -p "$work"
-python3 "$here/inputs.py" "$work/plain.parquet" 2000000
-python3 "$here/inputs.py" "$work/indexed.parquet" 2000000 indexed
+
+# write NAME ROWS KIND: an input, where there is none yet or an older one.
+write() {
+    [ "$work/$1.parquet" -nt "$here/inputs.py" ] || python3 "$here/inputs.py" "$work/$1.parquet" "$2" "$3"
+}
+
+for kind in numbers indexed short named joined half_null; do
+    write $kind 2000000 $kind
+done
+write long 500000 long
+for kind in numbers indexed short long named joined half_null odd odd_named odd_joined; do
+    write few_$kind 45000 $kind
+done
 rustc --edition 2021 -O -C target-cpu=x86-64-v2 -C codegen-units=1 -C panic=abort "$here/twin.rs" -o "$work/twin"
-"$top/pqscan" "$work/plain.parquet" a:Int32 'a<=0' >/dev/null
-python3 - "$top/crates/pqscan/out/pqscan" "$work/twin" "$work" <<'PY'
-import hashlib, os, statistics, subprocess, sys
+${CC:-cc} -O1 "$here/timed.c" -o "$work/timed"
+[ -n "${PQSCAN:-}" ] || "$top/pqscan" "$work/few_numbers.parquet" a:Int32 'a<=0' >/dev/null
+python3 - "$ours" "$work" "$runs" <<'PY'
+import hashlib, subprocess, sys
 
-ours, twin, work = sys.argv[1:]
+ours, work, runs = sys.argv[1], sys.argv[2], int(sys.argv[3])
+twin, timed = f"{work}/twin", f"{work}/timed"
+# What is timed: of which file, and the words behind the column.
 requests = [
-    ("all rows", "plain.parquet", []),
-    ("one group", "plain.parquet", ["a>=1000500", "a<=1000505"]),
-    ("one page", "indexed.parquet", ["a>=1000500", "a<=1000505"]),
-    ("1 row in 1000", "indexed.parquet", ["a>=1000000", "a<=1001999"]),
+    ("numbers", "numbers", []),
+    ("numbers, counted", "numbers", ["--summary"]),
+    ("numbers, one group", "numbers", ["a>=1000500", "a<=1000505"]),
+    ("numbers, one page", "indexed", ["a>=1000500", "a<=1000505"]),
+    ("numbers, 1 row in 1000", "indexed", ["a>=1000000", "a<=1001999"]),
+    ("numbers, first 10", "numbers", ["--limit", "10"]),
+    ("numbers in chunks of 1000", "numbers", ["--chunk", "1000"]),
+    ("texts of 8", "short", []),
+    ("texts of 8, counted", "short", ["--summary"]),
+    ("texts of 8, first 10", "short", ["--limit", "10"]),
+    ("texts of 8 in chunks of 1000", "short", ["--chunk", "1000"]),
+    ("texts of 100", "long", []),
+    ("texts of 100, counted", "long", ["--summary"]),
+    ("named texts", "named", []),
+    ("named texts, counted", "named", ["--summary"]),
+    ("joined texts of 8", "joined", []),
+    ("joined texts of 8, counted", "joined", ["--summary"]),
+    ("half null texts of 8", "half_null", []),
+    ("half null texts, counted", "half_null", ["--summary"]),
 ]
+# What is compared alone: each of these on a small file of each kind.
+kinds = ["numbers", "indexed", "short", "long", "named", "joined", "half_null", "odd", "odd_named", "odd_joined"]
+small = ["", "--summary", "--limit 0", "--limit 10", "--chunk 7", "--chunk 1000", "--limit 20007 --chunk 999", "--limit 44999 --chunk 30000 --summary"]
 
 
-def run(program, file, bounds):
-    """The processor seconds of one run, whose text goes nowhere."""
-    with open(os.devnull, "w") as nowhere:
-        child = subprocess.Popen([program, f"{work}/{file}", "a:Int32", *bounds], stdout=nowhere)
-        _, status, usage = os.wait4(child.pid, 0)
-    assert status == 0, (program, file, bounds, status)
-    return usage.ru_utime + usage.ru_stime
+def command(program, file, words):
+    item = "a:Int32" if file.endswith(("numbers", "indexed")) else "a:Utf8"
+    return [program, f"{work}/{file}.parquet", item, *words]
 
 
-def digest(program, file, bounds):
-    said = subprocess.run([program, f"{work}/{file}", "a:Int32", *bounds], capture_output=True, check=True)
+def digest(program, file, words):
+    said = subprocess.run(command(program, file, words), capture_output=True, check=True)
     return hashlib.md5(said.stdout).hexdigest()
 
 
-print(f"{'request':16} {'ms':>8} {'Rust ms':>8} {'ratio':>6} {'paired':>7}")
-for name, file, bounds in requests:
-    assert digest(ours, file, bounds) == digest(twin, file, bounds), name
-    pairs = [(run(ours, file, bounds), run(twin, file, bounds)) for _ in range(21)]
-    mine, its = min(a for a, _ in pairs), min(b for _, b in pairs)
-    paired = statistics.median(a / max(b, 1e-9) for a, b in pairs)
-    print(f"{name:16} {mine * 1e3:8.2f} {its * 1e3:8.2f} {mine / max(its, 1e-9):6.2f} {paired:7.2f}")
+def compare(file, words):
+    assert digest(ours, file, words) == digest(twin, file, words), (file, words)
+
+
+def run(program, file, words):
+    """The processor milliseconds of one run, and the most MiB that it had."""
+    said = subprocess.run([timed, *command(program, file, words)], capture_output=True, check=True)
+    time, most = map(int, said.stdout.split())
+    return time / 1e3, most / 1024
+
+
+for kind in kinds:
+    for line in small:
+        compare(f"few_{kind}", line.split())
+print(f"{'request':28} {'ms':>8} {'Rust ms':>8} {'ratio':>6} {'MiB':>7} {'Rust MiB':>8}", flush=True)
+for name, file, words in requests:
+    compare(file, words)
+    each = [(*run(ours, file, words), *run(twin, file, words)) for _ in range(runs)]
+    mine, its = min(a for a, _, _, _ in each), min(b for _, _, b, _ in each)
+    most = [max(it[i] for it in each) for i in (1, 3)]
+    print(f"{name:28} {mine:8.2f} {its:8.2f} {mine / max(its, 1e-6):6.2f} {most[0]:7.1f} {most[1]:8.1f}", flush=True)
 PY

@@ -1,11 +1,14 @@
 //! `twin FILE ITEM.. [--limit N] [--chunk N] [--summary] [--no-print]`: a pruned flat Parquet scan in plain Rust, by the standard
 //! library alone. It reads uncompressed files with pages of the first form of INT32, INT64 and BYTE_ARRAY columns, required or optional,
-//! plain or with dictionaries, prunes by statistics and page indexes, and writes what `pqscan` writes.
+//! plain, with dictionaries or, for texts and bytes, joined behind their lengths, prunes by statistics and page indexes, and writes what
+//! `pqscan` writes.
 
 use std::fs::File;
 use std::io::Write;
 use std::os::fd::FromRawFd;
 use std::os::unix::fs::FileExt;
+
+include!("../formats.rs");
 
 #[derive(Debug, Clone, Copy, PartialEq)]
 enum Error {
@@ -14,6 +17,7 @@ enum Error {
     NotCarried,
     Damaged,
     NotValid,
+    Range,
     Reading,
     Writing,
 }
@@ -54,8 +58,7 @@ impl<'a> Compact<'a> {
     }
 
     fn i64(&mut self) -> Result<i64> {
-        let n = self.varint()?;
-        Ok((n >> 1) as i64 ^ -((n & 1) as i64))
+        Ok(zigzag(self.varint()?))
     }
 
     fn i32(&mut self) -> Result<i32> {
@@ -370,12 +373,18 @@ impl Input {
     }
 
     fn read(&self, at: u64, length: u64) -> Result<Vec<u8>> {
+        let mut bytes = Vec::new();
+        self.read_to(&mut bytes, at, length)?;
+        Ok(bytes)
+    }
+
+    /// Reads in the place of what a buffer holds, so that its memory is taken once.
+    fn read_to(&self, bytes: &mut Vec<u8>, at: u64, length: u64) -> Result<()> {
         if at.checked_add(length).is_none_or(|end| end > self.size) {
             return Err(Error::Damaged);
         }
-        let mut bytes = vec![0; length as usize];
-        self.file.read_exact_at(&mut bytes, at).map_err(|_| Error::Reading)?;
-        Ok(bytes)
+        bytes.resize(length as usize, 0);
+        self.file.read_exact_at(bytes, at).map_err(|_| Error::Reading)
     }
 
     fn meta(&self) -> Result<Meta> {
@@ -604,7 +613,7 @@ struct Array {
 enum Dict {
     Int32(Vec<i32>),
     Int64(Vec<i64>),
-    Bytes { offsets: Vec<u32>, data: Vec<u8> },
+    Bytes { offsets: Vec<i32>, data: Vec<u8> },
 }
 
 /// Calls `f` on each run of the hybrid stream: (value, count) or packed groups.
@@ -657,24 +666,6 @@ fn hybrid<'a>(
     Ok(())
 }
 
-/// Unpacks `count` values of `width` bits.
-fn unpack(bytes: &[u8], width: u32, count: usize, mut f: impl FnMut(u32) -> Result<()>) -> Result<()> {
-    let mask = if width == 32 { u32::MAX } else { (1 << width) - 1 };
-    let mut buffer = 0u64;
-    let mut have = 0;
-    let mut rest = bytes.iter();
-    for _ in 0..count {
-        while have < width {
-            buffer |= (*rest.next().ok_or(Error::Damaged)? as u64) << have;
-            have += 8;
-        }
-        f(buffer as u32 & mask)?;
-        buffer >>= width;
-        have -= width;
-    }
-    Ok(())
-}
-
 /// The bits of a byte, one byte each, from the lowest.
 static SPREAD: [[u8; 8]; 256] = {
     let mut t = [[0; 8]; 256];
@@ -714,25 +705,76 @@ fn levels(bytes: &[u8], count: usize) -> Result<(Vec<u8>, usize)> {
 /// The stored values of a page, before selection.
 enum Stored<'a> {
     Plain(&'a [u8]),
+    Joined(&'a [u8]),
     Keys(&'a [u8], u32),
 }
 
 fn decode_keys(bytes: &[u8], width: u32, count: usize, entries: usize) -> Result<Vec<u32>> {
-    let mut keys = Vec::with_capacity(count);
+    let mut keys = vec![0; count];
+    let mut done = 0;
     hybrid(bytes, width, count, |run| {
         match run {
-            Run::Same(v, n) => keys.resize(keys.len() + n, v),
-            Run::Packed(bytes, n) => unpack(bytes, width, n, |v| {
-                keys.push(v);
-                Ok(())
-            })?,
+            Run::Same(key, n) => {
+                keys[done..done + n].fill(key);
+                done += n;
+            }
+            Run::Packed(bytes, n) => {
+                unpack(bytes, width as usize, &mut keys[done..done + n]);
+                done += n;
+            }
         }
         Ok(())
     })?;
-    if keys.iter().any(|k| *k as usize >= entries) {
+    if count > 0 && keys.iter().fold(0, |most, key| most.max(*key)) as usize >= entries {
         return Err(Error::NotValid);
     }
     Ok(keys)
+}
+
+/// The number in `width` bits from a bit on.
+fn wide(bytes: &[u8], bit: usize, width: usize) -> u64 {
+    let low = word_at(bytes, bit / 8) >> (bit % 8);
+    let value = if bit % 8 + width > 64 { low | word_at(bytes, bit / 8 + 8) << (64 - bit % 8) } else { low };
+    if width == 64 { value } else { value & ((1 << width) - 1) }
+}
+
+/// The numbers of a delta-packed list, and where it ends.
+fn delta(bytes: &[u8], count: usize) -> Option<(Vec<i64>, usize)> {
+    let mut place = 0;
+    let block = varint(bytes, &mut place)? as usize;
+    let parts = varint(bytes, &mut place)? as usize;
+    let total = varint(bytes, &mut place)? as usize;
+    let mut value = zigzag(varint(bytes, &mut place)?);
+    if total != count || block == 0 || block % 128 != 0 || parts == 0 || block % parts != 0 || block / parts % 32 != 0 {
+        return None;
+    }
+    let size = block / parts;
+    let mut values = Vec::with_capacity(count.max(1));
+    values.push(value);
+    while values.len() < count {
+        let least = zigzag(varint(bytes, &mut place)?);
+        let widths = bytes.get(place..place.checked_add(parts)?)?;
+        place += parts;
+        for width in widths {
+            let length = size.min(count - values.len());
+            if length == 0 {
+                break;
+            }
+            let width = usize::from(*width);
+            if width > 64 {
+                return None;
+            }
+            let body = bytes.get(place..place.checked_add(size.checked_mul(width)? / 8)?)?;
+            place += body.len();
+            values.extend((0..length).map(|i| {
+                let step = if width == 0 { 0 } else { wide(body, i * width, width) };
+                value = value.wrapping_add(least).wrapping_add(step as i64);
+                value
+            }));
+        }
+    }
+    values.truncate(count);
+    Some((values, place))
 }
 
 trait Native: Copy + Default {
@@ -777,6 +819,7 @@ fn extend_numbers<T: Native>(
             }
             Some(*bytes)
         }
+        Stored::Joined(_) => return Err(Error::NotCarried),
         Stored::Keys(bytes, width) => {
             let dict = dict.ok_or(Error::NotCarried)?;
             keys = decode_keys(bytes, *width, present, dict.len())?;
@@ -846,101 +889,183 @@ fn extend_validity(validity: &mut Bitmap, mut level: &[u8]) {
     }
 }
 
+/// The byte strings of a page that are still to come.
+enum Strings<'a> {
+    Plain(&'a [u8]),
+    Joined { lengths: &'a [i64], bytes: &'a [u8] },
+    Named { keys: &'a [u32], ends: &'a [i32], entries: &'a [u8] },
+}
+
+fn next_plain<'a>(rest: &mut &'a [u8]) -> Result<&'a [u8]> {
+    let (head, tail) = rest.split_first_chunk::<4>().ok_or(Error::Damaged)?;
+    let (item, tail) = tail.split_at_checked(u32::from_le_bytes(*head) as usize).ok_or(Error::Damaged)?;
+    *rest = tail;
+    Ok(item)
+}
+
+/// The lengths of `count` byte strings, and their bytes, joined.
+fn joined(bytes: &[u8], count: usize) -> Result<(Vec<i64>, &[u8])> {
+    let (lengths, end) = delta(bytes, count).ok_or(Error::Damaged)?;
+    let mut room = bytes.len() - end;
+    for length in &lengths {
+        let length = u32::try_from(*length).map_err(|_| Error::Damaged)? as usize;
+        room = room.checked_sub(length).ok_or(Error::Damaged)?;
+    }
+    if lengths.iter().any(|length| *length > i64::from(i32::MAX)) {
+        return Err(Error::Damaged);
+    }
+    Ok((lengths, &bytes[end..]))
+}
+
+impl Strings<'_> {
+    /// Appends the next strings, and where each of them ends.
+    fn take(&mut self, count: usize, data: &mut Vec<u8>, ends: &mut Vec<i32>) -> Result<()> {
+        match self {
+            Strings::Plain(rest) => {
+                let count = count.min(rest.len() / 4 + 1);
+                data.reserve(rest.len().saturating_sub(4 * count));
+                ends.reserve(count);
+                for _ in 0..count {
+                    data.extend_from_slice(next_plain(rest)?);
+                    ends.push(data.len() as i32);
+                }
+            }
+            Strings::Joined { lengths, bytes } => {
+                let (now, later) = lengths.split_at(count);
+                let held = data.len();
+                let mut end = held;
+                ends.extend(now.iter().map(|length| {
+                    end += *length as usize;
+                    end as i32
+                }));
+                data.extend_from_slice(&bytes[..end - held]);
+                (*lengths, *bytes) = (later, &bytes[end - held..]);
+            }
+            Strings::Named { keys, ends: places, entries } => {
+                let (now, later) = keys.split_at(count);
+                ends.reserve(count);
+                for key in now {
+                    let key = *key as usize;
+                    data.extend_from_slice(&entries[places[key] as usize..places[key + 1] as usize]);
+                    ends.push(data.len() as i32);
+                }
+                *keys = later;
+            }
+        }
+        i32::try_from(data.len()).map_err(|_| Error::Range)?;
+        Ok(())
+    }
+
+    fn skip(&mut self, count: usize) -> Result<()> {
+        match self {
+            Strings::Plain(rest) => {
+                for _ in 0..count {
+                    next_plain(rest)?;
+                }
+            }
+            Strings::Joined { lengths, bytes } => {
+                let (now, later) = lengths.split_at(count);
+                let passed: i64 = now.iter().sum();
+                (*lengths, *bytes) = (later, &bytes[passed as usize..]);
+            }
+            Strings::Named { keys, .. } => *keys = &keys[count..],
+        }
+        Ok(())
+    }
+
+    /// Plain strings leave nothing behind the last.
+    fn end(self) -> Result<()> {
+        match self {
+            Strings::Plain(rest) if !rest.is_empty() => Err(Error::Damaged),
+            _ => Ok(()),
+        }
+    }
+}
+
+/// Whether the strings that begin at these places and fill the bytes from the first of them on are texts: all of them together are,
+/// and none begins inside a character.
+fn check_texts(data: &[u8], places: &[i32]) -> Result<()> {
+    let from = places[0] as usize;
+    let added = &data[from..];
+    if added.is_ascii() {
+        return Ok(());
+    }
+    let text = std::str::from_utf8(added).map_err(|_| Error::NotValid)?;
+    match places.iter().all(|place| text.is_char_boundary(*place as usize - from)) {
+        true => Ok(()),
+        false => Err(Error::NotValid),
+    }
+}
+
+fn count_present(level: Option<&[u8]>, from: usize, to: usize) -> usize {
+    level.map_or(to - from, |level| level[from..to].iter().map(|l| *l as usize).sum())
+}
+
+/// Appends the strings of the selected rows, and where each row ends; a null ends where it begins.
+fn extend_selected(
+    mut strings: Strings,
+    (offsets, data): (&mut Vec<i32>, &mut Vec<u8>),
+    level: Option<&[u8]>,
+    selected: &[Interval],
+    rows: usize,
+) -> Result<()> {
+    let mut ends = Vec::new();
+    let mut at = 0;
+    for (start, length) in selected {
+        strings.skip(count_present(level, at, *start))?;
+        at = start + length;
+        match level {
+            None => strings.take(*length, data, offsets)?,
+            Some(level) => {
+                ends.clear();
+                ends.push(data.len() as i32);
+                strings.take(count_present(Some(level), *start, at), data, &mut ends)?;
+                let mut taken = 0;
+                offsets.extend(level[*start..at].iter().map(|l| {
+                    taken += *l as usize;
+                    ends[taken]
+                }));
+            }
+        }
+    }
+    strings.skip(count_present(level, at, rows))?;
+    strings.end()
+}
+
 fn extend_bytes(
     (offsets, data, text): (&mut Vec<i32>, &mut Vec<u8>, bool),
     validity: Option<&mut Bitmap>,
     level: Option<&[u8]>,
     present: usize,
     stored: &Stored,
-    dict: Option<(&[u32], &[u8])>,
+    dict: Option<(&[i32], &[u8])>,
     selected: &[Interval],
     rows: usize,
 ) -> Result<()> {
-    let from = data.len();
-    let from_item = offsets.len();
-    let push_end = |offsets: &mut Vec<i32>, end: usize| -> Result<()> {
-        offsets.push(i32::try_from(end).map_err(|_| Error::NotValid)?);
-        Ok(())
-    };
-    let whole = selected.len() == 1 && selected[0] == (0, rows);
-    match stored {
-        Stored::Plain(bytes) => {
-            let mut rest = *bytes;
-            let mut next = || -> Result<&[u8]> {
-                let (head, tail) = rest.split_first_chunk::<4>().ok_or(Error::Damaged)?;
-                let (item, tail) = tail
-                    .split_at_checked(u32::from_le_bytes(*head) as usize)
-                    .ok_or(Error::Damaged)?;
-                rest = tail;
-                Ok(item)
-            };
-            if whole && level.is_none() {
-                data.reserve(bytes.len().saturating_sub(4 * rows));
-                offsets.reserve(rows);
-                for _ in 0..rows {
-                    data.extend_from_slice(next()?);
-                    push_end(offsets, data.len())?;
-                }
-            } else {
-                let mut at = 0;
-                for (start, length) in selected {
-                    for r in at..start + length {
-                        let here = level.is_none_or(|l| l[r] == 1);
-                        let item: &[u8] = if here { next()? } else { &[] };
-                        if r >= *start {
-                            data.extend_from_slice(item);
-                            push_end(offsets, data.len())?;
-                        }
-                    }
-                    at = start + length;
-                }
-                for r in at..rows {
-                    if level.is_none_or(|l| l[r] == 1) {
-                        next()?;
-                    }
-                }
-            }
-            if !rest.is_empty() {
-                return Err(Error::Damaged);
-            }
+    let last = offsets.len() - 1;
+    let (keys, lengths);
+    let strings = match stored {
+        Stored::Plain(bytes) => Strings::Plain(bytes),
+        Stored::Joined(page) => {
+            let bytes;
+            (lengths, bytes) = joined(page, present)?;
+            Strings::Joined { lengths: &lengths, bytes }
         }
         Stored::Keys(bytes, width) => {
             let (ends, entries) = dict.ok_or(Error::NotCarried)?;
-            let keys = decode_keys(bytes, *width, present, ends.len() - 1)?;
-            let mut keys = keys.iter().map(|k| *k as usize);
-            let mut at = 0;
-            for (start, length) in selected {
-                for r in at..start + length {
-                    let here = level.is_none_or(|l| l[r] == 1);
-                    let item: &[u8] = match here {
-                        true => {
-                            let k = keys.next().ok_or(Error::Damaged)?;
-                            &entries[ends[k] as usize..ends[k + 1] as usize]
-                        }
-                        false => &[],
-                    };
-                    if r >= *start {
-                        data.extend_from_slice(item);
-                        push_end(offsets, data.len())?;
-                    }
-                }
-                at = start + length;
-            }
+            keys = decode_keys(bytes, *width, present, ends.len() - 1)?;
+            Strings::Named { keys: &keys, ends, entries }
         }
-    }
+    };
+    extend_selected(strings, (offsets, data), level, selected, rows)?;
     if let (Some(validity), Some(level)) = (validity, level) {
         for (start, length) in selected {
             extend_validity(validity, &level[*start..start + length]);
         }
     }
-    if text && matches!(stored, Stored::Plain(_)) {
-        let added = &data[from..];
-        if !added.is_ascii() {
-            let s = std::str::from_utf8(added).map_err(|_| Error::NotValid)?;
-            if !offsets[from_item..].iter().all(|o| s.is_char_boundary(*o as usize - from)) {
-                return Err(Error::NotValid);
-            }
-        }
+    // Entries were tested with the dictionary.
+    if text && !matches!(stored, Stored::Keys(..)) {
+        check_texts(data, &offsets[last..])?;
     }
     Ok(())
 }
@@ -951,21 +1076,11 @@ fn read_dict(physical: Physical, text: bool, body: &[u8], count: usize) -> Resul
         Physical::Int64 if body.len() == count * 8 => Dict::Int64(plain(body).collect()),
         Physical::ByteArray => {
             let (mut offsets, mut data) = (vec![0], Vec::new());
-            let mut rest = body;
-            for _ in 0..count {
-                let (head, tail) = rest.split_first_chunk::<4>().ok_or(Error::Damaged)?;
-                let (item, tail) = tail
-                    .split_at_checked(u32::from_le_bytes(*head) as usize)
-                    .ok_or(Error::Damaged)?;
-                if text {
-                    std::str::from_utf8(item).map_err(|_| Error::NotValid)?;
-                }
-                data.extend_from_slice(item);
-                offsets.push(data.len() as u32);
-                rest = tail;
-            }
-            if !rest.is_empty() {
-                return Err(Error::Damaged);
+            let mut strings = Strings::Plain(body);
+            strings.take(count, &mut data, &mut offsets)?;
+            strings.end()?;
+            if text {
+                check_texts(&data, &offsets)?;
             }
             Dict::Bytes { offsets, data }
         }
@@ -1024,6 +1139,7 @@ impl<'a> ColumnReader<'a> {
         let stored = match h.encoding {
             _ if present == 0 => Stored::Plain(&[]),
             0 => Stored::Plain(values),
+            6 => Stored::Joined(values),
             2 | 8 => {
                 let (width, keys) = values.split_first().ok_or(Error::Damaged)?;
                 Stored::Keys(keys, *width as u32)
@@ -1313,6 +1429,7 @@ fn scan(input: &Input, request: &Request) -> Result<Scan> {
         scan.kept.push((g.rows, kept));
     }
 
+    let mut bytes = Vec::new();
     let mut left = request.limit.unwrap_or(usize::MAX);
     for (i, g) in meta.groups.iter().enumerate() {
         let kept = &scan.kept[i].1;
@@ -1335,7 +1452,7 @@ fn scan(input: &Input, request: &Request) -> Result<Scan> {
             if indexed {
                 located(input, chunk, g.rows, &locations[i][n], kept, rows, &mut reader)?;
             } else {
-                let bytes = input.read(chunk.start(), chunk.size)?;
+                input.read_to(&mut bytes, chunk.start(), chunk.size)?;
                 reader.whole(&bytes, g.rows, rows)?;
             }
             scan.pages += reader.pages;
@@ -1491,7 +1608,8 @@ impl Output {
 
     fn quoted(&mut self, s: &[u8]) {
         self.buffer.push(b'"');
-        if s.iter().all(|b| !needs_escape(*b)) {
+        // (every byte is looked at, so that many are at once)
+        if !s.iter().fold(false, |found, b| found | needs_escape(*b)) {
             self.buffer.extend_from_slice(s);
         } else {
             for b in s {
@@ -1605,6 +1723,7 @@ fn main() {
         Err(Error::NotCarried) => 4,
         Err(Error::Damaged) => 5,
         Err(Error::NotValid) => 6,
+        Err(Error::Range) => 7,
         Err(Error::Reading) => 8,
         Err(Error::Writing) => 9,
     };
