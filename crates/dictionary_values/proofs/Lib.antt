@@ -1,0 +1,11 @@
+pub mod KeyLemmas
+pub mod CauseLemmas
+pub mod PageLemmas
+pub mod NamedLemmas
+pub mod ColumnLemmas
+pub mod ArrayLemmas
+pub mod BuildLemmas
+pub mod IterLemmas
+pub mod NextLemmas
+pub mod EntryLemmas
+pub mod ByteLemmas

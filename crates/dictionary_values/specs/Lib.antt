@@ -1,0 +1,4 @@
+pub mod Keys
+pub mod KeysGiven
+pub mod DictLeft
+pub mod EntryTypes
