@@ -9,9 +9,13 @@ use Rattle.pq_common.specs.CellText.{cell_text}
 abbrev pub line : List ℕ → List ℕ
 line text = text ++ 10 ∷ []
 
+-- the text of the cell in a row, if there is one
+abbrev pub text_in : ℕ → List Cell → List ℕ
+text_in row cells = option_map_or cell_text (slice_get cells row) []
+
 -- the cell of a column in a row
 abbrev pub cell_at : ℕ → DataType × List Cell → List ℕ
-cell_at row column = option_map_or cell_text (slice_get column.1 row) []
+cell_at row column = text_in row column.1
 
 abbrev pub row_line : List (DataType × List Cell) → ℕ → List ℕ
 row_line columns row = line (join_by (cell_at row) (9 ∷ []) columns)

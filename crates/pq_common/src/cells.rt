@@ -1,13 +1,16 @@
 //! Cells as text.
-ghost use Rattle.std.specs.Prelude.{◌≡◌, ◌++◌, codes, flat_map, IfErr, OnOk};
+ghost use Rattle.std.specs.Prelude.{◌≡◌, ◌≤◌, ◌++◌, codes, flat_map, length, map, take, IfErr, OnOk};
 ghost use Rattle.columns_core.specs.Array.{column_of};
 ghost use Rattle.columns_core.specs.Causes.{IsWantOfMemory};
+ghost use Rattle.columns_core.specs.Column.{cell_of};
+ghost use Rattle.columns_core.specs.declared.cell.Cell.{Bytes, Text};
+ghost use Rattle.pq_common.specs.CellText as spec;
 ghost use Rattle.pq_common.specs.CellText.{cell_text, days_text, hexadecimal, quoted, quoted_byte};
-ghost use Rattle.pq_common.specs.Rows.{cell_at};
+ghost use Rattle.pq_common.specs.Rows.{cell_at, text_in};
 
 use crate::column::push_number;
 use crate::digits::push_signed;
-use columns_core::{Array, Cell, Error};
+use columns_core::{Array, BinaryArray, Cell, Error, Offset, Utf8Array};
 use std::alloc::{AllocError, Global};
 
 const DIGITS: [u8; 16] = *b"0123456789abcdef";
@@ -23,6 +26,11 @@ pub fn push_cell(alloc: Global, text: &mut Vec<u8>, array: &Array, row: usize) -
             push_number(text, array, row)?;
             Ok(())
         }
+        // Texts and byte strings are not copied into cells.
+        Array::Utf8(array) => Ok(push_text(text, array, row)?),
+        Array::LargeUtf8(array) => Ok(push_text(text, array, row)?),
+        Array::Binary(array) => Ok(push_string(text, array, row)?),
+        Array::LargeBinary(array) => Ok(push_string(text, array, row)?),
         _ => {
             if row >= array.len() {
                 return Ok(());
@@ -57,6 +65,42 @@ fn push_days(text: &mut Vec<u8>, days: i32, milliseconds: i32) -> Result<(), All
     push_signed(text, milliseconds as i128)
 }
 
+/// Writes the text or null of a row at the end.
+fn push_text<O: Offset>(
+    text: &mut Vec<u8>,
+    array: &Utf8Array<O>,
+    row: usize,
+) -> Result<(), AllocError>
+    ensures { let cells = map (cell_of Text) array.now.items in
+        OnOk result (text.new.items ≡ text.old.items ++ text_in row cells) }
+{
+    if row >= array.len() {
+        return Ok(());
+    }
+    match array.get(row) {
+        None => text.extend_from_slice(b"null"),
+        Some(name) => push_quoted(text, name.as_bytes()),
+    }
+}
+
+/// Writes the byte string or null of a row at the end.
+fn push_string<O: Offset>(
+    text: &mut Vec<u8>,
+    array: &BinaryArray<O>,
+    row: usize,
+) -> Result<(), AllocError>
+    ensures { let cells = map (cell_of Bytes) array.now.items in
+        OnOk result (text.new.items ≡ text.old.items ++ text_in row cells) }
+{
+    if row >= array.len() {
+        return Ok(());
+    }
+    match array.get(row) {
+        None => text.extend_from_slice(b"null"),
+        Some(bytes) => push_bytes(text, bytes),
+    }
+}
+
 /// Writes a text in quotes at the end.
 fn push_quoted(text: &mut Vec<u8>, bytes: &[u8]) -> Result<(), AllocError>
     ensures { OnOk result (text.new.items ≡ text.old.items ++ quoted bytes.now) }
@@ -67,19 +111,46 @@ fn push_quoted(text: &mut Vec<u8>, bytes: &[u8]) -> Result<(), AllocError>
     Ok(())
 }
 
+/// Writes a text at the end, the bytes that stand for themselves side by side.
 fn push_escaped(text: &mut Vec<u8>, bytes: &[u8]) -> Result<(), AllocError>
     ensures { OnOk result (text.new.items ≡ text.old.items ++ flat_map quoted_byte bytes.now) }
 {
-    for byte in bytes {
-        push_quoted_byte(text, *byte)?;
+    let mut rest = bytes;
+    while !rest.is_empty() {
+        let plain = plain_length(rest);
+        text.extend_from_slice(&rest[..plain])?;
+        if plain == rest.len() {
+            return Ok(());
+        }
+        push_quoted_byte(text, rest[plain])?;
+        rest = &rest[plain + 1..];
     }
     Ok(())
+}
+
+/// How many bytes from the first on stand for themselves.
+fn plain_length(bytes: &[u8]) -> usize
+    ensures within { result ≤ length bytes.now }
+    ensures plain { flat_map quoted_byte (take result bytes.now) ≡ take result bytes.now }
+{
+    let mut count = 0;
+    while count < bytes.len() && !is_escaped(bytes[count]) {
+        count += 1;
+    }
+    count
+}
+
+/// Whether a byte of a text is written by its number.
+fn is_escaped(byte: u8) -> bool
+    ensures { result ≡ spec.is_escaped byte }
+{
+    byte == b'\\' || byte == b'"' || byte < 32 || byte == 127
 }
 
 fn push_quoted_byte(text: &mut Vec<u8>, byte: u8) -> Result<(), AllocError>
     ensures { OnOk result (text.new.items ≡ text.old.items ++ quoted_byte byte) }
 {
-    if byte == b'\\' || byte == b'"' || byte < 32 || byte == 127 {
+    if is_escaped(byte) {
         text.extend_from_slice(b"\\x")?;
         return push_hexadecimal(text, byte);
     }
