@@ -14,7 +14,7 @@ use Rattle.page_decoding.specs.Standing.{NoneComes, still_wanted}
 use Rattle.flat_values.specs.ColumnLeft.{ColumnLeft, GivesColumn}
 use Rattle.dictionary_values.specs.DictLeft.{IsKeyed, keyed_left, keys_decoding}
 use Rattle.dictionary_values.specs.Keys.{NamesEntry, named_cell, selected_entries, selected_keys}
-use Rattle.dictionary_values.proofs.ColumnLemmas.{KeysRead, array-given, array-memory, chunk-keyed, chunk-names, chunk-there, end-given, end-keyed, error-given, error-keyed}
+use Rattle.dictionary_values.proofs.ColumnLemmas.{KeysRead, array-given, array-memory, chunk-keyed, chunk-names, chunk-there, end-given, error-given}
 use Rattle.dictionary_values.proofs.PageLemmas.{selected-name, selected-named, selected-none}
 
 -- Pages of keys may be of any type.

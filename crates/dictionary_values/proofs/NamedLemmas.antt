@@ -16,7 +16,7 @@ use Rattle.page_decoding.specs.NextChunk.{IsFirstChunk}
 use Rattle.page_decoding.specs.Outcome.{Outcome, Given, Refused, IsCausedBy, causes_in, cells_in, refusal_of, refused}
 use Rattle.page_decoding.specs.Queue.{first_chunk, later_chunks}
 use Rattle.page_decoding.specs.Standing.{AreNeeded, IsShort, Standing, after_page, after_pages, still_wanted}
-use Rattle.dictionary_values.specs.DictLeft.{IsKeyed}
+use Rattle.dictionary_values.specs.DictLeft.{IsKeyed, first_dictionary, named_entries}
 use Rattle.dictionary_values.specs.Keys.{NamesEntry, named_cell, named_row, named_standing}
 
 -- ---- rows
@@ -148,16 +148,11 @@ module _ (entries : DictContent → Result (List Cell) (List Cause)) (outcomes o
     (named_is : (dictionary : Option (List Cell)) (page : DataContent) → map (named_row (unwrap_or dictionary [])) (outcomes dictionary page) ≡ own dictionary page)
     (names : (dictionary : Option (List Cell)) (page : DataContent) → All (NamesEntry (unwrap_or dictionary [])) (outcomes dictionary page))
     (none_given : (page : DataContent) → cells_in (outcomes None page) ≡ []) where
-  -- the entries that the keys of a column name: those of its first page, if that is a dictionary page
-  abbrev pub first_dictionary : Option (List Cell) → List Content → Option (List Cell)
-  first_dictionary dictionary [] = dictionary
-  first_dictionary dictionary (DataOf page ∷ pages) = dictionary
-  first_dictionary dictionary (DictOf page ∷ pages) = result_ok (entries page)
-
+  -- the entries that the keys of a column name
   abbrev pub names_of : Standing → List Content → List Cell
-  names_of s pages = unwrap_or (first_dictionary s.dictionary pages) []
+  names_of s pages = named_entries entries s.dictionary pages
 
-  first-data : (dictionary : Option (List Cell)) (pages : List Content) → list_all is_data pages ≡ true → first_dictionary dictionary pages ≡ dictionary
+  first-data : (dictionary : Option (List Cell)) (pages : List Content) → list_all is_data pages ≡ true → first_dictionary entries dictionary pages ≡ dictionary
   first-data dictionary [] alone = refl
   first-data dictionary (DataOf page ∷ pages) alone = refl
   first-data dictionary (DictOf page ∷ pages) alone = cc
@@ -174,7 +169,7 @@ module _ (entries : DictContent → Result (List Cell) (List Cause)) (outcomes o
   rows-data dictionary (DictOf page ∷ pages) causes alone = cc
 
   rows-named : (dictionary : Option (List Cell)) (pages : List Content) (causes : List Cause) → has_data_behind pages ≡ true
-      → rows entries own dictionary pages causes ≡ map (named_row (unwrap_or (first_dictionary dictionary pages) [])) (rows entries outcomes dictionary pages causes)
+      → rows entries own dictionary pages causes ≡ map (named_row (unwrap_or (first_dictionary entries dictionary pages) [])) (rows entries outcomes dictionary pages causes)
   rows-named dictionary [] causes alone = refused-named (unwrap_or dictionary []) causes
   rows-named dictionary (DataOf page ∷ pages) causes alone = rows-data dictionary (DataOf page ∷ pages) causes alone
   rows-named dictionary (DictOf page ∷ pages) causes alone =

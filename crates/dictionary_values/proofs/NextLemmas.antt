@@ -7,7 +7,7 @@ use Rattle.columns_core.specs.Causes.{Cause, IsWantOfMemory}
 use Rattle.columns_core.specs.declared.cell.Cell.{Cell}
 use Rattle.columns_core.specs.declared.error.Error.{Error}
 use Rattle.parquet_page.specs.Content.{Content, DictContent, is_data}
-use Rattle.page_decoding.specs.NextChunk.{GivesChunk, IfFault, IsFirstChunk, OnNoError, front_of}
+use Rattle.page_decoding.specs.NextChunk.{GivesChunk, IfChunk, IfFault, IsFirstChunk, OnNoError, front_of}
 use Rattle.page_decoding.specs.declared.queue.MaybeNext.TheVariants as next
 use Rattle.page_decoding.specs.Outcome.{Outcome, Given}
 use Rattle.page_decoding.specs.Queue.{joined}
@@ -48,7 +48,7 @@ module _ (entries : DictContent → Result (List Cell) (List Cause)) (most : ℕ
       let Q : Standing → Type 0 = λ s. IsKeyed s new in
       subst Q (sym on.stands) (keyed-pages entries (selected_keys most) (selected_entries most) (selected-named most) (selected-name most) (selected-none most) before on.lent new (subst P on.split keyed))
 
-  after-names : (after : Standing) → Advances entries (selected_keys most) old new before after → names after new ≡ names before old
+  pub after-names : (after : Standing) → Advances entries (selected_keys most) old new before after → names after new ≡ names before old
   after-names after advances =
       let on = ahead after advances in
       let P : List Content → Type 0 = IsKeyed before in
@@ -118,10 +118,16 @@ module _ (entries : DictContent → Result (List Cell) (List Cause)) (most : ℕ
       ordered = front-keyed.ordered;
     }
 
-    names-now : names before old ≡ unwrap_or (option_map dict_shown dict) []
+    pub names-now : names before old ≡ unwrap_or (option_map dict_shown dict) []
     names-now =
         sym (after-names (standing shown dict_shown (keys ∷ items) remaining dict) advances) ∙ ap (λ s. names s new) front-is
         ∙ names-data entries (selected_keys most) (selected_entries most) (selected-named most) (selected-name most) (selected-none most) (in_front shown keys left) new alone
+
+    -- The dictionary stays what it is.
+    pub next-names-stay : names left new ≡ names before old
+    next-names-stay =
+        names-data entries (selected_keys most) (selected_entries most) (selected-named most) (selected-name most) (selected-none most) left new alone
+        ∙ sym names-now
 
     -- its array, or want of memory
     pub next-given : {Y : Type 0} (cells_of : Y → List Cell) (result : Result Y Error) → IfOk result (λ array. cells_of array ≡ map (named_cell (unwrap_or (option_map dict_shown dict) [])) (shown keys))
@@ -135,6 +141,10 @@ module _ (entries : DictContent → Result (List Cell) (List Cause)) (most : ℕ
         first
 
 -- ---- answers
+
+pub of-array : {Y : Type 0} (P : Y → Type 0) (result : Result Y Error) → IfOk result P → IfChunk (next.Some result) P
+of-array P (Ok array) holds = holds
+of-array P (Err error) holds = tt
 
 pub on-array : {Y : Type 0} (P : Type 0) (result : Result Y Error) → P → OnNoError (next.Some result) P
 on-array P (Ok array) holds = holds

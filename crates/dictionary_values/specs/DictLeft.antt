@@ -1,13 +1,14 @@
 -- What is left of a column of keys that is read in arrays.
-use Rattle.std.specs.Prelude.{◌≡◌, ◌⊎◌, ℕ, true, All, List, [], Option, None, Result, refl, unwrap_or}
+use Rattle.std.specs.Prelude.{◌≡◌, ◌⊎◌, ℕ, true, All, List, [], ◌∷◌, Option, None, Result, refl, unwrap_or}
 use Rattle.std.specs.Coded.{Coded, code_by, coded×}
 use Rattle.std.specs.List.{list_all}
+use Rattle.std.specs.Result.{result_ok}
 use Rattle.columns_core.specs.Causes.{Cause}
 use Rattle.columns_core.specs.declared.cell.Cell.{Cell}
 use Rattle.columns_core.specs.declared.data_type.DataType.{DataType}
 use Rattle.columns_core.specs.Keyed.{KeyedColumn, named_cells}
 use Rattle.columns_core.specs.declared.error.Error.{Error}
-use Rattle.parquet_page.specs.Content.{Content, DictContent, is_data}
+use Rattle.parquet_page.specs.Content.{Content, DataOf, DictContent, DictOf, is_data}
 use Rattle.parquet_page.specs.Lending.{has_data_behind}
 use Rattle.page_decoding.specs.Chunks.{ChunksLeft, chunks_code, standing_of}
 use Rattle.page_decoding.specs.Outcome.{cells_in}
@@ -19,6 +20,16 @@ use Rattle.dictionary_values.specs.declared.key_decoder.KeyDecoder.{KeyDecoder}
 -- how a column of keys is decoded by a reader of its entries, where its type has so many keys
 abbrev pub keys_decoding : (DictContent → Result (List Cell) (List Cause)) → ℕ → Decoding
 keys_decoding entries most = record { entries = entries; outcomes = selected_entries most; most_bytes = None }
+
+-- The entries that the keys of a column name: those of the dictionary that was lent, or of the first page that is to come, where this is a
+-- dictionary page.
+abbrev pub first_dictionary : (DictContent → Result (List Cell) (List Cause)) → Option (List Cell) → List Content → Option (List Cell)
+first_dictionary entries dictionary [] = dictionary
+first_dictionary entries dictionary (DataOf page ∷ pages) = dictionary
+first_dictionary entries dictionary (DictOf page ∷ pages) = result_ok (entries page)
+
+abbrev pub named_entries : (DictContent → Result (List Cell) (List Cause)) → Option (List Cell) → List Content → List Cell
+named_entries entries dictionary pages = unwrap_or (first_dictionary entries dictionary pages) []
 
 -- Keys that wait name entries of the dictionary, which was lent then, and no other is to come: it is the first page, or there is none.
 pub record IsKeyed (s : Standing) (pages : List Content) : Type 0 where

@@ -1,8 +1,10 @@
 -- What the pages of a column of keys give: keys, and the entries that they name.
-use Rattle.std.specs.Prelude.{ℕ, ℤ, pos, is_some, Bool, List, [], length, map, Option, Some, None, IsSome, option_map, unwrap_or}
+use Rattle.std.specs.Prelude.{ℕ, ◌^◌, ℤ, pos, is_some, Bool, List, [], length, map, Option, Some, None, IsSome, option_map, unwrap_or}
 use Rattle.columns_core.specs.Column.{cell_of}
 use Rattle.columns_core.specs.Entries.{entry_named}
 use Rattle.columns_core.specs.declared.cell.Cell.{Cell, Null, Int}
+use Rattle.columns_core.specs.declared.data_type.IntegerType.{IntegerType}
+use Rattle.columns_core.specs.declared.data_type.IntegerType.TheVariants.{Int8, Int16, Int32, Int64, UInt8, UInt16, UInt32, UInt64}
 use Rattle.parquet_page.specs.Content.{DataContent}
 use Rattle.parquet_page.specs.Opened.{page_causes}
 use Rattle.parquet_page.specs.Spelling.{placed_keys}
@@ -10,6 +12,17 @@ use Rattle.page_decoding.specs.Outcome.{Outcome, Given, Refused, page_outcomes}
 use Rattle.page_decoding.specs.Standing.{Standing}
 use Rattle.flat_values.specs.Decoded.{marked_cells}
 use Rattle.flat_values.specs.Outcomes.{entry_outcome}
+
+-- how many keys a type of keys has from 0 on
+abbrev pub keys_of : IntegerType → ℕ
+keys_of Int8 = 2 ^ 7
+keys_of Int16 = 2 ^ 15
+keys_of Int32 = 2 ^ 31
+keys_of Int64 = 2 ^ 63
+keys_of UInt8 = 2 ^ 8
+keys_of UInt16 = 2 ^ 16
+keys_of UInt32 = 2 ^ 32
+keys_of UInt64 = 2 ^ 64
 
 -- keys as numbers, null where the mask says that there is none
 abbrev pub key_cells : {K : Type 0} → (K → ℤ) → List K → List Bool → List Cell
@@ -39,7 +52,7 @@ selected_entries most entries = selected_by (placed_entry entries) most entries
 
 -- ---- rows that wait
 
--- the entry that a key names
+-- The entry that a key names. Keys that wait name entries, and the other cells that wait are null.
 abbrev pub named_cell : List Cell → Cell → Cell
 named_cell entries (Int key) = cell_of (λ cell. cell) (entry_named entries key)
 named_cell entries cell = cell

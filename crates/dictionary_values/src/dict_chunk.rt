@@ -4,11 +4,11 @@ ghost use Rattle.columns_core.specs.Array.{cells, data_type_of};
 ghost use Rattle.columns_core.specs.Causes.{IsWantOfMemory};
 ghost use Rattle.columns_core.specs.DictionaryType.{IsDictionaryOf};
 ghost use Rattle.columns_core.specs.Keyed.{named_cells};
-ghost use Rattle.page_decoding.specs.NextChunk.{GivesChunk, IfChunk, IfFault, Moves, OnMore, OnNoError, OnNone};
+ghost use Rattle.page_decoding.specs.NextChunk.{BeginsFull, GivesChunk, IfChunk, IfFault, Moves, OnMore, OnNoError, OnNone};
 ghost use Rattle.page_decoding.specs.Queue.{IsChunkSize, IsCut};
 ghost use Rattle.page_decoding.specs.Standing.{FailsBy, IsNeeded, NoneComes, standing, still_wanted};
 ghost use Rattle.flat_values.specs.Decoded.{IsMaskFor};
-ghost use Rattle.dictionary_values.specs.DictLeft.{IsKeyed};
+ghost use Rattle.dictionary_values.specs.DictLeft.{IsKeyed, named_entries};
 ghost use Rattle.dictionary_values.specs.Keys.{key_cells, named_standing, selected_entries};
 
 use crate::key_array::array_of;
@@ -23,7 +23,10 @@ use std::marker::PhantomData;
 use std::sync::ledger::Ledger;
 
 /// The next chunk of the rows that are wanted, as an array with all entries of the dictionary. Reads one page at most, and none where no row is
-/// wanted of it or a whole chunk waits. The first page that is lent is a dictionary page, or none is.
+/// wanted of it or a whole chunk waits. Of the pages to come only the first may be a dictionary page, and none where keys wait.
+///
+/// `OutOfSpec` for a key past the entries and `Overflow` for one past its type, anywhere in a page that is read, `NotYetImplemented` for a page
+/// that is not one of keys or has no dictionary before it, and the errors of pages and of `read_dict`.
 pub fn next_dict<K: StoredKey, I: Pages, R: ReadDict, L: Ledger>(
     alloc: Global,
     iter: &mut I,
@@ -50,7 +53,11 @@ pub fn next_dict<K: StoredKey, I: Pages, R: ReadDict, L: Ledger>(
         let new = wanted after (I.to_come iter.new) (I.causes iter.new) in
         GivesChunk named_cells chunk_size old new result }
     ensures typed { IfChunk result (λ array. array.data_type ≡ data_type.now) }
-    ensures entries { IfChunk result (λ array. option_map cells dict.new ≡ Some array.entries) }
+    ensures entries { let named = named_entries (R.entries read_dict.now) in
+        IfChunk result (λ array. array.entries ≡ named (option_map cells dict.old) (I.to_come iter.old)) }
+    ensures dictionary { let named = named_entries (R.entries read_dict.now) in
+        OnNoError result (named (option_map cells dict.new) (I.to_come iter.new)
+        ≡ named (option_map cells dict.old) (I.to_come iter.old)) }
     ensures keyed { let shown = ⟦<DecodedKeys<K> as DecodedState>⟧.shown in
         let after = standing shown cells items.new.items remaining.new dict.new in
         OnNoError result (IsKeyed after (I.to_come iter.new)) }
@@ -60,6 +67,8 @@ pub fn next_dict<K: StoredKey, I: Pages, R: ReadDict, L: Ledger>(
     ensures own_dict { let is_own = λ (entries : Array). data_type_of entries ≡ R.value_type read_dict.now in
         OnNoError result (IfSome dict.new is_own) }
     ensures fewer { remaining.new ≤ remaining.old }
+    ensures waits { let shown = ⟦<DecodedKeys<K> as DecodedState>⟧.shown in
+        OnMore result (BeginsFull chunk_size (map shown items.new.items) → ⊥) }
     ensures more { OnMore result (length (I.to_come iter.new) < length (I.to_come iter.old)) }
     ensures pages { let shown = ⟦<DecodedKeys<K> as DecodedState>⟧.shown in
         let needed = IsNeeded chunk_size (standing shown cells items.old.items remaining.old dict.old) in

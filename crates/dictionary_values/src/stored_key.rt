@@ -1,5 +1,6 @@
 //! The types of keys, as pages store keys.
 ghost use Rattle.std.specs.Prelude.{◌≡◌, ◌-◌, ◌≤◌, ◌^◌, ℕ, min, pos, IfNone, IfSome};
+ghost use Rattle.dictionary_values.specs.Keys.{keys_of};
 
 use columns_core::DictionaryKey;
 
@@ -10,7 +11,8 @@ pub trait StoredKey: DictionaryKey + Default {
 
     /// That number, at most `usize::MAX`.
     fn most_keys() -> usize
-        ensures { result ≡ min key_count (2 ^ 64 - 1) };
+        ensures most { result ≡ min key_count (2 ^ 64 - 1) }
+        ensures counted { key_count ≡ keys_of Self.key_type };
 
     /// The key of this number, if the type has it.
     fn from_number(number: u32) -> Option<Self>

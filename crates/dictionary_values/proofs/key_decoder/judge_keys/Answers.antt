@@ -13,4 +13,4 @@ returns-in_err-_named-clause-cause g c =
 
 pub returns-then-entries-most-clause-ok : goal.returns-then-entries-most-clause-ok
 returns-then-entries-most-clause-ok g c =
-    judged-few g.K.StoredKey.key_count c.most_keys-most.result c.args.entries c.most_keys-most.ensures (dictionary_keys c.args.bytes.now c.args.count) (keys c.in_ok-_named._named c.args.bytes.now) c.in_ok-_named.ensures.keys c.in_ok-_named.ensures.ok (omega arith)
+    judged-few g.K.StoredKey.key_count c.most_keys-most.result c.args.entries c.most_keys-most.ensures.most (dictionary_keys c.args.bytes.now c.args.count) (keys c.in_ok-_named._named c.args.bytes.now) c.in_ok-_named.ensures.keys c.in_ok-_named.ensures.ok (omega arith)
