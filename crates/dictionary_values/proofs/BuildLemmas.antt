@@ -10,11 +10,11 @@ use Rattle.columns_core.specs.declared.array.Array.{Array}
 use Rattle.columns_core.specs.declared.cell.Cell.{Cell}
 use Rattle.parquet_base.specs.Reading.{given}
 use Rattle.parquet_meta.specs.declared.metadata.PhysicalType.{PhysicalType}
-use Rattle.parquet_meta.specs.declared.metadata.PhysicalType.TheVariants.{ByteArray, Float}
+use Rattle.parquet_meta.specs.declared.metadata.PhysicalType.TheVariants.{ByteArray}
 use Rattle.parquet_page.specs.Content.{DataContent}
 use Rattle.parquet_page.specs.Opened.{key_causes, page_causes, spelling_causes}
 use Rattle.parquet_page.specs.Spelling.{has_readable_levels, header_encoding, is_keys, page_encoding, page_keys, placed_keys, places_and_values}
-use Rattle.parquet_page.specs.Values.{Encoding, Plain, Keys, DeltaPacked, DeltaLengths, dictionary_keys, encoding_of, plain_values, unless_none}
+use Rattle.parquet_page.specs.Values.{Encoding, Plain, Keys, DeltaPacked, DeltaLengths, dictionary_keys, encoding_of, unless_none}
 use Rattle.page_decoding.specs.FilteredLeft.{stored_values}
 use Rattle.page_decoding.specs.Outcome.{Outcome, causes_in, page_outcomes}
 use Rattle.page_decoding.proofs.NextLemmas.{nothing_wrong}
@@ -147,11 +147,6 @@ module _ (most : ℕ) (entries : Array) (page : DataContent) (state : FlatState 
       own.rows Keep (numbers_below (min (length (cells entries)) most)) fine-here
       ∙ numbers-selected Keep most (cells entries) (stored_as ByteArray page) encoding-here fine-here fine
       ∙ selected-as most (cells entries) ByteArray page named
-
--- No dictionary of floating numbers is read.
-pub floats-none : (bytes : List ℕ) (count : ℕ) → false ≡ is_some (plain_values Float bytes count)
-unfolding plain_values
-floats-none bytes count = refl
 
 -- ---- what the building of a state answers
 

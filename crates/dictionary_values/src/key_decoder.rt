@@ -17,7 +17,7 @@ ghost use Rattle.dictionary_values.specs.KeysGiven.{keys_given};
 use crate::key_values::KeyValues;
 use crate::{DecodedKeys, ReadDict, StoredKey};
 use columns_core::{Array, Error, Part};
-use flat_values::{FlatDecoder, FlatState, KeyPlace, Values};
+use flat_values::{FlatState, KeyPlace, Values, extend_rows};
 use page_decoding::{Decoder, FilteredOptionalPageValidity};
 use parquet_meta::{PhysicalType, PrimitiveType};
 use parquet_page::{DataPage, DataPageHeader, DictPage, split_buffer};
@@ -191,11 +191,8 @@ impl<K: StoredKey, R: ReadDict> Decoder for KeyDecoder<K, R> {
         decoded: &mut DecodedKeys<K>,
         additional: usize,
     ) -> Result<(), Error> {
-        let column = type_as(page.type_, PhysicalType::Float);
-        let rows = FlatDecoder {
-            values: KeyValues::<K>::new(),
-        };
-        rows.extend_from_state(&page_as(page, &column), dict, state, decoded, additional)
+        let keys = KeyValues::<K>::new();
+        extend_rows(&keys, page, dict, state, decoded, additional)
     }
 
     fn deserialize_dict(&self, alloc: Global, page: &DictPage<'_>) -> Result<Array, Error> {

@@ -14,9 +14,8 @@ ghost use Rattle.dictionary_values.specs.KeysGiven.{key_limit, keys_given, numbe
 
 use crate::StoredKey;
 use columns_core::{Array, Error, MutableBitmap, Part};
-use flat_values::{KeyPlace, ValueDecoder, ValueEncoding, Values, mark_nulls, mark_values};
+use flat_values::{KeyPlace, Values, mark_nulls, mark_values};
 use page_decoding::DecodedState;
-use parquet_page::DictPage;
 use std::alloc::Global;
 use std::marker::PhantomData;
 
@@ -175,36 +174,5 @@ impl<K: StoredKey> Values for KeyValues<K> {
             keys: Vec::with_capacity(alloc, capacity)?,
             validity: MutableBitmap::with_capacity(alloc, 0)?,
         })
-    }
-}
-
-/// A page of keys is walked as one of a type whose values are never carried, so that no value is opened here but by its key.
-impl<K: StoredKey> ValueDecoder for KeyValues<K> {
-    ghost use Rattle.flat_values.specs.Conversion.{Keep};
-    ghost use Rattle.parquet_meta.specs.declared.metadata.PhysicalType.TheVariants.{Float};
-
-    ghost physical = { λ _. Float };
-
-    ghost rule = { λ _. Keep };
-
-    ghost dict_shown = { λ _ dict. cells dict };
-
-    fn open(
-        &self,
-        encoding: ValueEncoding,
-        _bytes: &[u8],
-        _count: usize,
-        _dict: Option<&Array>,
-    ) -> Result<KeyPlace, Error> {
-        match encoding {
-            ValueEncoding::Plain => unreachable!(),
-            ValueEncoding::Keys => unreachable!(),
-            ValueEncoding::DeltaPacked => unreachable!(),
-            ValueEncoding::DeltaLengths => unreachable!(),
-        }
-    }
-
-    fn read_dict(&self, _alloc: Global, _page: &DictPage<'_>) -> Result<Array, Error> {
-        Err(Error::ExternalFormat(Part::Dictionary))
     }
 }

@@ -14,6 +14,7 @@ ghost use Rattle.page_decoding.specs.Bytes.{IsCausedByChunks};
 ghost use Rattle.page_decoding.specs.Outcome.{Given};
 ghost use Rattle.flat_values.specs.Encodings.{as_encoding};
 ghost use Rattle.flat_values.specs.FlatLeft.{IsStateOf, behind_part, behind_run, behind_word, causes_unless_none, given_along, part_outcomes, read_encoding, run_outcomes, values_left, word_outcomes};
+ghost use Rattle.flat_values.specs.FlatState.{IsFlatState, state_outcomes};
 ghost use Rattle.flat_values.specs.Outcomes.{value_causes, value_outcomes};
 
 use crate::{ValueDecoder, ValueEncoding, Values};
@@ -300,6 +301,47 @@ impl<S> FlatState<S> {
     }
 }
 
+/// Appends the next `additional` selected rows of a page to decoded values, or all that are left.
+pub fn extend_rows<V: Values>(
+    values: &V,
+    page: &DataPage<'_>,
+    dict: Option<&V::Dict>,
+    state: &mut FlatState<V::Place>,
+    decoded: &mut V::Decoded,
+    additional: usize,
+) -> Result<(), Error>
+    requires state { let left = V.left values.now (option_copied dict) in
+        IsFlatState (V.is_over values.now) left (data_content page.now) state.old }
+    requires own_dict { IfSome (option_copied dict) (V.is_own_dict values.now) }
+    requires own { V.is_own values.now decoded.old }
+    ensures rows { let left = V.left values.now (option_copied dict.entry) in
+        let rows = state_outcomes left (data_content page.now) state.old in
+        let shown = V.Decoded.shown in
+        OnOk result (map Given (shown decoded.new) ≡ map Given (shown decoded.old) ++ take additional rows) }
+    ensures left { let left = V.left values.now (option_copied dict.entry) in
+        let rows = state_outcomes left (data_content page.now) in
+        OnOk result (rows state.new ≡ drop additional (rows state.old)) }
+    ensures state { let left = V.left values.now (option_copied dict.entry) in
+        OnOk result (IsFlatState (V.is_over values.now) left (data_content page.now) state.new) }
+    ensures own { OnOk result (V.is_own values.now decoded.new) }
+    ensures cause { let left = V.left values.now (option_copied dict.entry) in
+        let own = state_outcomes left (data_content page.now) state.old in
+        let rows = map Given (V.Decoded.shown decoded.old) ++ take additional own in
+        IfErr result (IsCausedByChunks (V.most_bytes values.now) None rows) }
+{
+    let (_, _, bytes) = split_buffer(page)?;
+    add_rows(
+        values,
+        page,
+        bytes,
+        dict,
+        &mut state.walk,
+        &mut state.values,
+        decoded,
+        additional,
+    )
+}
+
 /// Decodes required and optional pages, whole ones and those with selected rows, by a decoder of their values.
 #[derive(Drop)]
 pub struct FlatDecoder<V> {
@@ -368,17 +410,7 @@ impl<V: ValueDecoder> Decoder for FlatDecoder<V> {
         decoded: &mut Self::DecodedState,
         additional: usize,
     ) -> Result<(), Error> {
-        let (_, _, bytes) = split_buffer(page)?;
-        add_rows(
-            &self.values,
-            page,
-            bytes,
-            dict,
-            &mut state.walk,
-            &mut state.values,
-            decoded,
-            additional,
-        )
+        extend_rows(&self.values, page, dict, state, decoded, additional)
     }
 
     fn deserialize_dict(&self, alloc: Global, page: &DictPage<'_>) -> Result<Self::Dict, Error> {

@@ -42,7 +42,7 @@ pub use fixed_bytes::{
 };
 pub use fixed_numbers::FixedNumbers;
 pub use fixed_size_binary::FixedSizeBinary;
-pub use flat_decoder::{FlatDecoder, FlatState};
+pub use flat_decoder::{FlatDecoder, FlatState, extend_rows};
 pub use flat_iter::FlatIter;
 pub use integer::{DaysToMillis, Keep, Widen};
 pub use into_array::{IntoArray, IntoColumn};
