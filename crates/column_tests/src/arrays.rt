@@ -91,7 +91,7 @@ pub(crate) fn dictionary(alloc: Global, count: u8, entries: &[u8]) -> Result<Vec
 }
 
 /// A column of so many values.
-fn column(
+pub(crate) fn column(
     alloc: Global,
     physical_type: PhysicalType,
     repetition: Repetition,

@@ -14,7 +14,7 @@ use std::iter::Iterator;
 use std::test::*;
 
 /// The cells of an array: a text behind a quotation mark, bytes behind an x, and a null as a dash.
-fn push_cells(alloc: Global, all: &mut Vec<u8>, array: &Array) -> Result<(), Error> {
+pub(crate) fn push_cells(alloc: Global, all: &mut Vec<u8>, array: &Array) -> Result<(), Error> {
     for i in 0..array.len() {
         let cell = array.item(alloc, i)?;
         match &cell {
