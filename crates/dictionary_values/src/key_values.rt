@@ -113,12 +113,12 @@ fn take_keys<K: StoredKey>(
 
 /// Appends keys as they are, over the array of their entries.
 #[derive(Clone, Copy)]
-pub struct KeyValues<K> {
+pub(crate) struct KeyValues<K> {
     key: PhantomData<K>,
 }
 
 impl<K: StoredKey> KeyValues<K> {
-    pub fn new() -> Self {
+    pub(crate) fn new() -> Self {
         KeyValues { key: PhantomData }
     }
 }
