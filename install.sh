@@ -17,8 +17,8 @@ root=$(CDPATH= cd -- "$(dirname -- "$0")" && pwd) || fail "the folder of the sou
 binary=$root/crates/pqscan/out/pqscan
 page=$root/docs/pqscan.1
 
-# A scan of the stored file proves and builds the program where that is not done yet, and tries it.
-"$root/pqscan" "$root/crates/pqscan/data/f1.parquet" a:Int32 >/dev/null || fail "the program could not be built, or does not run"
+"$root/prove" || fail "the program could not be proved and built"
+"$binary" "$root/crates/pqscan/data/f1.parquet" a:Int32 >/dev/null || fail "the program does not run"
 
 # A file is put beside its place first, so that a program that runs is not written over.
 place() {

@@ -8,7 +8,7 @@ top=$(cd "$here/../.." && pwd)
 work=${1:-$(mktemp -d)}
 runs=${RUNS:-100000}
 program=${PQSCAN:-$top/crates/pqscan/out/pqscan}
-[ -n "${PQSCAN:-}" ] || "$top/pqscan" "$top/crates/pqscan/data/f1.parquet" a:Int32 >/dev/null
+[ -n "${PQSCAN:-}" ] || "$top/prove"
 mkdir -p "$work/seeds"
 python3 "$here/seeds.py" "$work/seeds"
 ${CC:-cc} -O1 -Wall "$here/fuzz.c" -o "$work/fuzz"

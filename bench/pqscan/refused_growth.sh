@@ -12,7 +12,7 @@ five=$top/crates/pqscan/data/f1.parquet
 python3 "$here/inputs.py" "$work/plain.parquet" 45000
 python3 "$here/inputs.py" "$work/indexed.parquet" 45000 indexed
 ${CC:-cc} -O1 -shared -fPIC "$here/refuse.c" -o "$work/refuse.so" -ldl
-"$top/pqscan" "$five" a:Int32 >/dev/null
+"$top/prove"
 
 OUT_OF_MEMORY=10
 

@@ -26,7 +26,7 @@ for kind in numbers indexed short long named joined half_null odd odd_named odd_
 done
 rustc --edition 2021 -O -C target-cpu=x86-64-v2 -C codegen-units=1 -C panic=abort "$here/twin.rs" -o "$work/twin"
 ${CC:-cc} -O1 "$here/timed.c" -o "$work/timed"
-[ -n "${PQSCAN:-}" ] || "$top/pqscan" "$work/few_numbers.parquet" a:Int32 'a<=0' >/dev/null
+[ -n "${PQSCAN:-}" ] || "$top/prove"
 python3 - "$ours" "$work" "$runs" <<'PY'
 import hashlib, subprocess, sys
 
