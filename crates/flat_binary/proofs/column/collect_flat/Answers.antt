@@ -1,6 +1,6 @@
 use Rattle.std.proofs.Common.{subst}
 use Rattle.flat_binary.proofs.PageTypes.{HaveType}
-use Rattle.flat_binary.proofs.column.collect_column.Goals as goal
+use Rattle.flat_binary.proofs.column.collect_flat.Goals as goal
 
 pub collect_boolean-requires-clause-typed : goal.collect_boolean-requires-clause-typed
 collect_boolean-requires-clause-typed g c = subst (HaveType (g.I.Pages.to_come c.args.pages)) c.in-Boolean.is c.requires.typed
