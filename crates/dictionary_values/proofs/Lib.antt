@@ -1,6 +1,7 @@
 pub mod KeyLemmas
 pub mod CauseLemmas
 pub mod PageLemmas
+pub mod SelectedLemmas
 pub mod NamedLemmas
 pub mod ColumnLemmas
 pub mod ArrayLemmas

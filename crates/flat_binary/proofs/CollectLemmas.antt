@@ -1,10 +1,10 @@
 -- The arrays of a column, collected one after another.
-use Rattle.std.proofs.Common.{◌≡◌, ℕ, zero, suc, ◌+◌, ◌-◌, ◌*◌, ◌<◌, ◌≤◌, Bool, true, false, List, [], ◌∷◌, ◌++◌, length, map, take, drop, Option, Some, None, refl, sym, ap, ap₂, ◌∙◌, subst, inl, inr, arith, append_assoc, append-nil}
-use Rattle.std.specs.Prelude.{if◌then◌else◌, min, sum_by, Result, Ok, Err}
+use Rattle.std.proofs.Common.{◌≡◌, ℕ, zero, suc, ◌+◌, ◌-◌, ◌*◌, ◌<◌, ◌≤◌, false, List, [], ◌∷◌, ◌++◌, length, map, take, drop, Option, Some, None, refl, sym, ap, ap₂, ◌∙◌, subst, inl, inr, arith, append-nil}
+use Rattle.std.specs.Prelude.{if◌then◌else◌, sum_by, Result, Ok}
 use Rattle.std.proofs.lemmas.Bool.{leb-false, true≢false}
 use Rattle.std.proofs.lemmas.List.{drop-drop, length-append, length-map, length-take, take-append-drop}
 use Rattle.columns_core.specs.Array.{cells, data_type_of}
-use Rattle.columns_core.specs.Causes.{Cause, cause_of, is_empty}
+use Rattle.columns_core.specs.Causes.{Cause, is_empty}
 use Rattle.columns_core.specs.declared.array.Array.{Array}
 use Rattle.columns_core.specs.declared.cell.Cell.{Cell}
 use Rattle.columns_core.specs.declared.error.Error.{Error}
@@ -13,8 +13,7 @@ use Rattle.parquet_meta.specs.Source.{raised}
 use Rattle.parquet_page.specs.Content.{Content, DataContent, DictContent}
 use Rattle.page_decoding.specs.Bytes.{IsCausedByChunks, SomePasses, chunk_at, fits_most, row_bytes}
 use Rattle.page_decoding.specs.Chunks.{lent_behind}
-use Rattle.page_decoding.specs.Column.{entries_behind, followed_by, page_rows, rows}
-use Rattle.page_decoding.specs.NextChunk.{IsFirstChunk}
+use Rattle.page_decoding.specs.Column.{entries_behind, page_rows, rows}
 use Rattle.page_decoding.specs.Outcome.{Outcome, Given, IsCausedBy, causes_in}
 use Rattle.page_decoding.specs.Queue.{IsChunkSize, first_chunk, later_chunks}
 use Rattle.page_decoding.specs.Standing.{AreNeeded, NoneComes, Standing, after_page, after_pages, still_wanted}

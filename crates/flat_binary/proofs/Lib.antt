@@ -1,2 +1,4 @@
 mod PageTypes
 mod CollectLemmas
+mod KeyedLemmas
+mod RuleLemmas

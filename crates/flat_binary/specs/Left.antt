@@ -4,10 +4,9 @@ use Rattle.columns_core.specs.Causes.{Cause}
 use Rattle.columns_core.specs.declared.data_type.DataType.{DataType}
 use Rattle.parquet_meta.specs.declared.metadata.PhysicalType.{PhysicalType}
 use Rattle.parquet_page.specs.Content.{Content}
-use Rattle.flat_values.specs.Arrays.{decoding_by}
 use Rattle.flat_values.specs.ColumnLeft.{ColumnLeft, Decoding}
 use Rattle.flat_values.specs.Conversion.{Conversion}
-use Rattle.flat_values.specs.MostBytes.{most_bytes}
+use Rattle.flat_binary.specs.Decoding.{column_decoding}
 
 -- pages that are handed to a reader of columns
 pub record Supply : Type 0 where
@@ -39,4 +38,4 @@ decoded_left decoding data_type size num_rows supply = record {
 
 -- by a conversion of a stored type
 abbrev pub converted_left : PhysicalType → DataType → Option ℕ → ℕ → Supply → Conversion → ColumnLeft
-converted_left physical data_type size num_rows supply rule = decoded_left (decoding_by (most_bytes data_type) rule physical) data_type size num_rows supply
+converted_left physical data_type size num_rows supply rule = decoded_left (column_decoding physical data_type rule) data_type size num_rows supply

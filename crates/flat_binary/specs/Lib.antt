@@ -1,4 +1,5 @@
-pub mod Built
+pub mod Paged
+pub mod Decoding
 pub mod Left
 pub mod PagesWanted
 pub mod Collected

@@ -1,18 +1,20 @@
 //! All arrays of a column, by the pair of its stored type and the type that is asked for.
-ghost use Rattle.std.specs.Prelude.{◌≡◌, IfSome, None};
+ghost use Rattle.std.specs.Prelude.{◌≡◌, IfSome, None, true};
 ghost use Rattle.std.specs.Option.{option_copied};
 ghost use Rattle.columns_core.specs.declared.data_type.DataType.{out-DataType};
 ghost use Rattle.page_decoding.specs.Queue.{IsChunkSize};
 ghost use Rattle.parquet_meta.specs.declared.metadata.PhysicalType.TheVariants.{Boolean, ByteArray, FixedLenByteArray, Int32, Int64, Int96};
-ghost use Rattle.parquet_page.specs.Lending.{DataPagesAre};
+ghost use Rattle.parquet_page.specs.Lending.{DataPagesAre, has_data_behind};
 ghost use Rattle.flat_values.specs.Arrays.{decoding_by};
 ghost use Rattle.flat_values.specs.Pairs.{from_boolean, from_byte_array, from_fixed, from_int32, from_int64, from_int96, from_physical};
 ghost use Rattle.flat_values.specs.Units.{unit_factor};
 ghost use Rattle.flat_binary.specs.Collected.{Collects, IsNotBuilt};
 ghost use Rattle.flat_binary.specs.Left.{converted_left, decoded_left, supply_of};
+ghost use Rattle.flat_binary.specs.Paged.{paged_conversion};
 
 use crate::collect::collect_arrays;
 use crate::decoded::decoded_arrays;
+use crate::keys::collect_dictionary;
 use binary_values::ByteValues;
 use columns_core::{Array, DataType, Error, IntervalUnit, Part, TimeUnit, days_ms};
 use flat_values::{
@@ -27,10 +29,43 @@ use std::alloc::Global;
 use std::collections::VecDeque;
 use std::sync::ledger::Ledger;
 
-/// The rows of pages, at most so many, in arrays of a type of values, and how many pages were lent, at most `usize::MAX`.
+/// The rows of pages, at most so many, in arrays of a type, and how many pages were lent, at most `usize::MAX`. Of the pages to come only the
+/// first may be a dictionary page.
 ///
-/// `NotYetImplemented` for nulls, for dictionaries and for a type that the stored one is not read as.
+/// `NotYetImplemented` for nulls and for a type that the stored one is not read as.
 pub fn collect_column<I: Pages, L: Ledger>(
+    alloc: Global,
+    pages: I,
+    physical: PhysicalType,
+    logical: Option<&PrimitiveLogicalType>,
+    data_type: DataType,
+    chunk_size: Option<usize>,
+    num_rows: usize,
+    steps: &mut Steps<L>,
+) -> Result<(VecDeque<Array>, usize), Error>
+    requires typed { DataPagesAre (λ page. page.type.physical_type ≡ physical) (I.to_come pages) }
+    requires ordered { has_data_behind (I.to_come pages) ≡ true }
+    requires size { IsChunkSize chunk_size }
+    requires fresh { I.lent_count pages ≡ 0 }
+    ensures collects { IfSome (paged_conversion physical (option_copied logical.entry) data_type) (λ rule.
+        let supply = supply_of I.to_come I.causes I.row_count I.lent_count pages in
+        let left = converted_left physical data_type chunk_size num_rows supply rule in
+        Collects (λ found. found.0.items) (λ found. found.1) left result steps.old steps.new) }
+    ensures refused { let rule = paged_conversion physical (option_copied logical.entry) data_type in
+        rule ≡ None → IsNotBuilt result steps.old steps.new }
+{
+    match &data_type {
+        DataType::Dictionary(_, _, _) => collect_dictionary(
+            alloc, pages, physical, logical, data_type, chunk_size, num_rows, steps,
+        ),
+        _ => collect_flat(
+            alloc, pages, physical, logical, data_type, chunk_size, num_rows, steps,
+        ),
+    }
+}
+
+/// In arrays of a type of values.
+fn collect_flat<I: Pages, L: Ledger>(
     alloc: Global,
     pages: I,
     physical: PhysicalType,
@@ -231,7 +266,7 @@ fn collect_int64<I: Pages, L: Ledger>(
 }
 
 /// From the unit of a column to that which is asked for.
-fn rescaled(logical: Option<&PrimitiveLogicalType>, unit: TimeUnit) -> Scale
+pub(crate) fn rescaled(logical: Option<&PrimitiveLogicalType>, unit: TimeUnit) -> Scale
     ensures { result ≡ unit_factor (option_copied logical.entry) unit }
 {
     let (factor, multiply) = unifiy_timestmap_unit(logical, unit);

@@ -1,13 +1,18 @@
-//! Arrays by a decoder of their values.
-ghost use Rattle.std.specs.Prelude.{◌≡◌, IsTrue, IfOk, IfErr};
-ghost use Rattle.columns_core.specs.Causes.{is_invalid_argument};
+//! Arrays by a decoder of their values, or of the entries that their keys name.
+ghost use Rattle.std.specs.Prelude.{◌≡◌, IsTrue, IfErr, IfOk, IfSome, Some, true};
+ghost use Rattle.columns_core.specs.Causes.{IsWantOfMemory, is_invalid_argument};
+ghost use Rattle.columns_core.specs.DictionaryType.{entry_type, key_type};
 ghost use Rattle.page_decoding.specs.Queue.{IsChunkSize};
-ghost use Rattle.parquet_page.specs.Lending.{DataPagesAre};
+ghost use Rattle.parquet_page.specs.Lending.{DataPagesAre, has_data_behind};
 ghost use Rattle.flat_values.specs.Arrays.{decoding_by, flat_left};
+ghost use Rattle.flat_values.specs.Outcomes.{fitted_by};
+ghost use Rattle.dictionary_values.specs.DictLeft.{dict_left, keys_decoding};
+ghost use Rattle.dictionary_values.specs.EntryTypes.{EntriesBy};
 ghost use Rattle.flat_binary.specs.Left.{decoded_left, supply_of};
 
 use columns_core::{DataType, Error};
-use flat_values::{FlatIter, IntoArray};
+use dictionary_values::{DictIter, Entries, IntoEntries, StoredKey};
+use flat_values::{FlatIter, IntoArray, IntoColumn};
 use parquet_page::Pages;
 use std::alloc::Global;
 
@@ -31,4 +36,28 @@ pub(crate) fn decoded_arrays<I: Pages, V: IntoArray + Drop>(
     ensures err { IfErr result (λ e. IsTrue (is_invalid_argument e) × (IsChunkSize chunk_size → ⊥)) }
 {
     FlatIter::of_values(alloc, pages, values, data_type, num_rows, chunk_size)
+}
+
+/// The rows of these pages, at most so many, as arrays of keys of a type, whose entries these values become.
+pub(crate) fn keyed_arrays<K: StoredKey, I: Pages, V: IntoEntries + IntoColumn + Drop>(
+    alloc: Global,
+    pages: I,
+    values: V,
+    data_type: DataType,
+    chunk_size: Option<usize>,
+    num_rows: usize,
+) -> Result<DictIter<K, Entries<V>, I>, Error>
+    requires keyed { key_type data_type ≡ Some K.key_type }
+    requires fits { IfSome (entry_type data_type) (V.is_type values) }
+    requires ordered { has_data_behind (I.to_come pages) ≡ true }
+    requires size { IsChunkSize chunk_size }
+    ensures left { IfOk result (λ arrays.
+        let supply = supply_of I.to_come I.causes I.row_count I.lent_count pages in
+        let decode = λ (by : V). keys_decoding (fitted_by (V.most_bytes by) (V.rule by) (V.physical by)) K.key_count in
+        let decode_by = λ (reader : EntriesBy V). decode reader.values in
+        dict_left decode_by I.to_come I.causes I.row_count I.lent_count arrays
+        ≡ decoded_left (decode values) data_type chunk_size num_rows supply) }
+    ensures memory { IfErr result IsWantOfMemory }
+{
+    DictIter::of_values(alloc, pages, values, data_type, num_rows, chunk_size)
 }

@@ -4,6 +4,7 @@
 mod collect;
 mod column;
 mod decoded;
+mod keys;
 
 pub use collect::collect_arrays;
 pub use column::collect_column;

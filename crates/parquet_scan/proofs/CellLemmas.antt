@@ -39,14 +39,14 @@ use Rattle.page_decoding.proofs.RowLemmas.{one_of-left, one_of-right}
 use Rattle.flat_values.specs.Agreement.{AreEntriesOf}
 use Rattle.flat_values.specs.Conversion.{Conversion, Item, Value}
 use Rattle.flat_values.specs.MostBytes.{most_bytes}
-use Rattle.flat_values.specs.Outcomes.{outcome_of, selected_outcomes}
+use Rattle.flat_values.specs.Outcomes.{outcome_of}
 use Rattle.flat_values.specs.Pairs.{conversion}
 use Rattle.flat_values.proofs.OutcomeLemmas.{cells_in-given}
 use Rattle.parquet_scan.specs.Causes.{begins_below, causes_of_chunk, causes_of_data, causes_of_dictionary, causes_of_walk, given_causes, has_dictionary, item_causes, pair_causes, piece_causes, row_causes, rows_held, walked_causes}
 use Rattle.parquet_scan.specs.Cells.{Reading, chunk_of, dictionary_content, item_among, item_in, items_in, rows_of, walked_item, walked_reading}
 use Rattle.parquet_scan.specs.Costs.{lent_of_chunk, with_dictionary_page}
 use Rattle.flat_binary.specs.PagesWanted.{pages_wanted}
-use Rattle.parquet_scan.specs.Decoded.{column_entries, column_rows, pages_by, pages_for, rows_by}
+use Rattle.parquet_scan.specs.Decoded.{column_entries, column_outcomes, column_rows, pages_by, pages_for, rows_by}
 use Rattle.parquet_scan.proofs.CauseLemmas.{TellsOf, then_next}
 use Rattle.parquet_scan.proofs.PageLemmas.{HasWrongFirst, IsOver, IsRefused, content_with, dictionary_first, first_taken, first_taken_wrong, items_many, page_given, page_refused, pair_rule, some_cause}
 use Rattle.parquet_scan.proofs.PieceLemmas.{AreUnder, IsGivenCut, bytes_as, bytes_if_there, cut-lengths, cut-map, given-cut, passes_in, pieces-as, pieces_fit, under-items, under-more, under-refused, under-take}
@@ -256,10 +256,10 @@ module _ (reading : Reading) (rule : Conversion) (entries : Option (List Cell)) 
   lent_pages pages = map (data_of reading.stored None) pages
 
   abbrev data_rows : List ChunkPage → List Cause → List Outcome
-  data_rows pages causes = rows (column_entries reading.data_type rule reading.stored.physical_type) (selected_outcomes rule) entries (lent_pages pages) causes
+  data_rows pages causes = rows (column_entries reading.data_type rule reading.stored.physical_type) (column_outcomes reading.data_type rule) entries (lent_pages pages) causes
 
   abbrev data_wanted : ℕ → List ChunkPage → List Content
-  data_wanted wanted pages = pages_wanted (column_entries reading.data_type rule reading.stored.physical_type) (selected_outcomes rule) entries wanted (lent_pages pages)
+  data_wanted wanted pages = pages_wanted (column_entries reading.data_type rule reading.stored.physical_type) (column_outcomes reading.data_type rule) entries wanted (lent_pages pages)
 
   -- Nothing is wrong with the pages that are opened for so many rows, nor behind all pages where these hold fewer, and each of the
   -- first items is a value.
@@ -362,7 +362,7 @@ module _ (reading : Reading) (rule : Conversion) (entries : Option (List Cell)) 
     followed false items under = subst (λ outcomes. AreUnder outcomes (map Some items ++ rest)) (append-nil (map outcome_of items)) (under-items items [] rest tt)
 
     go : (found : List Cause) → causes_of_data reading page ≡ found → AreUnder later rest
-        → AreUnder (followed_by (selected_outcomes rule entries (content_with reading.stored None page)) later) (row_items reading page ++ rest)
+        → AreUnder (followed_by (column_outcomes reading.data_type rule entries (content_with reading.stored None page)) later) (row_items reading page ++ rest)
     go [] e under =
         let given = page_given reading rule entries pair over has page e in
         let here : row_items reading page ≡ map Some given.items = ap (λ o. option_map_or (map Some) o (replicate (header_values page.header) None)) given.are in

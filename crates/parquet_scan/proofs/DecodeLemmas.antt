@@ -1,34 +1,26 @@
 -- The arrays of a column, by the definitions of a scan.
 use Rattle.std.proofs.Common.{◌≡◌, ◌∙◌, ℕ, ◌+◌, ◌-◌, ◌^◌, ◌≤◌, Bool, true, false, List, [], ◌∷◌, length, map, take, Option, ap, ap₂, refl, subst, sym}
-use Rattle.std.proofs.lemmas.Bool.{and_parts, not-true}
-use Rattle.std.specs.Prelude.{◌&&◌, not, is_some, min, All, None, Some, Result, Ok, Err, IfErr, IfOk, IfSome, OnOk, if◌then◌else◌, sum_by}
+use Rattle.std.specs.Prelude.{is_some, min, All, None, Some, Result, Ok, Err, IfErr, IfOk, IfSome, OnOk, if◌then◌else◌, sum_by}
 use Rattle.std.specs.Option.{option_map_or}
 use Rattle.columns_core.specs.Array.{cells, data_type_of}
-use Rattle.columns_core.specs.Causes.{Cause, NotYetImplemented}
-use Rattle.columns_core.specs.Types.{Layer, value_type, value_type_at}
+use Rattle.columns_core.specs.Causes.{NotYetImplemented}
 use Rattle.columns_core.specs.declared.array.Array.{Array}
-use Rattle.columns_core.specs.declared.cell.Cell.{Cell}
 use Rattle.columns_core.specs.declared.data_type.DataType.{DataType, out-DataType}
-use Rattle.columns_core.specs.declared.data_type.DataType.TheOpen.{DataType-F}
 use Rattle.columns_core.specs.declared.error.Error.{Error}
 use Rattle.parquet_base.specs.Pieces.{cut}
-use Rattle.parquet_meta.specs.declared.metadata.PhysicalType.{PhysicalType}
 use Rattle.parquet_meta.specs.declared.metadata.PrimitiveLogicalType.{PrimitiveLogicalType}
 use Rattle.parquet_meta.specs.declared.metadata.PrimitiveType.{PrimitiveType}
-use Rattle.parquet_page.specs.Content.{Content, DataOf, DictContent, DictOf}
+use Rattle.parquet_page.specs.Content.{Content, DataOf, DictOf}
 use Rattle.parquet_page.specs.Lending.{AreOfType, DataPagesAre}
 use Rattle.page_decoding.specs.Bytes.{IsCausedByChunks, cell_bytes, fits_most}
-use Rattle.page_decoding.specs.Column.{rows as all_rows}
 use Rattle.page_decoding.specs.Outcome.{Given}
-use Rattle.flat_values.specs.Arrays.{decoding_by}
 use Rattle.flat_values.specs.ColumnLeft.{ColumnLeft, wanted}
 use Rattle.flat_values.specs.Conversion.{Conversion}
 use Rattle.flat_values.specs.MostBytes.{most_bytes}
-use Rattle.flat_values.specs.Outcomes.{fitted_by, selected_outcomes}
-use Rattle.flat_values.specs.Pairs.{conversion, conversion_at, from_physical, is_repeated}
-use Rattle.flat_binary.specs.Built.{is_dictionary, is_dictionary_at, is_null_at, is_null_type}
+use Rattle.flat_values.specs.Pairs.{conversion, conversion_at, is_repeated}
 use Rattle.flat_binary.specs.Collected.{AreCollected, Collects}
-use Rattle.flat_binary.specs.Left.{Supply, converted_left, decoded_left}
+use Rattle.flat_binary.specs.Left.{Supply, converted_left}
+use Rattle.flat_binary.specs.Paged.{is_null_type, paged_conversion}
 use Rattle.flat_binary.specs.PagesWanted.{pages_wanted}
 use Rattle.parquet_scan.specs.Causes.{pair_causes}
 use Rattle.parquet_scan.specs.Decoded.{column_rows, pages_by, pages_for, rows_by}
@@ -36,36 +28,29 @@ use Rattle.parquet_page.proofs.SpelledLemmas.{none_of}
 
 -- ---- pairs of types
 
-as_values : (physical : PhysicalType) (logical : Option PrimitiveLogicalType) (layer : Layer) → is_null_at layer ≡ false → is_dictionary_at layer ≡ false → conversion_at physical logical layer ≡ from_physical physical logical layer
-as_values physical logical DataType-F.Null present value = cc
-as_values physical logical (DataType-F.Dictionary key entry ordered) present value = cc
-as_values physical logical layer present value = refl
-
 found_only : (repeated : Bool) (rule : Option Conversion) → is_some (if repeated then None else rule) ≡ true → (if repeated then None else rule) ≡ rule
 found_only true rule some = cc
 found_only false rule some = refl
 
--- A pair that is carried has the conversion of its types, where it is read neither as nulls nor as a dictionary.
-record IsCarried (stored : PrimitiveType) (data_type : DataType) : Type 0 where
-  rule : conversion stored data_type ≡ from_physical stored.physical_type stored.logical_type (out-DataType data_type)
-  some : is_some (from_physical stored.physical_type stored.logical_type (out-DataType data_type)) ≡ true
-  own_values : value_type data_type ≡ data_type
+chosen : (found : Option Conversion) → is_some found ≡ true → (rule : Conversion) × (found ≡ Some rule)
+chosen None some = absurd cc
+chosen (Some rule) some = (rule, refl)
 
--- a type that is no dictionary's is that of its own values
-own_type : (data_type : DataType) (layer : Layer) → is_dictionary_at layer ≡ false → value_type_at data_type layer ≡ data_type
-own_type data_type (DataType-F.Dictionary key entry ordered) value = cc
-own_type data_type layer value = refl
+-- A pair that is carried has a conversion, by which its pages are read where it is not read as nulls.
+record IsCarried (stored : PrimitiveType) (data_type : DataType) : Type 0 where
+  rule : Conversion
+  pair : conversion stored data_type ≡ Some rule
+  paged : paged_conversion stored.physical_type stored.logical_type data_type ≡ Some rule
 
 is_carried : (stored : PrimitiveType) (data_type : DataType) → pair_causes stored data_type ≡ [] → is_null_type data_type ≡ false → IsCarried stored data_type
 is_carried stored data_type none present =
-    let carried = and_parts (not (is_dictionary data_type)) (is_some (conversion stored data_type)) (none_of (not (is_dictionary data_type) && is_some (conversion stored data_type)) NotYetImplemented none) in
-    let value = not-true (is_dictionary data_type) carried.0 in
-    let only = found_only (is_repeated stored.repetition) (conversion_at stored.physical_type stored.logical_type (out-DataType data_type)) carried.1 in
-    let rule = only ∙ as_values stored.physical_type stored.logical_type (out-DataType data_type) present value in
+    let some = none_of (is_some (conversion stored data_type)) NotYetImplemented none in
+    let at = conversion_at stored.physical_type stored.logical_type (out-DataType data_type) in
+    let found = chosen (conversion stored data_type) some in
     record {
-      rule = rule;
-      some = sym (ap is_some rule) ∙ carried.1;
-      own_values = own_type data_type (out-DataType data_type) value;
+      rule = found.0;
+      pair = found.1;
+      paged = ap (λ null. if null then None else at) present ∙ sym (found_only (is_repeated stored.repetition) at some) ∙ found.1;
     }
 
 -- ---- what is left of a column
@@ -79,32 +64,16 @@ pub record IsWhole (stored : PrimitiveType) (data_type : DataType) (size : Optio
   pub pages_left : pages_wanted left.decoding.entries left.decoding.outcomes left.standing.dictionary left.standing.remaining left.pages ≡ pages_for stored data_type rows supply.pages
   pub lent : left.lent ≡ supply.lent
 
-chosen : (found : Option Conversion) → is_some found ≡ true → (rule : Conversion) × (found ≡ Some rule)
-chosen None some = absurd cc
-chosen (Some rule) some = (rule, refl)
-
-whole_by : (stored : PrimitiveType) (data_type : DataType) (size : Option ℕ) (rows : ℕ) (supply : Supply) (rule : Conversion) → value_type data_type ≡ data_type → conversion stored data_type ≡ Some rule
+whole_by : (stored : PrimitiveType) (data_type : DataType) (size : Option ℕ) (rows : ℕ) (supply : Supply) (rule : Conversion) → conversion stored data_type ≡ Some rule
     → IsWhole stored data_type size rows supply (converted_left stored.physical_type data_type size rows supply rule)
-whole_by stored data_type size rows supply rule own converted =
-    let entries : DataType → DictContent → Result (List Cell) (List Cause) = λ type. fitted_by (most_bytes type) rule stored.physical_type in
-    record {
-      typed = refl;
-      most = refl;
-      cut_by = refl;
-      rows_left = ap (λ type. take rows (all_rows (entries type) (selected_outcomes rule) None supply.pages supply.causes)) (sym own)
-          ∙ ap (λ found. take rows (option_map_or (rows_by data_type stored.physical_type supply.pages supply.causes) found [])) (sym converted);
-      pages_left = ap (λ type. pages_wanted (entries type) (selected_outcomes rule) None rows supply.pages) (sym own)
-          ∙ ap (λ found. option_map_or (pages_by data_type stored.physical_type rows supply.pages) found []) (sym converted);
-      lent = refl;
-    }
-
--- A column of a pair that is carried has a conversion, and is read by it.
-pub is_whole : (stored : PrimitiveType) (data_type : DataType) (size : Option ℕ) (rows : ℕ) (supply : Supply) → pair_causes stored data_type ≡ [] → is_null_type data_type ≡ false
-    → (rule : Conversion) × ((from_physical stored.physical_type stored.logical_type (out-DataType data_type) ≡ Some rule) × IsWhole stored data_type size rows supply (converted_left stored.physical_type data_type size rows supply rule))
-is_whole stored data_type size rows supply none present =
-    let carried = is_carried stored data_type none present in
-    let pair = chosen (from_physical stored.physical_type stored.logical_type (out-DataType data_type)) carried.some in
-    (pair.0, (pair.1, whole_by stored data_type size rows supply pair.0 carried.own_values (carried.rule ∙ pair.1)))
+whole_by stored data_type size rows supply rule pair = record {
+  typed = refl;
+  most = refl;
+  cut_by = refl;
+  rows_left = ap (λ found. take rows (option_map_or (rows_by data_type stored.physical_type supply.pages supply.causes) found [])) (sym pair);
+  pages_left = ap (λ found. option_map_or (pages_by data_type stored.physical_type rows supply.pages) found []) (sym pair);
+  lent = refl;
+}
 
 -- pages of a column have its type
 pub of_type : (stored : PrimitiveType) (pages : List Content) → AreOfType stored pages → DataPagesAre (λ page. page.type.physical_type ≡ stored.physical_type) pages
@@ -157,13 +126,14 @@ decoded_by arrays count stored data_type size rows supply left result steps step
 -- A column of a pair that is carried, collected by its conversion.
 pub is_decoded : {X : Type 0} (arrays : X → List Array) (count : X → ℕ) (stored : PrimitiveType) (data_type own : DataType) (logical : Option PrimitiveLogicalType) (size : Option ℕ) (rows : ℕ) (supply : Supply) (result : Result X Error) (steps steps_now : ℕ)
     → pair_causes stored data_type ≡ [] → is_null_type data_type ≡ false → logical ≡ stored.logical_type → own ≡ data_type
-    → IfSome (from_physical stored.physical_type logical (out-DataType own)) (λ rule. Collects arrays count (converted_left stored.physical_type own size rows supply rule) result steps steps_now)
+    → IfSome (paged_conversion stored.physical_type logical own) (λ rule. Collects arrays count (converted_left stored.physical_type own size rows supply rule) result steps steps_now)
     → IsDecoded arrays count stored data_type size rows supply result steps steps_now
 is_decoded arrays count stored data_type own logical size rows supply result steps steps_now none present same copy collects =
-    let pair = is_whole stored data_type size rows supply none present in
-    let W : DataType → Type 0 = λ type. IfSome (from_physical stored.physical_type logical (out-DataType type)) (λ rule. Collects arrays count (converted_left stored.physical_type type size rows supply rule) result steps steps_now) in
+    let carried = is_carried stored data_type none present in
+    let W : DataType → Type 0 = λ type. IfSome (paged_conversion stored.physical_type logical type) (λ rule. Collects arrays count (converted_left stored.physical_type type size rows supply rule) result steps steps_now) in
     let R : Conversion → Type 0 = λ rule. Collects arrays count (converted_left stored.physical_type data_type size rows supply rule) result steps steps_now in
-    let L : Option PrimitiveLogicalType → Type 0 = λ logical. IfSome (from_physical stored.physical_type logical (out-DataType data_type)) R in
-    let found : IfSome (from_physical stored.physical_type stored.logical_type (out-DataType data_type)) R = subst L same (subst W copy collects) in
-    let by : R pair.0 = subst (λ rule. IfSome rule R) pair.1.0 found in
-    decoded_by arrays count stored data_type size rows supply (converted_left stored.physical_type data_type size rows supply pair.0) result steps steps_now pair.1.1 by
+    let L : Option PrimitiveLogicalType → Type 0 = λ logical. IfSome (paged_conversion stored.physical_type logical data_type) R in
+    let found : IfSome (paged_conversion stored.physical_type stored.logical_type data_type) R = subst L same (subst W copy collects) in
+    let by : R carried.rule = subst (λ rule. IfSome rule R) carried.paged found in
+    let whole = whole_by stored data_type size rows supply carried.rule carried.pair in
+    decoded_by arrays count stored data_type size rows supply (converted_left stored.physical_type data_type size rows supply carried.rule) result steps steps_now whole by

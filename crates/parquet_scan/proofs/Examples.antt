@@ -8,6 +8,7 @@ use Rattle.columns_core.specs.Causes.{NotYetImplemented, OutOfSpec, Overflow}
 use Rattle.columns_core.specs.declared.cell.Cell.{Int, Null, Text}
 use Rattle.columns_core.specs.declared.data_type.DataType as type
 use Rattle.columns_core.specs.declared.data_type.DataType.{DataType}
+use Rattle.columns_core.specs.declared.data_type.DataType.TheOpen.{DataType-F}
 use Rattle.columns_core.specs.declared.data_type.Field.{Field}
 use Rattle.columns_core.specs.declared.data_type.IntegerType.TheVariants as integer
 use Rattle.columns_core.specs.declared.data_type.TimeUnit.TheVariants.{Nanosecond}
@@ -20,7 +21,7 @@ use Rattle.parquet_encoding.specs.Plain.{first_string, plain_bytes, plain_fixed}
 use Rattle.parquet_meta.specs.declared.metadata.ColumnChunkMetaData.{ColumnChunkMetaData}
 use Rattle.parquet_meta.specs.declared.metadata.ParquetTimeUnit.TheVariants.{Milliseconds}
 use Rattle.parquet_meta.specs.declared.metadata.PhysicalType.{PhysicalType}
-use Rattle.parquet_meta.specs.declared.metadata.PhysicalType.TheVariants.{ByteArray, Int32, Int64}
+use Rattle.parquet_meta.specs.declared.metadata.PhysicalType.TheVariants.{Boolean, ByteArray, Int32, Int64}
 use Rattle.parquet_meta.specs.declared.metadata.PrimitiveLogicalType.TheVariants.{Timestamp}
 use Rattle.parquet_meta.specs.declared.metadata.PrimitiveType.{PrimitiveType}
 use Rattle.parquet_meta.specs.declared.metadata.Repetition.TheVariants.{Required}
@@ -148,8 +149,26 @@ as_nulls bytes group column row below = ap (λ b. given b (Value Null)) (lt-ltb 
 -- ---- what is wrong with pages and dictionaries
 
 key_past_the_entries : causes_of_data (over_entries 0) (two_keys 2 (2 ∷ 0 ∷ [])) ≡ OutOfSpec ∷ []
-unfolding page_causes page_keys places_and_values prefixed_parts presence dictionary_keys plain_values plain_fixed hybrid runs first_run varint varint_within packed little_endian
+unfolding type.out-DataType denote.Hole.Carrier.out page_causes page_keys places_and_values prefixed_parts presence dictionary_keys plain_values plain_fixed hybrid runs first_run varint varint_within packed little_endian
 key_past_the_entries = refl
+
+-- the same pages, read as keys of 8 bits with a sign
+abbrev as_keys : Reading
+as_keys = record { stored = stored_as Int32; dictionary = two_entries 0; data_type = type.Dictionary integer.Int8 type.Int32 false }
+
+-- the key 128 and seven times the key 0, of which two are read
+key_past_its_type : causes_of_data as_keys (two_keys 8 (128 ∷ 0 ∷ 0 ∷ 0 ∷ 0 ∷ 0 ∷ 0 ∷ 0 ∷ [])) ≡ OutOfSpec ∷ Overflow ∷ []
+unfolding type.out-DataType denote.Hole.Carrier.out page_causes page_keys places_and_values prefixed_parts presence dictionary_keys plain_values plain_fixed hybrid runs first_run varint varint_within packed little_endian
+key_past_its_type = refl
+
+keys_of_the_type : causes_of_data as_keys (two_keys 1 (1 ∷ [])) ≡ []
+unfolding type.out-DataType denote.Hole.Carrier.out page_causes page_keys places_and_values prefixed_parts presence dictionary_keys plain_values plain_fixed hybrid runs first_run varint varint_within packed little_endian
+keys_of_the_type = refl
+
+-- a page of values in a dictionary column
+plain_as_keys : causes_of_data as_keys (record { size = 28; header = V1 2 (pos 0) (pos 3); body = 10 ∷ 0 ∷ 0 ∷ 0 ∷ 12 ∷ 0 ∷ 0 ∷ 0 ∷ [] }) ≡ NotYetImplemented ∷ []
+unfolding type.out-DataType denote.Hole.Carrier.out page_causes
+plain_as_keys = refl
 
 other_encoding : causes_of_dictionary (over_entries 4) (two_entries 4) ≡ NotYetImplemented ∷ []
 unfolding type.out-DataType denote.Hole.Carrier.out
@@ -197,9 +216,12 @@ bytes_as_text : pair_causes (stored_as ByteArray) type.Utf8 ≡ []
 unfolding type.out-DataType denote.Hole.Carrier.out
 bytes_as_text = refl
 
-texts_by_keys : pair_causes (stored_as ByteArray) (type.Dictionary integer.Int32 type.Utf8 false) ≡ NotYetImplemented ∷ []
+texts_by_keys : (data_type value : DataType) → type.out-DataType data_type ≡ DataType-F.Dictionary integer.Int32 value false → type.out-DataType value ≡ DataType-F.Utf8 → pair_causes (stored_as ByteArray) data_type ≡ []
+texts_by_keys data_type value keyed text = rw (keyed, text) refl
+
+truths_by_keys : pair_causes (stored_as Boolean) (type.Dictionary integer.Int32 type.Boolean false) ≡ NotYetImplemented ∷ []
 unfolding type.out-DataType denote.Hole.Carrier.out
-texts_by_keys = refl
+truths_by_keys = refl
 
 bytes_as_nulls : pair_causes (stored_as ByteArray) type.Null ≡ []
 unfolding type.out-DataType denote.Hole.Carrier.out

@@ -32,13 +32,13 @@ use Rattle.page_decoding.specs.Column.{entries_behind, followed_by, page_rows, r
 use Rattle.page_decoding.specs.Outcome.{Outcome, Given, Refused, causes_in}
 use Rattle.flat_values.specs.Agreement.{AreEntriesOf}
 use Rattle.flat_values.specs.Conversion.{Conversion, Item, Value}
-use Rattle.flat_values.specs.Outcomes.{outcome_of, selected_outcomes}
+use Rattle.flat_values.specs.Outcomes.{outcome_of}
 use Rattle.flat_values.specs.Pairs.{conversion}
 use Rattle.parquet_scan.specs.Causes.{causes_of_data, causes_of_dictionary, causes_of_found, causes_of_opened, has_dictionary, is_opened, opened_located}
 use Rattle.parquet_scan.specs.Cells.{Reading, dictionary_content, item_at, item_located, items_in, named_page}
 use Rattle.parquet_scan.specs.Costs.{with_dictionary_page}
 use Rattle.flat_binary.specs.PagesWanted.{pages_wanted}
-use Rattle.parquet_scan.specs.Decoded.{column_entries, pages_by, rows_by}
+use Rattle.parquet_scan.specs.Decoded.{column_entries, column_outcomes, pages_by, rows_by}
 use Rattle.parquet_scan.specs.Located.{entry_part, entry_place, part_in}
 use Rattle.parquet_scan.proofs.CellLemmas.{causes_behind, causes_if_there, items_there, map_rows}
 use Rattle.parquet_scan.proofs.PageLemmas.{HasWrongItem, IsOver, IsRefused, content_with, dictionary_first, first_given, first_wrong, items_many, page_given, page_refused, some_cause}
@@ -337,19 +337,19 @@ module _ (reading : Reading) (rule : Conversion) (entries : Option (List Cell)) 
   lent parts = lent_parts reading.stored parts
 
   abbrev rows_over : Lent → List Outcome
-  rows_over others = rows (column_entries reading.data_type rule reading.stored.physical_type) (selected_outcomes rule) entries others.pages others.causes
+  rows_over others = rows (column_entries reading.data_type rule reading.stored.physical_type) (column_outcomes reading.data_type rule) entries others.pages others.causes
 
   abbrev pages_over : ℕ → Lent → List Content
-  pages_over wanted others = pages_wanted (column_entries reading.data_type rule reading.stored.physical_type) (selected_outcomes rule) entries wanted others.pages
+  pages_over wanted others = pages_wanted (column_entries reading.data_type rule reading.stored.physical_type) (column_outcomes reading.data_type rule) entries wanted others.pages
 
   -- where the first page has a row that is wanted, it is lent, and others for what is wanted behind it
-  one_lent : (page : Content) (pages : List Content) (own rest : ℕ) → 0 < own → length (page_rows (column_entries reading.data_type rule reading.stored.physical_type) (selected_outcomes rule) entries page) ≡ own → entries_behind (column_entries reading.data_type rule reading.stored.physical_type) (selected_outcomes rule) entries page ≡ entries
+  one_lent : (page : Content) (pages : List Content) (own rest : ℕ) → 0 < own → length (page_rows (column_entries reading.data_type rule reading.stored.physical_type) (column_outcomes reading.data_type rule) entries page) ≡ own → entries_behind (column_entries reading.data_type rule reading.stored.physical_type) (column_outcomes reading.data_type rule) entries page ≡ entries
       → length (pages_over (own + rest) (record { pages = page ∷ pages; causes = [] })) ≡ suc (length (pages_over rest (record { pages = pages; causes = [] })))
   one_lent page pages own rest some long same =
       let more : own + rest ≡ suc (own + rest - 1) = omega (arith, some) in
       let left : suc (own + rest - 1) - own ≡ rest = omega (arith, some) in
       ap (λ n. length (pages_over n (record { pages = page ∷ pages; causes = [] }))) more
-      ∙ (λ i. suc (length (pages_wanted (column_entries reading.data_type rule reading.stored.physical_type) (selected_outcomes rule) (same i) (suc (own + rest - 1) - long i) pages)))
+      ∙ (λ i. suc (length (pages_wanted (column_entries reading.data_type rule reading.stored.physical_type) (column_outcomes reading.data_type rule) (same i) (suc (own + rest - 1) - long i) pages)))
       ∙ ap (λ n. suc (length (pages_over n (record { pages = pages; causes = [] })))) left
 
   -- Nothing is wrong with the pages of parts, and each item of theirs that is selected is a value.
@@ -422,7 +422,7 @@ module _ (reading : Reading) (rule : Conversion) (entries : Option (List Cell)) 
     later = rows_over (lent others)
 
     own : List Outcome
-    own = selected_outcomes rule entries (content_with reading.stored (Some part.0.selected_rows) page)
+    own = column_outcomes reading.data_type rule entries (content_with reading.stored (Some part.0.selected_rows) page)
 
     both : (goes_on : Bool) (items : List Item) → part_items reading part ≡ map Some items → AreShort (part ∷ others) (if goes_on then map outcome_of items ++ later else map outcome_of items)
     both true items e = record {

@@ -1,17 +1,20 @@
 -- What the pages of a column give, and what their items are.
 use Rattle.std.proofs.Common.{◌≡◌, ℕ, suc, ◌+◌, ◌-◌, Bool, true, false, List, [], ◌∷◌, ◌++◌, length, map, take, refl, sym, ◌∙◌, ap, subst, arith, inl, inr, append-nil}
-use Rattle.std.specs.Prelude.{◌&&◌, not, Option, Some, None, ◌⊎◌, is_some, option_map, unwrap_or, flat_map, sum_by, IsSome, if◌then◌else◌, Result, Ok, Err, IfErr, IfOk, OnOk}
+use Rattle.std.specs.Prelude.{not, Option, Some, None, ◌⊎◌, is_some, option_map, unwrap_or, flat_map, sum_by, IsSome, if◌then◌else◌, Result, Ok, Err, IfErr, IfOk, OnOk}
 use Rattle.std.specs.Option.{option_map_or}
 use Rattle.std.specs.Result.{result_ok}
 use Rattle.std.proofs.lemmas.List.{length-map, take-map}
 use Rattle.columns_core.specs.Causes.{Cause, ExternalFormat, NotYetImplemented, OutOfSpec, Overflow, IsOneOf, and_then, is_empty, unless}
 use Rattle.columns_core.specs.declared.cell.Cell.{Cell}
-use Rattle.columns_core.specs.declared.data_type.DataType.{DataType}
-use Rattle.columns_core.specs.Types.{value_type}
+use Rattle.columns_core.specs.DictionaryType.{key_type_at}
+use Rattle.columns_core.specs.declared.data_type.DataType.{DataType, out-DataType}
+use Rattle.columns_core.specs.declared.data_type.DataType.TheOpen.{DataType-F}
+use Rattle.columns_core.specs.Types.{Layer, value_type}
 use Rattle.parquet_base.specs.Reading.{◌>>=◌, given}
 use Rattle.parquet_base.specs.declared.interval.Interval.{Interval}
 use Rattle.parquet_encoding.proofs.StepLemmas.{bind_some, is_something, nothing_is, some_is}
 use Rattle.parquet_meta.specs.declared.metadata.PhysicalType.{PhysicalType}
+use Rattle.parquet_meta.specs.declared.metadata.PhysicalType.TheVariants.{Boolean, Int32, Int64, Int96, Float, Double, ByteArray, FixedLenByteArray}
 use Rattle.parquet_meta.specs.declared.metadata.PrimitiveType.{PrimitiveType}
 use Rattle.parquet_page.specs.Chunk.{ChunkPage, Dictionary, NoDictionary, Undefined, Defined, DictionaryPage}
 use Rattle.parquet_page.specs.Content.{DataContent, DictContent, header_values}
@@ -19,9 +22,9 @@ use Rattle.parquet_page.specs.Lent.{Lent, behind_dictionary, dictionary_of, in_f
 use Rattle.parquet_page.specs.Levels.{placed, present_count}
 use Rattle.parquet_page.specs.Opened.{carried_encoding, key_causes, page_causes, spelling_causes}
 use Rattle.parquet_page.specs.Selected.{selected_of}
-use Rattle.parquet_page.specs.Spelling.{dictionary_entries, has_plain_entries, header_encoding, is_keys, page_encoding, page_keys, places_and_values, spelled}
+use Rattle.parquet_page.specs.Spelling.{dictionary_entries, has_plain_entries, header_encoding, is_keys, page_encoding, page_keys, placed_keys, places_and_values, spelled}
 use Rattle.parquet_page.specs.Stored.{Stored}
-use Rattle.parquet_page.specs.Values.{Encoding, Plain, Keys, DeltaPacked, DeltaLengths, dictionary_keys, encoding_of, unless_none, values_in}
+use Rattle.parquet_page.specs.Values.{Encoding, Plain, Keys, DeltaPacked, DeltaLengths, dictionary_keys, encoding_of, goes_with, unless_none, values_in}
 use Rattle.page_decoding.specs.Bytes.{cell_bytes, fits_most}
 use Rattle.page_decoding.specs.Column.{followed_by, rows}
 use Rattle.page_decoding.specs.Outcome.{Outcome, Given, Refused, all_given, causes_in, cells_in, page_outcomes, refusal_of, refused}
@@ -34,14 +37,16 @@ use Rattle.flat_values.specs.Conversion.{Conversion, Item, Value, NotInRange, No
 use Rattle.flat_values.specs.Items.{page_items}
 use Rattle.flat_values.specs.MostBytes.{most_bytes}
 use Rattle.flat_values.specs.Outcomes.{dictionary_cells, fitted, outcome_of, place_outcomes, selected_outcomes, stored_outcome}
-use Rattle.flat_values.specs.Pairs.{conversion}
+use Rattle.flat_values.specs.Pairs.{conversion, conversion_at, is_repeated}
+use Rattle.dictionary_values.specs.Keys.{keys_of, placed_entry, selected_by}
+use Rattle.dictionary_values.proofs.SelectedLemmas.{fine-key-page}
 use Rattle.flat_values.proofs.AgreementLemmas.{places_give_items, as_many, entries_converted}
 use Rattle.parquet_scan.specs.Causes.{causes_of_data, causes_of_defined, causes_of_dictionary, causes_of_entries, entry_count, has_dictionary, item_causes, pair_causes}
 use Rattle.parquet_scan.specs.Cells.{Reading, content_of, dictionary_content, items_in}
 use Rattle.parquet_scan.specs.Costs.{with_dictionary_page}
+use Rattle.flat_binary.specs.Decoding.{key_limit_of, outcomes_by}
 use Rattle.flat_binary.specs.PagesWanted.{pages_wanted}
-use Rattle.parquet_scan.specs.Decoded.{column_entries, pages_by, rows_by}
-use Rattle.flat_binary.specs.Built.{is_dictionary}
+use Rattle.parquet_scan.specs.Decoded.{column_entries, column_outcomes, pages_by, rows_by}
 use Rattle.parquet_scan.proofs.CauseLemmas.{one_cases}
 use Rattle.flat_values.proofs.FlatLemmas.{selected-map}
 
@@ -121,11 +126,27 @@ items_many reading page items e =
 -- ---- a pair that is carried
 
 pub pair_rule : (stored : PrimitiveType) (data_type : DataType) → pair_causes stored data_type ≡ [] → (rule : Conversion) × (conversion stored data_type ≡ Some rule)
-pair_rule stored data_type none = by (not (is_dictionary data_type)) (conversion stored data_type) none where
-  by : (b : Bool) (o : Option Conversion) → unless (b && is_some o) NotYetImplemented ≡ [] → (rule : Conversion) × (o ≡ Some rule)
-  by true (Some rule) none = (rule, refl)
-  by true None none = absurd cc
-  by false o none = absurd cc
+pair_rule stored data_type none = by (conversion stored data_type) none where
+  by : (o : Option Conversion) → unless (is_some o) NotYetImplemented ≡ [] → (rule : Conversion) × (o ≡ Some rule)
+  by (Some rule) none = (rule, refl)
+  by None none = absurd cc
+
+-- A pair of a dictionary type is carried only of a stored type that has keys.
+carried_keys : (stored : PrimitiveType) (data_type : DataType) (rule : Conversion) → conversion stored data_type ≡ Some rule → (most : ℕ) → key_limit_of data_type ≡ Some most → goes_with Keys stored.physical_type ≡ true
+carried_keys stored data_type rule pair most limit = by (is_repeated stored.repetition) stored.physical_type (out-DataType data_type) pair limit where
+  by : (repeated : Bool) (physical : PhysicalType) (layer : Layer) → (if repeated then None else conversion_at physical stored.logical_type layer) ≡ Some rule → option_map keys_of (key_type_at layer) ≡ Some most → goes_with Keys physical ≡ true
+  by true physical layer pair limit = absurd cc
+  by false Boolean (DataType-F.Dictionary key value ordered) pair limit = absurd cc
+  by false Boolean layer pair limit = absurd cc
+  by false Float (DataType-F.Dictionary key value ordered) pair limit = absurd cc
+  by false Float layer pair limit = absurd cc
+  by false Double (DataType-F.Dictionary key value ordered) pair limit = absurd cc
+  by false Double layer pair limit = absurd cc
+  by false Int32 layer pair limit = refl
+  by false Int64 layer pair limit = refl
+  by false Int96 layer pair limit = refl
+  by false ByteArray layer pair limit = refl
+  by false (FixedLenByteArray size) layer pair limit = refl
 
 -- ---- the entries of a dictionary
 
@@ -205,7 +226,7 @@ pub record IsGiven (reading : Reading) (rule : Conversion) (entries : Option (Li
   pub items : List Item
   pub are : items_in reading page ≡ Some items
   pub many : length items ≡ header_values page.header
-  pub outcomes : (selected : Option (List Interval)) → selected_outcomes rule entries (content_with reading.stored selected page) ≡ map outcome_of (selected_of selected items)
+  pub outcomes : (selected : Option (List Interval)) → column_outcomes reading.data_type rule entries (content_with reading.stored selected page) ≡ map outcome_of (selected_of selected items)
 
 -- Selected rows of a page with which nothing is wrong as a whole, all of them values, and what stands behind them.
 pub record BeginsGiven (reading : Reading) (selected : Option (List Interval)) (page : ChunkPage) (own later : List Outcome) : Type 0 where
@@ -242,29 +263,48 @@ pub record HasWrongFirst (reading : Reading) (wanted : ℕ) (page : ChunkPage) (
   pub are : items_in reading page ≡ Some items
   pub wrong : IsOneOf (flat_map item_causes (take wanted items)) o
 
-outcomes_are : (rule : Conversion) (entries : Option (List Cell)) (page : DataContent) (places : List Outcome) → page_causes None (is_some entries) (option_map length entries) page ≡ []
+-- Keys of a type are keys.
+not_wrong : (limit : Option ℕ) (rule : Conversion) (entries : Option (List Cell)) (page : DataContent) → ((most : ℕ) → limit ≡ Some most → goes_with Keys page.type.physical_type ≡ true)
+    → page_causes limit (is_some entries) (option_map length entries) page ≡ [] → page_causes None (is_some entries) (option_map length entries) page ≡ []
+not_wrong None rule entries page goes none = none
+not_wrong (Some most) rule entries page goes none = (fine-key-page rule most entries page (goes most refl) none).alone
+
+values_are : (rule : Conversion) (entries : Option (List Cell)) (page : DataContent) (places : List Outcome) → page_causes None (is_some entries) (option_map length entries) page ≡ []
     → place_outcomes rule entries page ≡ Some places → selected_outcomes rule entries page ≡ selected_of page.selected places
 unfolding selected_outcomes
-outcomes_are rule entries page places none are = λ i. page_outcomes (none i) page.selected (unwrap_or (are i) [])
+values_are rule entries page places none are = λ i. page_outcomes (none i) page.selected (unwrap_or (are i) [])
 
-causes_are : (rule : Conversion) (entries : Option (List Cell)) (page : DataContent) (cause : Cause) (causes : List Cause) → page_causes None (is_some entries) (option_map length entries) page ≡ cause ∷ causes
-    → selected_outcomes rule entries page ≡ refused (cause ∷ causes)
-unfolding selected_outcomes
-causes_are rule entries page cause causes e = λ i. page_outcomes (e i) page.selected (unwrap_or (place_outcomes rule entries page) [])
+outcomes_are : (limit : Option ℕ) (rule : Conversion) (entries : Option (List Cell)) (page : DataContent) (places : List Outcome) → ((most : ℕ) → limit ≡ Some most → goes_with Keys page.type.physical_type ≡ true)
+    → page_causes limit (is_some entries) (option_map length entries) page ≡ [] → place_outcomes rule entries page ≡ Some places → outcomes_by limit rule entries page ≡ selected_of page.selected places
+outcomes_are None rule entries page places goes none are = values_are rule entries page places none are
+outcomes_are (Some most) rule entries page places goes none are =
+    let fine = fine-key-page rule most entries page (goes most refl) none in
+    fine.outcomes ∙ values_are rule entries page places fine.alone are
+
+causes_are : (limit : Option ℕ) (rule : Conversion) (entries : Option (List Cell)) (page : DataContent) (cause : Cause) (causes : List Cause) → page_causes limit (is_some entries) (option_map length entries) page ≡ cause ∷ causes
+    → outcomes_by limit rule entries page ≡ refused (cause ∷ causes)
+unfolding selected_outcomes selected_by
+causes_are None rule entries page cause causes e = λ i. page_outcomes (e i) page.selected (unwrap_or (place_outcomes rule entries page) [])
+causes_are (Some most) rule entries page cause causes e = λ i. page_outcomes (e i) page.selected (map (placed_entry entries) (unwrap_or (placed_keys page) []))
 
 module _ (reading : Reading) (rule : Conversion) (entries : Option (List Cell)) (pair : conversion reading.stored reading.data_type ≡ Some rule)
     (over : AreEntriesOf rule reading.stored.physical_type (dictionary_content reading.dictionary) entries) (has : has_dictionary reading.dictionary ≡ is_some entries) where
-  same_causes : (selected : Option (List Interval)) (page : ChunkPage) → page_causes None (is_some entries) (option_map length entries) (content_with reading.stored selected page) ≡ causes_of_data reading page
+  abbrev limit : Option ℕ
+  limit = key_limit_of reading.data_type
+
+  same_causes : (selected : Option (List Interval)) (page : ChunkPage) → page_causes limit (is_some entries) (option_map length entries) (content_with reading.stored selected page) ≡ causes_of_data reading page
   same_causes selected page =
       let counted = entries_counted rule reading.stored.physical_type reading.dictionary entries over in
-      any_selection None (is_some entries) (option_map length entries) reading.stored selected page
-      ∙ (λ i. page_causes None (sym has i) (sym counted i) (content_of reading.stored page))
+      any_selection limit (is_some entries) (option_map length entries) reading.stored selected page
+      ∙ (λ i. page_causes limit (sym has i) (sym counted i) (content_of reading.stored page))
 
   -- a page with which nothing is wrong as a whole
   pub page_given : (page : ChunkPage) → causes_of_data reading page ≡ [] → IsGiven reading rule entries page
   page_given page none = go (items_in reading page) refl where
     agree : IsSome (place_outcomes rule entries (content_of reading.stored page)) × (place_outcomes rule entries (content_of reading.stored page) ≡ option_map (map outcome_of) (items_in reading page))
-    agree = places_give_items reading.data_type rule (dictionary_content reading.dictionary) entries (content_of reading.stored page) pair over (same_causes None page ∙ none)
+    agree =
+        places_give_items reading.data_type rule (dictionary_content reading.dictionary) entries (content_of reading.stored page) pair over
+        (not_wrong limit rule entries (content_of reading.stored page) (carried_keys reading.stored reading.data_type rule pair) (same_causes None page ∙ none))
 
     go : (o : Option (List Item)) → items_in reading page ≡ o → IsGiven reading rule entries page
     go None e =
@@ -275,22 +315,22 @@ module _ (reading : Reading) (rule : Conversion) (entries : Option (List Cell)) 
       are = e;
       many = items_many reading page items e;
       outcomes = λ selected.
-          outcomes_are rule entries (content_with reading.stored selected page) (map outcome_of items) (same_causes selected page ∙ none)
+          outcomes_are limit rule entries (content_with reading.stored selected page) (map outcome_of items) (carried_keys reading.stored reading.data_type rule pair) (same_causes selected page ∙ none)
           (same_outcomes rule entries reading.stored selected page ∙ agree.1 ∙ ap (option_map (map outcome_of)) e)
           ∙ selected-map outcome_of selected items;
     }
 
   -- one with which something is wrong as a whole
   pub page_refused : (selected : Option (List Interval)) (page : ChunkPage) (cause : Cause) (causes : List Cause) → causes_of_data reading page ≡ cause ∷ causes
-      → selected_outcomes rule entries (content_with reading.stored selected page) ≡ refused (cause ∷ causes)
-  page_refused selected page cause causes e = causes_are rule entries (content_with reading.stored selected page) cause causes (same_causes selected page ∙ e)
+      → column_outcomes reading.data_type rule entries (content_with reading.stored selected page) ≡ refused (cause ∷ causes)
+  page_refused selected page cause causes e = causes_are limit rule entries (content_with reading.stored selected page) cause causes (same_causes selected page ∙ e)
 
   -- a page in front of others, where nothing is wrong with all that is given
-  pub first_given : (selected : Option (List Interval)) (page : ChunkPage) (later : List Outcome) → causes_in (followed_by (selected_outcomes rule entries (content_with reading.stored selected page)) later) ≡ []
-      → BeginsGiven reading selected page (selected_outcomes rule entries (content_with reading.stored selected page)) later
+  pub first_given : (selected : Option (List Interval)) (page : ChunkPage) (later : List Outcome) → causes_in (followed_by (column_outcomes reading.data_type rule entries (content_with reading.stored selected page)) later) ≡ []
+      → BeginsGiven reading selected page (column_outcomes reading.data_type rule entries (content_with reading.stored selected page)) later
   first_given selected page later none = go (causes_of_data reading page) refl where
     own : List Outcome
-    own = selected_outcomes rule entries (content_with reading.stored selected page)
+    own = column_outcomes reading.data_type rule entries (content_with reading.stored selected page)
 
     split : (causes_in own ≡ []) × (followed_by own later ≡ own ++ later)
     split = followed_none own later none
@@ -313,14 +353,14 @@ module _ (reading : Reading) (rule : Conversion) (entries : Option (List Cell)) 
 
   -- what is wrong with all that is given is wrong with the page as a whole, with an item of it, or with what stands behind it
   pub first_wrong : (selected : Option (List Interval)) (page : ChunkPage) (later : List Outcome) (o : Option Cause)
-      → IsOneOf (causes_in (followed_by (selected_outcomes rule entries (content_with reading.stored selected page)) later)) o
+      → IsOneOf (causes_in (followed_by (column_outcomes reading.data_type rule entries (content_with reading.stored selected page)) later)) o
       → IsOneOf (causes_of_data reading page) o ⊎ (HasWrongItem reading selected page o ⊎ IsOneOf (causes_in later) o)
   first_wrong selected page later o wrong = elim (followed_wrong own later o wrong) [
     | inl here ↦ go (causes_of_data reading page) refl here
     | inr behind ↦ inr (inr behind)
   ] where
     own : List Outcome
-    own = selected_outcomes rule entries (content_with reading.stored selected page)
+    own = column_outcomes reading.data_type rule entries (content_with reading.stored selected page)
 
     go : (causes : List Cause) → causes_of_data reading page ≡ causes → IsOneOf (causes_in own) o → IsOneOf (causes_of_data reading page) o ⊎ (HasWrongItem reading selected page o ⊎ IsOneOf (causes_in later) o)
     go [] e here =
@@ -333,11 +373,11 @@ module _ (reading : Reading) (rule : Conversion) (entries : Option (List Cell)) 
     go (cause ∷ causes) e here = inl (subst (λ causes. IsOneOf causes o) (ap causes_in (page_refused selected page cause causes e) ∙ append-nil (cause ∷ causes) ∙ sym e) here)
 
   -- the first of the rows of a page in front of others, where nothing is wrong with so many
-  pub first_taken : (wanted : ℕ) (page : ChunkPage) (later : List Outcome) → causes_in (take (suc wanted) (followed_by (selected_outcomes rule entries (content_with reading.stored None page)) later)) ≡ []
-      → BeginsTaken reading (suc wanted) page (selected_outcomes rule entries (content_with reading.stored None page)) later
+  pub first_taken : (wanted : ℕ) (page : ChunkPage) (later : List Outcome) → causes_in (take (suc wanted) (followed_by (column_outcomes reading.data_type rule entries (content_with reading.stored None page)) later)) ≡ []
+      → BeginsTaken reading (suc wanted) page (column_outcomes reading.data_type rule entries (content_with reading.stored None page)) later
   first_taken wanted page later none = go (causes_of_data reading page) refl where
     own : List Outcome
-    own = selected_outcomes rule entries (content_with reading.stored None page)
+    own = column_outcomes reading.data_type rule entries (content_with reading.stored None page)
 
     split : take (suc wanted) (followed_by own later) ≡ take (suc wanted) own ++ take (suc wanted - length own) later
     split = taken_none (suc wanted) own later none
@@ -366,11 +406,11 @@ module _ (reading : Reading) (rule : Conversion) (entries : Option (List Cell)) 
 
   -- What is wrong with them is wrong with the page as a whole, with one of its first items, or with what stands behind it.
   pub first_taken_wrong : (wanted : ℕ) (page : ChunkPage) (later : List Outcome) (o : Option Cause)
-      → IsOneOf (causes_in (take (suc wanted) (followed_by (selected_outcomes rule entries (content_with reading.stored None page)) later))) o
+      → IsOneOf (causes_in (take (suc wanted) (followed_by (column_outcomes reading.data_type rule entries (content_with reading.stored None page)) later))) o
       → IsOneOf (causes_of_data reading page) o ⊎ (HasWrongFirst reading (suc wanted) page o ⊎ IsOneOf (causes_in (take (suc wanted - header_values page.header) later)) o)
   first_taken_wrong wanted page later o wrong = go (causes_of_data reading page) refl where
     own : List Outcome
-    own = selected_outcomes rule entries (content_with reading.stored None page)
+    own = column_outcomes reading.data_type rule entries (content_with reading.stored None page)
 
     go : (causes : List Cause) → causes_of_data reading page ≡ causes
         → IsOneOf (causes_of_data reading page) o ⊎ (HasWrongFirst reading (suc wanted) page o ⊎ IsOneOf (causes_in (take (suc wanted - header_values page.header) later)) o)
@@ -397,8 +437,8 @@ pub record IsOver (reading : Reading) (rule : Conversion) (others : Lent) : Type
   pub has : has_dictionary reading.dictionary ≡ is_some entries
   pub none : causes_of_dictionary reading reading.dictionary ≡ []
   pub outcomes : rows_by reading.data_type reading.stored.physical_type (behind_dictionary reading.dictionary others).pages (behind_dictionary reading.dictionary others).causes rule
-      ≡ rows (column_entries reading.data_type rule reading.stored.physical_type) (selected_outcomes rule) entries others.pages others.causes
-  pub lent : (wanted count : ℕ) → length (pages_wanted (column_entries reading.data_type rule reading.stored.physical_type) (selected_outcomes rule) entries (suc wanted) others.pages) ≡ suc count
+      ≡ rows (column_entries reading.data_type rule reading.stored.physical_type) (column_outcomes reading.data_type rule) entries others.pages others.causes
+  pub lent : (wanted count : ℕ) → length (pages_wanted (column_entries reading.data_type rule reading.stored.physical_type) (column_outcomes reading.data_type rule) entries (suc wanted) others.pages) ≡ suc count
       → length (pages_by reading.data_type reading.stored.physical_type (suc wanted) (behind_dictionary reading.dictionary others).pages rule) ≡ with_dictionary_page reading.dictionary (suc count)
 
 -- a dictionary with which something is wrong
@@ -458,19 +498,19 @@ module _ (stored : PrimitiveType) (data_type : DataType) (rule : Conversion) (pa
 
   given_behind : (page : DictionaryPage) (found : Result (List Cell) (List Cause)) → has_plain_entries page.encoding ≡ true → column_entries data_type rule stored.physical_type (held page) ≡ found
       → rows_by data_type stored.physical_type (behind_dictionary (Defined page) others).pages (behind_dictionary (Defined page) others).causes rule
-      ≡ followed_by (refusal_of found) (rows (column_entries data_type rule stored.physical_type) (selected_outcomes rule) (result_ok found) others.pages others.causes)
+      ≡ followed_by (refusal_of found) (rows (column_entries data_type rule stored.physical_type) (column_outcomes data_type rule) (result_ok found) others.pages others.causes)
   given_behind page found plain e =
       ap (λ b. rows_by data_type stored.physical_type (lent_if b page).pages (lent_if b page).causes rule) plain
-      ∙ ap (λ found. followed_by (refusal_of found) (rows (column_entries data_type rule stored.physical_type) (selected_outcomes rule) (result_ok found) others.pages others.causes)) e
+      ∙ ap (λ found. followed_by (refusal_of found) (rows (column_entries data_type rule stored.physical_type) (column_outcomes data_type rule) (result_ok found) others.pages others.causes)) e
 
   lent_behind : (page : DictionaryPage) (cells : List Cell) → has_plain_entries page.encoding ≡ true → column_entries data_type rule stored.physical_type (held page) ≡ Ok cells → (wanted count : ℕ)
-      → length (pages_wanted (column_entries data_type rule stored.physical_type) (selected_outcomes rule) (Some cells) (suc wanted) others.pages) ≡ suc count
+      → length (pages_wanted (column_entries data_type rule stored.physical_type) (column_outcomes data_type rule) (Some cells) (suc wanted) others.pages) ≡ suc count
       → length (pages_by data_type stored.physical_type (suc wanted) (behind_dictionary (Defined page) others).pages rule) ≡ suc count + 1
   lent_behind page cells plain e wanted count many =
       let all : suc wanted - 0 ≡ suc wanted = omega arith in
       let lent = ap (λ b. length (pages_by data_type stored.physical_type (suc wanted) (lent_if b page).pages rule)) plain
-      ∙ ap (λ found. suc (length (pages_wanted (column_entries data_type rule stored.physical_type) (selected_outcomes rule) (result_ok found) (suc wanted - length (refusal_of found)) others.pages))) e
-      ∙ ap (λ n. suc (length (pages_wanted (column_entries data_type rule stored.physical_type) (selected_outcomes rule) (Some cells) n others.pages))) all in
+      ∙ ap (λ found. suc (length (pages_wanted (column_entries data_type rule stored.physical_type) (column_outcomes data_type rule) (result_ok found) (suc wanted - length (refusal_of found)) others.pages))) e
+      ∙ ap (λ n. suc (length (pages_wanted (column_entries data_type rule stored.physical_type) (column_outcomes data_type rule) (Some cells) n others.pages))) all in
       omega (arith, lent, many)
 
   defined_first : (page : DictionaryPage) (plain : Bool) (found : Result (List Cell) (List Cause)) → has_plain_entries page.encoding ≡ plain → column_entries data_type rule stored.physical_type (held page) ≡ found

@@ -29,7 +29,7 @@ use Rattle.flat_values.specs.MostBytes.{most_bytes}
 use Rattle.flat_values.specs.Pairs.{conversion}
 use Rattle.parquet_scan.specs.declared.bound.Bound.{Bound}
 use Rattle.parquet_scan.specs.Cells.{Reading, chunk_of, content_of, dictionary_content, is_null_type, located_item, located_pages, located_reading, walked_item, walked_reading}
-use Rattle.flat_binary.specs.Built.{is_built_pair}
+use Rattle.flat_binary.specs.Decoding.{key_limit_of}
 use Rattle.parquet_scan.specs.Decoded.{column_entries}
 use Rattle.parquet_scan.specs.NotBuilt.{not_built}
 use Rattle.parquet_scan.specs.Request.{Request, begins}
@@ -39,9 +39,9 @@ use Rattle.parquet_scan.specs.Statistics.{statistics_causes}
 
 -- ---- the requested fields, in the schema
 
--- a pair of types that is carried and built
+-- a pair of types that is carried
 abbrev pub pair_causes : PrimitiveType → DataType → List Cause
-pair_causes stored data_type = unless (is_built_pair stored data_type) NotYetImplemented
+pair_causes stored data_type = unless (is_some (conversion stored data_type)) NotYetImplemented
 
 -- A field that names columns has exactly one, which is flat and may be read as the field's type.
 abbrev pub descriptor_causes : DataType → List ColumnDescriptor → List Cause
@@ -106,11 +106,10 @@ has_dictionary _ = true
 abbrev pub entry_count : PhysicalType → Dictionary → Option ℕ
 entry_count type dictionary = option_map length (option_and_then (dictionary_entries type) (dictionary_content dictionary))
 
--- What is wrong with a data page as a whole. Its keys have no other limit than the entries: columns that are read as dictionaries are not
--- built.
+-- What is wrong with a data page as a whole. Its keys name entries, and those of a dictionary column are of their type.
 abbrev pub causes_of_data : Reading → ChunkPage → List Cause
 causes_of_data reading page =
-    page_causes None (has_dictionary reading.dictionary) (entry_count reading.stored.physical_type reading.dictionary) (content_of reading.stored page)
+    page_causes (key_limit_of reading.data_type) (has_dictionary reading.dictionary) (entry_count reading.stored.physical_type reading.dictionary) (content_of reading.stored page)
 
 -- what is wrong with an item
 abbrev pub item_causes : Item → List Cause

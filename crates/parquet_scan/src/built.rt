@@ -2,7 +2,7 @@
 ghost use Rattle.std.specs.Prelude.{◌≡◌, [], None, OnOk};
 ghost use Rattle.std.specs.List.{list_all};
 ghost use Rattle.columns_core.specs.Causes.{ComesOf};
-ghost use Rattle.flat_binary.specs.Built as pairs;
+ghost use Rattle.flat_binary.specs.Paged as pairs;
 ghost use Rattle.parquet_scan.specs.Causes.{pair_causes};
 ghost use Rattle.parquet_scan.specs.NotBuilt as spec;
 ghost use Rattle.parquet_scan.specs.Scan.{request_of};
@@ -44,16 +44,10 @@ pub(crate) fn check_pair(stored: &PrimitiveType, data_type: &DataType) -> Result
     ensures ok { OnOk result (pair_causes stored.now data_type.now ≡ []) }
     ensures cause { ComesOf result (pair_causes stored.now data_type.now) }
 {
-    if !is_dictionary(data_type) && carries(stored, data_type) {
+    if carries(stored, data_type) {
         return Ok(());
     }
     Err(Error::NotYetImplemented(Part::Schema))
-}
-
-fn is_dictionary(data_type: &DataType) -> bool
-    ensures { result ≡ pairs.is_dictionary data_type.now }
-{
-    matches!(data_type, DataType::Dictionary(_, _, _))
 }
 
 pub(crate) fn is_null_type(data_type: &DataType) -> bool

@@ -1,6 +1,7 @@
 //! The arrays of a column's pages.
 ghost use Rattle.std.specs.Prelude.{◌≡◌, ◌+◌, ◌-◌, ◌^◌, ◌≤◌, [], All, IfErr, IfOk, OnOk, true, false, min, map, length, sum_by, take};
 ghost use Rattle.columns_core.specs.Array.{cells, data_type_of};
+ghost use Rattle.parquet_page.specs.Lending.{has_data_behind};
 ghost use Rattle.page_decoding.specs.Bytes.{IsCausedByChunks, cell_bytes, fits_most};
 ghost use Rattle.page_decoding.specs.Column.{DataPagesAre};
 ghost use Rattle.page_decoding.specs.Outcome.{Given};
@@ -33,6 +34,7 @@ pub(crate) fn decode_column<I: Pages, L: Ledger>(
     requires pair { pair_causes stored.now data_type.now ≡ [] }
     requires not_null { is_null_type data_type.now ≡ false }
     requires typed { DataPagesAre (λ page. page.type ≡ stored.now) (I.to_come pages) }
+    requires ordered { has_data_behind (I.to_come pages) ≡ true }
     requires size { IsChunkSize chunk_size }
     requires fresh { I.lent_count pages ≡ 0 }
     ensures typed { IfOk result (λ found. All (λ array. data_type_of array ≡ data_type.now) found.0.items) }

@@ -1,4 +1,4 @@
-use Rattle.std.proofs.Common.{◌≡◌, ◌∙◌, ℕ, ◌+◌, ◌++◌, ◌-◌, ◌<◌, [], ◌∷◌, List, true, ap, sym, subst, arith, append_assoc, length, map}
+use Rattle.std.proofs.Common.{◌≡◌, ◌∙◌, ℕ, ◌+◌, ◌++◌, ◌-◌, ◌<◌, [], ◌∷◌, List, true, ap, sym, subst, arith, append_assoc, map}
 use Rattle.std.specs.Prelude.{All, OnSome, Option, Result, Some, sum_by}
 use Rattle.std.proofs.lemmas.List.{map-append}
 use Rattle.std.proofs.lemmas.List.Elements.{All-push}

@@ -1,4 +1,4 @@
-use Rattle.std.proofs.Common.{◌≡◌, ℕ, ◌+◌, ◌++◌, ◌-◌, ◌≤◌, true, length, map}
+use Rattle.std.proofs.Common.{◌≡◌, ◌+◌, ◌++◌, ◌-◌, ◌≤◌, true, length, map}
 use Rattle.std.specs.Prelude.{All, sum_by}
 use Rattle.columns_core.specs.Array.{cells, data_type_of}
 use Rattle.columns_core.specs.declared.error.Error.{Error}
