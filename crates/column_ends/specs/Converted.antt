@@ -1,21 +1,24 @@
 -- The ends of groups and of pages as values of a type, and what is wrong with them.
-use Rattle.std.specs.Prelude.{ℕ, List, [], ◌∷◌, ◌++◌, flat_map, map, sum_by, is_some, Option, Some, option_and_then, option_map}
+use Rattle.std.specs.Prelude.{ℕ, List, [], ◌∷◌, ◌++◌, flat_map, map, sum_by, is_some, Option, Some, option_and_then, option_map, if◌then◌else◌}
 use Rattle.std.specs.Option.{option_map_or}
 use Rattle.columns_core.specs.Causes.{Cause, ExternalFormat, NotYetImplemented, OutOfSpec, Overflow, unless}
 use Rattle.columns_core.specs.declared.cell.Cell.{Cell}
 use Rattle.columns_core.specs.declared.data_type.DataType.{DataType}
 use Rattle.parquet_base.specs.Reading.{◌>>=◌}
+use Rattle.parquet_meta.specs.Indexes.{type_of}
 use Rattle.parquet_meta.specs.TypedStatistics.{known_count}
 use Rattle.parquet_meta.specs.declared.metadata.ColumnChunkMetaData.{ColumnChunkMetaData}
 use Rattle.parquet_meta.specs.declared.metadata.Ends.{Ends}
 use Rattle.parquet_meta.specs.declared.metadata.Index.{Index}
 use Rattle.parquet_meta.specs.declared.metadata.PageIndex.{PageIndex}
+use Rattle.parquet_meta.specs.declared.metadata.PhysicalType.{PhysicalType}
 use Rattle.parquet_meta.specs.declared.metadata.PrimitiveType.{PrimitiveType}
 use Rattle.parquet_page.specs.Stored.{Stored}
 use Rattle.page_decoding.specs.Bytes.{cell_bytes, fits_most}
 use Rattle.flat_values.specs.Conversion.{Conversion, Item, Value, NotInRange, NotText, convert}
 use Rattle.flat_values.specs.MostBytes.{most_bytes}
 use Rattle.flat_values.specs.Pairs.{leaf_conversion, page_conversion}
+use Rattle.flat_values.specs.Sound.{is_stored_as}
 use Rattle.column_ends.specs.Told.{stored_pages, told_ends}
 
 -- ---- one end
@@ -32,12 +35,16 @@ item_causes (Value cell) = []
 item_causes NotInRange = Overflow ∷ []
 item_causes NotText = OutOfSpec ∷ []
 
+-- what is wrong with an end: it has to be such a value as its column stores, and to have a value in the type
+abbrev pub stored_causes : PhysicalType → Conversion → Stored → List Cause
+stored_causes type rule stored = if is_stored_as type stored then item_causes (convert rule stored) else ExternalFormat ∷ []
+
 -- the value of an end that is told
 abbrev pub end_cell : Conversion → Option Stored → Option Cell
 end_cell rule end = option_and_then (λ stored. as_cell (convert rule stored)) end
 
-abbrev pub end_causes : Conversion → Option Stored → List Cause
-end_causes rule end = option_map_or (λ stored. item_causes (convert rule stored)) end []
+abbrev pub end_causes : PhysicalType → Conversion → Option Stored → List Cause
+end_causes type rule end = option_map_or (stored_causes type rule) end []
 
 -- ---- the ends of a column in a group
 
@@ -58,13 +65,13 @@ group_cells data_type column = do
   rule ← statistics_rule column.descriptor.primitive_type data_type
   option_map (cell_ends rule) (told_ends rule column)
 
-abbrev pub causes_of_ends : Conversion → Ends Stored → List Cause
-causes_of_ends rule ends = end_causes rule ends.min_value ++ end_causes rule ends.max_value
+abbrev pub causes_of_ends : PhysicalType → Conversion → Ends Stored → List Cause
+causes_of_ends type rule ends = end_causes type rule ends.min_value ++ end_causes type rule ends.max_value
 
 -- The column has to be of a type that is read as this one, the statistics well stored, and each end a value.
 abbrev pub group_causes : DataType → ColumnChunkMetaData → List Cause
 group_causes data_type column =
-    option_map_or (λ rule. option_map_or (causes_of_ends rule) (told_ends rule column) (ExternalFormat ∷ []))
+    option_map_or (λ rule. option_map_or (causes_of_ends (type_of column) rule) (told_ends rule column) (ExternalFormat ∷ []))
     (statistics_rule column.descriptor.primitive_type data_type) (NotYetImplemented ∷ [])
 
 -- ---- the ends of its pages
@@ -80,9 +87,9 @@ abbrev pub index_cells : PrimitiveType → DataType → Index → Option (List (
 index_cells stored data_type index = option_map (λ rule. map (cell_page rule) (stored_pages index)) (index_rule stored data_type)
 
 -- A count that is told is not negative, and each end is a value.
-abbrev pub causes_of_page : Conversion → PageIndex Stored → List Cause
-causes_of_page rule page =
-    unless (is_some (known_count page.null_count)) ExternalFormat ++ end_causes rule page.min ++ end_causes rule page.max
+abbrev pub causes_of_page : PhysicalType → Conversion → PageIndex Stored → List Cause
+causes_of_page type rule page =
+    unless (is_some (known_count page.null_count)) ExternalFormat ++ end_causes type rule page.min ++ end_causes type rule page.max
 
 -- ---- ends in arrays
 
@@ -117,5 +124,5 @@ page_array_causes data_type ends = array_causes data_type (map low_of_page ends)
 -- The column has to be of a type whose pages are read as this one, and each page without a cause, alone and in the arrays.
 abbrev pub causes_of_index : PrimitiveType → DataType → Index → List Cause
 causes_of_index stored data_type index =
-    option_map_or (λ rule. flat_map (causes_of_page rule) (stored_pages index) ++ page_array_causes data_type (map (cell_page rule) (stored_pages index)))
+    option_map_or (λ rule. flat_map (causes_of_page stored.physical_type rule) (stored_pages index) ++ page_array_causes data_type (map (cell_page rule) (stored_pages index)))
     (index_rule stored data_type) (NotYetImplemented ∷ [])

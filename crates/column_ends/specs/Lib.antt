@@ -1,2 +1,4 @@
 pub mod Told
 pub mod Converted
+pub mod Counted
+pub mod Rules
