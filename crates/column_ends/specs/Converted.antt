@@ -1,5 +1,5 @@
 -- The ends of groups and of pages as values of a type, and what is wrong with them.
-use Rattle.std.specs.Prelude.{ℕ, List, [], ◌∷◌, ◌++◌, flat_map, map, sum_by, is_some, Option, Some, option_and_then, option_map, if◌then◌else◌}
+use Rattle.std.specs.Prelude.{ℕ, List, [], ◌∷◌, ◌++◌, flat_map, map, sum_by, is_some, Option, Some, None, option_and_then, option_map, if◌then◌else◌}
 use Rattle.std.specs.Option.{option_map_or}
 use Rattle.columns_core.specs.Causes.{Cause, ExternalFormat, NotYetImplemented, OutOfSpec, Overflow, unless}
 use Rattle.columns_core.specs.declared.cell.Cell.{Cell}
@@ -59,20 +59,27 @@ cell_ends rule ends = record {
   max_value = end_cell rule ends.max_value;
 }
 
--- what the statistics tell, in a type; without a cause
-abbrev pub group_cells : DataType → ColumnChunkMetaData → Option (Ends Cell)
-group_cells data_type column = do
-  rule ← statistics_rule column.descriptor.primitive_type data_type
-  option_map (cell_ends rule) (told_ends rule column)
-
 abbrev pub causes_of_ends : PhysicalType → Conversion → Ends Stored → List Cause
 causes_of_ends type rule ends = end_causes type rule ends.min_value ++ end_causes type rule ends.max_value
 
--- The column has to be of a type that is read as this one, the statistics well stored, and each end a value.
+-- what the statistics tell, by a rule; without a cause
+abbrev pub told_cells : Conversion → ColumnChunkMetaData → Option (Ends Cell)
+told_cells rule column = option_map (cell_ends rule) (told_ends rule column)
+
+-- The statistics have to be well stored, and each end a value.
+abbrev pub told_causes : Conversion → ColumnChunkMetaData → List Cause
+told_causes rule column = option_map_or (causes_of_ends (type_of column) rule) (told_ends rule column) (ExternalFormat ∷ [])
+
+-- in a type
+abbrev pub group_cells : DataType → ColumnChunkMetaData → Option (Ends Cell)
+group_cells data_type column = do
+  rule ← statistics_rule column.descriptor.primitive_type data_type
+  told_cells rule column
+
+-- The column has to be of a type that is read as this one.
 abbrev pub group_causes : DataType → ColumnChunkMetaData → List Cause
 group_causes data_type column =
-    option_map_or (λ rule. option_map_or (causes_of_ends (type_of column) rule) (told_ends rule column) (ExternalFormat ∷ []))
-    (statistics_rule column.descriptor.primitive_type data_type) (NotYetImplemented ∷ [])
+    option_map_or (λ rule. told_causes rule column) (statistics_rule column.descriptor.primitive_type data_type) (NotYetImplemented ∷ [])
 
 -- ---- the ends of its pages
 

@@ -19,6 +19,7 @@ use Rattle.parquet_meta.specs.declared.metadata.PhysicalType.{PhysicalType}
 use Rattle.parquet_meta.specs.declared.metadata.PhysicalType.TheVariants.{Boolean, Int32, Int64, Int96, ByteArray, FixedLenByteArray}
 use Rattle.flat_values.specs.Conversion.{Conversion, Nulls, Keep, LowUnsigned, LowSigned, Scale, LowNanoseconds, BigEndian, Months, DaysAndMilliseconds, AsText}
 use Rattle.flat_values.specs.Pairs.{rescale, since_1970}
+use Rattle.flat_values.specs.Units.{unit_factor}
 
 abbrev pub int32_conversion : Int32Rule → Conversion
 int32_conversion int32.Keep = Keep
@@ -33,7 +34,7 @@ abbrev pub int64_conversion : Int64Rule → Conversion
 int64_conversion int64.Keep = Keep
 int64_conversion int64.LowWord = LowUnsigned 32
 int64_conversion int64.Bits = LowUnsigned 64
-int64_conversion (int64.Scale scale) = rescale scale
+int64_conversion (int64.Rescale logical unit) = rescale (unit_factor logical unit)
 
 abbrev pub int96_conversion : Int96Rule → Conversion
 int96_conversion (int96.InUnit unit) = since_1970 unit

@@ -1,8 +1,10 @@
 //! What the statistics of a column tell of a group, as values of a type.
 ghost use Rattle.std.specs.Prelude.{◌≡◌, [], Some, true, IfOk, OnOk};
 ghost use Rattle.columns_core.specs.Causes.{ComesOf};
+ghost use Rattle.parquet_meta.specs.Indexes.{type_of};
+ghost use Rattle.flat_values.specs.Conversion.{Nulls};
 ghost use Rattle.column_ends.specs.Converted as spec;
-ghost use Rattle.column_ends.specs.Rules.{physical_of, value_conversion, fits_size};
+ghost use Rattle.column_ends.specs.Rules.{IsValueRuleOf, physical_of, value_conversion, fits_size};
 ghost use Rattle.column_ends.specs.Told.{stored_by, stored_ends};
 
 use crate::end::{StoredEnd, end_value};
@@ -23,23 +25,43 @@ pub fn statistics_ends(
 {
     match statistics_rule(&column.descriptor.primitive_type, data_type) {
         None => Err(Error::NotYetImplemented(Part::Statistics)),
-        Some(EndRule::Nulls) => {
-            let (null_count, distinct_count) = column.counts()?;
-            Ok(counts_alone(null_count, distinct_count))
-        }
-        Some(EndRule::Values(rule)) => match column.statistics(alloc)? {
-            None => Ok(counts_alone(None, None)),
-            Some(statistics) => statistics_values(alloc, rule, &statistics),
-        },
+        Some(EndRule::Nulls) => counts_of_column(column),
+        Some(EndRule::Values(rule)) => values_of_column(alloc, rule, column),
     }
 }
 
-fn counts_alone(null_count: Option<u64>, distinct_count: Option<u64>) -> Ends<Cell> {
-    Ends {
+fn counts_of_column(column: &ColumnChunkMetaData) -> Result<Ends<Cell>, Error>
+    ensures ends { IfOk result (λ ends. spec.told_cells Nulls column.now ≡ Some ends) }
+    ensures ok { OnOk result (spec.told_causes Nulls column.now ≡ []) }
+    ensures cause { ComesOf result (spec.told_causes Nulls column.now) }
+{
+    let (null_count, distinct_count) = column.counts()?;
+    Ok(Ends {
         null_count,
         distinct_count,
         min_value: None,
         max_value: None,
+    })
+}
+
+fn values_of_column(
+    alloc: Global,
+    rule: ValueRule,
+    column: &ColumnChunkMetaData,
+) -> Result<Ends<Cell>, Error>
+    requires { IsValueRuleOf (type_of column.now) rule }
+    ensures ends { IfOk result (λ ends. spec.told_cells (value_conversion rule) column.now ≡ Some ends) }
+    ensures ok { OnOk result (spec.told_causes (value_conversion rule) column.now ≡ []) }
+    ensures cause { ComesOf result (spec.told_causes (value_conversion rule) column.now) }
+{
+    match column.statistics(alloc)? {
+        None => Ok(Ends {
+            null_count: None,
+            distinct_count: None,
+            min_value: None,
+            max_value: None,
+        }),
+        Some(statistics) => statistics_values(alloc, rule, &statistics),
     }
 }
 

@@ -1,15 +1,13 @@
 //! How the ends of a column become values of the type that is asked for.
-ghost use Rattle.std.specs.Prelude.{◌≡◌, IfSome, true, option_copied, option_map};
+ghost use Rattle.std.specs.Prelude.{◌≡◌, IfSome, true, option_map};
 ghost use Rattle.columns_core.specs.declared.data_type.DataType.{out-DataType};
 ghost use Rattle.flat_values.specs.Pairs.{from_boolean, from_int32, from_int64, from_int96, from_fixed, from_byte_array};
-ghost use Rattle.flat_values.specs.Units.{unit_factor};
 ghost use Rattle.flat_values.specs.Pairs.{from_physical, page_from_physical, page_from_int96, page_from_fixed};
 ghost use Rattle.column_ends.specs.Converted as spec;
 ghost use Rattle.column_ends.specs.Rules.{conversion_of, value_conversion, int32_conversion, int64_conversion, int96_conversion};
 ghost use Rattle.column_ends.specs.Rules.{bytes_conversion, fixed_conversion, IsRuleOf, IsValueRuleOf, takes_size};
 
 use columns_core::{DataType, IntervalUnit, TimeUnit};
-use flat_values::{Scale, unifiy_timestmap_unit};
 use parquet_meta::{PhysicalType, PrimitiveLogicalType, PrimitiveType};
 
 /// The bytes of an interval.
@@ -36,7 +34,8 @@ pub enum Int64Rule {
     Keep,
     LowWord,
     Bits,
-    Scale(Scale),
+    /// From the unit of the column to that which is asked for.
+    Rescale(Option<PrimitiveLogicalType>, TimeUnit),
 }
 
 /// How the nanoseconds of a day and the day become a value.
@@ -82,6 +81,7 @@ pub enum EndRule {
 }
 
 /// How the ends that statistics tell of a column of this type become values of that type, whatever the column's repetition is.
+#[tactic(auto, using(flat_values::proofs::PairLemmas::leaf_out))]
 pub fn statistics_rule(stored: &PrimitiveType, data_type: &DataType) -> Option<EndRule>
     ensures rule { option_map conversion_of result ≡ spec.statistics_rule stored.now data_type.now }
     ensures stored { IfSome result (IsRuleOf stored.now.physical_type) }
@@ -101,6 +101,7 @@ pub fn index_rule(stored: &PrimitiveType, data_type: &DataType) -> Option<EndRul
 }
 
 /// The same, where a page index never tells of nulls.
+#[tactic(auto, using(flat_values::proofs::PairLemmas::page_out))]
 pub(crate) fn page_rule(stored: &PrimitiveType, data_type: &DataType) -> Option<ValueRule>
     ensures rule { option_map value_conversion result ≡ spec.index_rule stored.now data_type.now }
     ensures stored { IfSome result (IsValueRuleOf stored.now.physical_type) }
@@ -118,10 +119,9 @@ fn value_rule(stored: &PrimitiveType, data_type: &DataType) -> Option<ValueRule>
     match stored.physical_type {
         PhysicalType::Boolean => boolean_rule(data_type),
         PhysicalType::Int32 => Some(ValueRule::Int32(int32_rule(data_type)?)),
-        PhysicalType::Int64 => Some(ValueRule::Int64(int64_rule(
-            stored.logical_type.as_ref(),
-            data_type,
-        )?)),
+        PhysicalType::Int64 => {
+            Some(ValueRule::Int64(int64_rule(stored.logical_type, data_type)?))
+        }
         PhysicalType::Int96 => Some(ValueRule::Int96(int96_rule(data_type)?)),
         PhysicalType::Float | PhysicalType::Double => None,
         PhysicalType::ByteArray => Some(ValueRule::Bytes(bytes_rule(data_type)?)),
@@ -138,10 +138,9 @@ fn page_value_rule(stored: &PrimitiveType, data_type: &DataType) -> Option<Value
     match stored.physical_type {
         PhysicalType::Boolean => boolean_rule(data_type),
         PhysicalType::Int32 => Some(ValueRule::Int32(int32_rule(data_type)?)),
-        PhysicalType::Int64 => Some(ValueRule::Int64(int64_rule(
-            stored.logical_type.as_ref(),
-            data_type,
-        )?)),
+        PhysicalType::Int64 => {
+            Some(ValueRule::Int64(int64_rule(stored.logical_type, data_type)?))
+        }
         PhysicalType::Int96 => Some(ValueRule::Int96(page_int96_rule(data_type)?)),
         PhysicalType::Float | PhysicalType::Double => None,
         PhysicalType::ByteArray => Some(ValueRule::Bytes(bytes_rule(data_type)?)),
@@ -178,8 +177,8 @@ fn int32_rule(data_type: &DataType) -> Option<Int32Rule>
     }
 }
 
-fn int64_rule(logical: Option<&PrimitiveLogicalType>, data_type: &DataType) -> Option<Int64Rule>
-    ensures { option_map int64_conversion result ≡ from_int64 (option_copied logical.entry) (out-DataType data_type.now) }
+fn int64_rule(logical: Option<PrimitiveLogicalType>, data_type: &DataType) -> Option<Int64Rule>
+    ensures { option_map int64_conversion result ≡ from_int64 logical (out-DataType data_type.now) }
 {
     match data_type {
         DataType::UInt32 => Some(Int64Rule::LowWord),
@@ -189,17 +188,9 @@ fn int64_rule(logical: Option<&PrimitiveLogicalType>, data_type: &DataType) -> O
         | DataType::Time64(_)
         | DataType::Duration(_)
         | DataType::Decimal(_, _) => Some(Int64Rule::Keep),
-        DataType::Timestamp(unit, _) => Some(Int64Rule::Scale(scale_between(logical, *unit))),
+        DataType::Timestamp(unit, _) => Some(Int64Rule::Rescale(logical, *unit)),
         _ => None,
     }
-}
-
-/// From the unit of a column to that which is asked for.
-fn scale_between(logical: Option<&PrimitiveLogicalType>, unit: TimeUnit) -> Scale
-    ensures { result ≡ unit_factor (option_copied logical.entry) unit }
-{
-    let (factor, multiply) = unifiy_timestmap_unit(logical, unit);
-    Scale::new(factor, multiply)
 }
 
 fn int96_rule(data_type: &DataType) -> Option<Int96Rule>
@@ -243,15 +234,13 @@ fn fixed_rule(size: usize, data_type: &DataType) -> Option<FixedRule>
         DataType::Decimal(_, _) if 0 < size && size <= MOST_DECIMAL_BYTES => {
             Some(FixedRule::Decimal)
         }
-        DataType::Interval(unit) if size == INTERVAL_SIZE => Some(interval_rule(*unit)),
+        DataType::Interval(IntervalUnit::YearMonth) if size == INTERVAL_SIZE => {
+            Some(FixedRule::Months)
+        }
+        DataType::Interval(IntervalUnit::DayTime) if size == INTERVAL_SIZE => {
+            Some(FixedRule::DaysAndMillis)
+        }
         _ => None,
-    }
-}
-
-fn interval_rule(unit: IntervalUnit) -> FixedRule {
-    match unit {
-        IntervalUnit::YearMonth => FixedRule::Months,
-        IntervalUnit::DayTime => FixedRule::DaysAndMillis,
     }
 }
 

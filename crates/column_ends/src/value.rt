@@ -3,16 +3,18 @@ ghost use Rattle.std.specs.Prelude.{◌≡◌, length, true, IfOk, IfErr};
 ghost use Rattle.columns_core.specs.Causes.{ComesOf, IsWantOfMemory};
 ghost use Rattle.flat_values.specs.Conversion.{Value, convert, text};
 ghost use Rattle.flat_values.specs.Numbers.{words_of};
+ghost use Rattle.flat_values.specs.Units.{unit_factor};
 ghost use Rattle.parquet_page.specs.Stored.{Number, Octets};
 ghost use Rattle.column_ends.specs.Converted.{item_causes};
 ghost use Rattle.column_ends.specs.Rules.{int32_conversion, int64_conversion, int96_conversion, bytes_conversion, fixed_conversion, takes_size};
 
 use crate::{BytesRule, FixedRule, Int32Rule, Int64Rule, Int96Rule};
-use columns_core::{Cell, Error, Name, Part, Seq, days_ms};
+use columns_core::{Cell, Error, Name, Part, Seq, TimeUnit, days_ms};
 use flat_values::{
-    Convert, DaysToMillis, Int96Bits, Int96Time, Narrow, convert_days_ms, convert_i128,
-    convert_year_month,
+    Convert, DaysToMillis, Int96Bits, Int96Time, Narrow, Scale, convert_days_ms, convert_i128,
+    convert_year_month, unifiy_timestmap_unit,
 };
+use parquet_meta::PrimitiveLogicalType;
 use std::alloc::Global;
 
 pub(crate) fn int32_value(rule: Int32Rule, n: i32) -> Result<Cell, Error>
@@ -38,8 +40,18 @@ pub(crate) fn int64_value(rule: Int64Rule, n: i64) -> Result<Cell, Error>
         Int64Rule::Keep => n as i128,
         Int64Rule::LowWord => Convert::<i64, u32>::convert(&Narrow, n)? as i128,
         Int64Rule::Bits => Convert::<i64, u64>::convert(&Narrow, n)? as i128,
-        Int64Rule::Scale(scale) => Convert::<i64, i64>::convert(&scale, n)? as i128,
+        Int64Rule::Rescale(logical, unit) => {
+            Convert::<i64, i64>::convert(&scale_between(logical, unit), n)? as i128
+        }
     }))
+}
+
+/// From the unit of a column to that which is asked for.
+fn scale_between(logical: Option<PrimitiveLogicalType>, unit: TimeUnit) -> Scale
+    ensures { result ≡ unit_factor logical unit }
+{
+    let (factor, multiply) = unifiy_timestmap_unit(logical.as_ref(), unit);
+    Scale::new(factor, multiply)
 }
 
 pub(crate) fn int96_value(rule: Int96Rule, words: [u32; 3]) -> Result<Cell, Error>
@@ -76,6 +88,7 @@ fn copy_of_bytes(alloc: Global, bytes: &[u8]) -> Result<Cell, Error>
     Ok(Cell::Bytes(Seq::new(Vec::from_slice(alloc, bytes)?)))
 }
 
+#[tactic(auto, using(crate::proofs::TextLemmas::text_rules))]
 fn copy_of_text(alloc: Global, bytes: &[u8], part: Part) -> Result<Cell, Error>
     ensures value { IfOk result (λ cell. text bytes.now ≡ Value cell) }
     ensures cause { ComesOf result (item_causes (text bytes.now)) }
