@@ -1,3 +1,4 @@
 pub mod TextLemmas
 pub mod CauseLemmas
 pub mod GroupLemmas
+pub mod EndTypes

@@ -2,3 +2,4 @@ pub mod Told
 pub mod Converted
 pub mod Counted
 pub mod Rules
+pub mod Laws

@@ -4,6 +4,7 @@
 mod bytes;
 mod end;
 mod groups;
+pub mod laws;
 mod pages;
 mod rules;
 mod value;

@@ -1,0 +1,12 @@
+//! Laws of the definitions.
+ghost use Rattle.column_ends.specs.Laws.{GroupEndsHaveType, PageEndsHaveType};
+
+/// The ends of a group are values of the type that they are read as.
+pub fn group_ends_have_their_type()
+    ensures { GroupEndsHaveType }
+{}
+
+/// The ends of pages are values of the type that they are read as.
+pub fn page_ends_have_their_type()
+    ensures { PageEndsHaveType }
+{}
