@@ -12,7 +12,7 @@ abbrev pub TellsOf : List Cause → Error → Type 0
 TellsOf causes e = IsWantOfMemory e ⊎ IsOneOf causes (cause_of e)
 
 module _ (e : Error) where
-  tells-left : (first rest : List Cause) → TellsOf first e → TellsOf (first ++ rest) e
+  pub tells-left : (first rest : List Cause) → TellsOf first e → TellsOf (first ++ rest) e
   tells-left first rest (inl memory) = inl memory
   tells-left first rest (inr told) = inr (one_of-left first rest (cause_of e) told)
 

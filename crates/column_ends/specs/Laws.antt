@@ -1,5 +1,5 @@
--- Ends are values of the type that they are read as.
-use Rattle.std.specs.Prelude.{◌≡◌, ℕ, List, true, Option, Some, IfSome}
+-- Laws of ends: they are values of the type that they are read as, and their bytes are counted exactly.
+use Rattle.std.specs.Prelude.{◌≡◌, ◌↔◌, ℕ, List, [], ◌∷◌, ◌++◌, true, Option, Some, IfSome}
 use Rattle.std.specs.List.{AllByRecursion}
 use Rattle.columns_core.specs.declared.cell.Cell.{Cell}
 use Rattle.columns_core.specs.declared.data_type.DataType.{DataType}
@@ -10,7 +10,8 @@ use Rattle.parquet_meta.specs.declared.metadata.Ends.{Ends}
 use Rattle.parquet_meta.specs.declared.metadata.Index.{Index}
 use Rattle.parquet_meta.specs.declared.metadata.PageIndex.{PageIndex}
 use Rattle.flat_values.specs.CellTypes.{is_cell_of}
-use Rattle.column_ends.specs.Converted.{group_cells, index_cells}
+use Rattle.column_ends.specs.Converted.{array_causes, group_cells, index_cells}
+use Rattle.column_ends.specs.Counted.{count_of, counted, fit}
 
 -- an end that is told is a value of the type
 abbrev pub IsEndOf : DataType → Option Cell → Type 0
@@ -30,3 +31,14 @@ abbrev pub PageEndsHaveType : Type 0
 PageEndsHaveType =
     (data_type : DataType) (file : List ℕ) (column : ColumnChunkMetaData) (index : Index) (pages : List (PageIndex Cell)) → value_type data_type ≡ data_type →
     raw_index file column ≡ Some index → index_cells column.descriptor.primitive_type data_type index ≡ Some pages → AllByRecursion (AreEndsOf data_type) pages
+
+-- The bytes that were counted fit exactly where each side fits an array of its own.
+abbrev pub CountsAreExact : Type 0
+CountsAreExact =
+    (data_type : DataType) (lows highs : List (Option Cell)) →
+    fit data_type (count_of lows highs) ≡ true ↔ array_causes data_type lows ++ array_causes data_type highs ≡ []
+
+-- and one more end on each side is counted to those before it
+abbrev pub CountsAreJoined : Type 0
+CountsAreJoined =
+    (lows highs : List (Option Cell)) (low high : Option Cell) → counted (count_of lows highs) low high ≡ count_of (lows ++ low ∷ []) (highs ++ high ∷ [])

@@ -1,6 +1,7 @@
 -- The rules of the code as conversions.
-use Rattle.std.specs.Prelude.{◌≡◌, ℕ, ◌/◌, nat_lt, nat_le, ◌==◌, ◌&&◌, Bool, true, Option}
+use Rattle.std.specs.Prelude.{◌≡◌, ℕ, nat_lt, nat_le, ◌==◌, ◌&&◌, Bool, true, Option}
 use Rattle.std.specs.Int.{w8, w16}
+use Rattle.columns_core.specs.declared.data_type.DataType.{DataType, out-DataType}
 use Rattle.column_ends.specs.declared.rules.BytesRule.{BytesRule}
 use Rattle.column_ends.specs.declared.rules.BytesRule.TheVariants as bytes
 use Rattle.column_ends.specs.declared.rules.EndRule.{EndRule}
@@ -17,8 +18,9 @@ use Rattle.column_ends.specs.declared.rules.ValueRule.{ValueRule}
 use Rattle.column_ends.specs.declared.rules.ValueRule.TheVariants as values
 use Rattle.parquet_meta.specs.declared.metadata.PhysicalType.{PhysicalType}
 use Rattle.parquet_meta.specs.declared.metadata.PhysicalType.TheVariants.{Boolean, Int32, Int64, Int96, ByteArray, FixedLenByteArray}
+use Rattle.parquet_meta.specs.declared.metadata.PrimitiveType.{PrimitiveType}
 use Rattle.flat_values.specs.Conversion.{Conversion, Nulls, Keep, LowUnsigned, LowSigned, Scale, LowNanoseconds, BigEndian, Months, DaysAndMilliseconds, AsText}
-use Rattle.flat_values.specs.Pairs.{rescale, since_1970}
+use Rattle.flat_values.specs.Pairs.{from_physical, page_from_physical, rescale, since_1970}
 use Rattle.flat_values.specs.Units.{unit_factor}
 
 abbrev pub int32_conversion : Int32Rule → Conversion
@@ -62,6 +64,13 @@ value_conversion (values.Fixed size rule) = fixed_conversion rule
 abbrev pub conversion_of : EndRule → Conversion
 conversion_of ends.Nulls = Nulls
 conversion_of (ends.Values rule) = value_conversion rule
+
+-- by the outermost constructor of a type alone
+abbrev pub own_rule : PrimitiveType → DataType → Option Conversion
+own_rule stored data_type = from_physical stored.physical_type stored.logical_type (out-DataType data_type)
+
+abbrev pub own_page_rule : PrimitiveType → DataType → Option Conversion
+own_page_rule stored data_type = page_from_physical stored.physical_type stored.logical_type (out-DataType data_type)
 
 -- ---- what is stored, for each rule
 

@@ -1,11 +1,10 @@
 //! An end that a column stores, as a value.
 ghost use Rattle.std.specs.Prelude.{◌≡◌, [], true, option_map, IfOk, OnOk};
 ghost use Rattle.columns_core.specs.Causes.{ComesOf};
-ghost use Rattle.flat_values.specs.Conversion.{Value, convert};
+ghost use Rattle.flat_values.specs.Conversion.{Value};
 ghost use Rattle.parquet_page.specs.Stored.{Stored, Number};
-ghost use Rattle.column_ends.specs.Converted.{stored_causes};
-ghost use Rattle.column_ends.specs.Converted as spec;
-ghost use Rattle.column_ends.specs.Rules.{physical_of, value_conversion, fits_size};
+ghost use Rattle.column_ends.specs.ByRule.{item_by, item_causes_by, end_by, end_causes_by};
+ghost use Rattle.column_ends.specs.Rules.{fits_size};
 
 use crate::ValueRule;
 use crate::value::{bytes_value, fixed_value, int32_value, int64_value, int96_value};
@@ -20,9 +19,9 @@ pub(crate) trait StoredEnd: Drop {
     /// It as a value, where it is one that the rule is for.
     fn value(&self, alloc: Global, rule: ValueRule, part: Part) -> Result<Cell, Error>
         requires { fits_size rule ≡ true }
-        ensures value { IfOk result (λ cell. convert (value_conversion rule) (stored self.now) ≡ Value cell) }
-        ensures ok { OnOk result (stored_causes (physical_of rule) (value_conversion rule) (stored self.now) ≡ []) }
-        ensures cause { ComesOf result (stored_causes (physical_of rule) (value_conversion rule) (stored self.now)) };
+        ensures value { IfOk result (λ cell. item_by rule (stored self.now) ≡ Value cell) }
+        ensures ok { OnOk result (item_causes_by rule (stored self.now) ≡ []) }
+        ensures cause { ComesOf result (item_causes_by rule (stored self.now)) };
 }
 
 impl StoredEnd for bool {
@@ -100,9 +99,9 @@ impl StoredEnd for Seq<u8> {
 
 /// A number of 32 or 64 bits as a value. Of a rule for 32 bits it has to be one of these.
 fn number_value(n: i64, rule: ValueRule, part: Part) -> Result<Cell, Error>
-    ensures value { IfOk result (λ cell. convert (value_conversion rule) (Number n) ≡ Value cell) }
-    ensures ok { OnOk result (stored_causes (physical_of rule) (value_conversion rule) (Number n) ≡ []) }
-    ensures cause { ComesOf result (stored_causes (physical_of rule) (value_conversion rule) (Number n)) }
+    ensures value { IfOk result (λ cell. item_by rule (Number n) ≡ Value cell) }
+    ensures ok { OnOk result (item_causes_by rule (Number n) ≡ []) }
+    ensures cause { ComesOf result (item_causes_by rule (Number n)) }
 {
     match rule {
         ValueRule::Int32(rule) => match i32::try_from(n) {
@@ -123,9 +122,9 @@ pub(crate) fn end_value<T: StoredEnd>(
     part: Part,
 ) -> Result<Option<Cell>, Error>
     requires { fits_size rule ≡ true }
-    ensures value { IfOk result (λ cell. spec.end_cell (value_conversion rule) (option_map T.stored end.now) ≡ cell) }
-    ensures ok { OnOk result (spec.end_causes (physical_of rule) (value_conversion rule) (option_map T.stored end.now) ≡ []) }
-    ensures cause { ComesOf result (spec.end_causes (physical_of rule) (value_conversion rule) (option_map T.stored end.now)) }
+    ensures value { IfOk result (λ cell. end_by rule (option_map T.stored end.now) ≡ cell) }
+    ensures ok { OnOk result (end_causes_by rule (option_map T.stored end.now) ≡ []) }
+    ensures cause { ComesOf result (end_causes_by rule (option_map T.stored end.now)) }
 {
     match end {
         None => Ok(None),

@@ -4,7 +4,8 @@ ghost use Rattle.columns_core.specs.Causes.{ComesOf};
 ghost use Rattle.parquet_meta.specs.Indexes.{type_of};
 ghost use Rattle.flat_values.specs.Conversion.{Nulls};
 ghost use Rattle.column_ends.specs.Converted as spec;
-ghost use Rattle.column_ends.specs.Rules.{IsValueRuleOf, physical_of, value_conversion, fits_size};
+ghost use Rattle.column_ends.specs.ByRule.{group_by, group_causes_by};
+ghost use Rattle.column_ends.specs.Rules.{IsValueRuleOf, value_conversion, fits_size};
 ghost use Rattle.column_ends.specs.Told.{stored_by, stored_ends};
 
 use crate::end::{StoredEnd, end_value};
@@ -71,9 +72,9 @@ fn statistics_values(
     statistics: &RawStatistics,
 ) -> Result<Ends<Cell>, Error>
     requires { fits_size rule ≡ true }
-    ensures ends { IfOk result (λ ends. spec.cell_ends (value_conversion rule) (stored_ends statistics.now) ≡ ends) }
-    ensures ok { OnOk result (spec.causes_of_ends (physical_of rule) (value_conversion rule) (stored_ends statistics.now) ≡ []) }
-    ensures cause { ComesOf result (spec.causes_of_ends (physical_of rule) (value_conversion rule) (stored_ends statistics.now)) }
+    ensures ends { IfOk result (λ ends. group_by rule (stored_ends statistics.now) ≡ ends) }
+    ensures ok { OnOk result (group_causes_by rule (stored_ends statistics.now) ≡ []) }
+    ensures cause { ComesOf result (group_causes_by rule (stored_ends statistics.now)) }
 {
     match statistics {
         RawStatistics::Boolean(ends) => values_of_ends(alloc, rule, ends),
@@ -91,9 +92,9 @@ fn values_of_ends<T: StoredEnd>(
     ends: &Ends<T>,
 ) -> Result<Ends<Cell>, Error>
     requires { fits_size rule ≡ true }
-    ensures ends { IfOk result (λ values. spec.cell_ends (value_conversion rule) (stored_by T.stored ends.now) ≡ values) }
-    ensures ok { OnOk result (spec.causes_of_ends (physical_of rule) (value_conversion rule) (stored_by T.stored ends.now) ≡ []) }
-    ensures cause { ComesOf result (spec.causes_of_ends (physical_of rule) (value_conversion rule) (stored_by T.stored ends.now)) }
+    ensures ends { IfOk result (λ cells. group_by rule (stored_by T.stored ends.now) ≡ cells) }
+    ensures ok { OnOk result (group_causes_by rule (stored_by T.stored ends.now) ≡ []) }
+    ensures cause { ComesOf result (group_causes_by rule (stored_by T.stored ends.now)) }
 {
     let min_value = end_value(alloc, rule, &ends.min_value, Part::Statistics)?;
     let max_value = end_value(alloc, rule, &ends.max_value, Part::Statistics)?;

@@ -1,9 +1,10 @@
 //! What a column index tells of each page, as values of a type.
-ghost use Rattle.std.specs.Prelude.{◌≡◌, ◌↔◌, [], Some, IsTrue, true, is_some, map, flat_map, IfOk, OnOk};
-ghost use Rattle.columns_core.specs.Causes.{ComesOf, Overflow, unless};
+ghost use Rattle.std.specs.Prelude.{◌≡◌, [], Some, true, is_some, map, IfOk, OnOk};
+ghost use Rattle.columns_core.specs.Causes.{ComesOf};
 ghost use Rattle.parquet_meta.specs.TypedStatistics.{known_count};
-ghost use Rattle.column_ends.specs.Converted as spec;
-ghost use Rattle.column_ends.specs.Rules.{physical_of, value_conversion, fits_size};
+ghost use Rattle.column_ends.specs.Converted.{causes_of_index, index_cells, page_array_causes};
+ghost use Rattle.column_ends.specs.ByRule.{page_by, page_causes_by, each_by, each_causes_by};
+ghost use Rattle.column_ends.specs.Rules.{fits_size};
 ghost use Rattle.column_ends.specs.Told.{stored_page, stored_pages};
 
 use crate::end::{StoredEnd, end_value};
@@ -14,23 +15,22 @@ use parquet_meta::{Index, PageIndex, PrimitiveType};
 use std::alloc::Global;
 
 /// What a column index tells of each page, as values of a type. The ends of all pages fit arrays of their own.
+#[tactic(auto, using(crate::proofs::IndexLemmas::index_causes))]
 pub fn index_ends(
     alloc: Global,
     stored: &PrimitiveType,
     index: &Index,
     data_type: &DataType,
 ) -> Result<Vec<PageIndex<Cell>>, Error>
-    ensures ends { IfOk result (λ ends. spec.index_cells stored.now data_type.now index.now ≡ Some ends.items) }
-    ensures ok { OnOk result (spec.causes_of_index stored.now data_type.now index.now ≡ []) }
-    ensures cause { ComesOf result (spec.causes_of_index stored.now data_type.now index.now) }
+    ensures ends { IfOk result (λ ends. index_cells stored.now data_type.now index.now ≡ Some ends.items) }
+    ensures ok { OnOk result (causes_of_index stored.now data_type.now index.now ≡ []) }
+    ensures cause { ComesOf result (causes_of_index stored.now data_type.now index.now) }
 {
     let Some(rule) = page_rule(stored, data_type) else {
         return Err(Error::NotYetImplemented(Part::Index));
     };
     let pages = index_values(alloc, rule, index)?;
-    if !fit_arrays(&pages, data_type) {
-        return Err(Error::Overflow);
-    }
+    check_arrays(&pages, data_type)?;
     Ok(pages)
 }
 
@@ -40,9 +40,9 @@ fn index_values(
     index: &Index,
 ) -> Result<Vec<PageIndex<Cell>>, Error>
     requires { fits_size rule ≡ true }
-    ensures pages { IfOk result (λ values. map (spec.cell_page (value_conversion rule)) (stored_pages index.now) ≡ values.items) }
-    ensures ok { OnOk result (flat_map (spec.causes_of_page (physical_of rule) (value_conversion rule)) (stored_pages index.now) ≡ []) }
-    ensures cause { ComesOf result (flat_map (spec.causes_of_page (physical_of rule) (value_conversion rule)) (stored_pages index.now)) }
+    ensures pages { IfOk result (λ cells. each_by rule (stored_pages index.now) ≡ cells.items) }
+    ensures ok { OnOk result (each_causes_by rule (stored_pages index.now) ≡ []) }
+    ensures cause { ComesOf result (each_causes_by rule (stored_pages index.now)) }
 {
     match index {
         Index::Boolean(pages) => values_of_pages(alloc, rule, pages.as_slice()),
@@ -60,9 +60,9 @@ fn values_of_pages<T: StoredEnd>(
     pages: &[PageIndex<T>],
 ) -> Result<Vec<PageIndex<Cell>>, Error>
     requires { fits_size rule ≡ true }
-    ensures pages { IfOk result (λ values. map (spec.cell_page (value_conversion rule)) (map (stored_page T.stored) pages.now) ≡ values.items) }
-    ensures ok { OnOk result (flat_map (spec.causes_of_page (physical_of rule) (value_conversion rule)) (map (stored_page T.stored) pages.now) ≡ []) }
-    ensures cause { ComesOf result (flat_map (spec.causes_of_page (physical_of rule) (value_conversion rule)) (map (stored_page T.stored) pages.now)) }
+    ensures pages { IfOk result (λ cells. each_by rule (map (stored_page T.stored) pages.now) ≡ cells.items) }
+    ensures ok { OnOk result (each_causes_by rule (map (stored_page T.stored) pages.now) ≡ []) }
+    ensures cause { ComesOf result (each_causes_by rule (map (stored_page T.stored) pages.now)) }
 {
     let mut values = Vec::with_capacity(alloc, pages.len())?;
     for page in pages {
@@ -77,9 +77,9 @@ fn values_of_page<T: StoredEnd>(
     page: &PageIndex<T>,
 ) -> Result<PageIndex<Cell>, Error>
     requires { fits_size rule ≡ true }
-    ensures page { IfOk result (λ values. spec.cell_page (value_conversion rule) (stored_page T.stored page.now) ≡ values) }
-    ensures ok { OnOk result (spec.causes_of_page (physical_of rule) (value_conversion rule) (stored_page T.stored page.now) ≡ []) }
-    ensures cause { ComesOf result (spec.causes_of_page (physical_of rule) (value_conversion rule) (stored_page T.stored page.now)) }
+    ensures page { IfOk result (λ cells. page_by rule (stored_page T.stored page.now) ≡ cells) }
+    ensures ok { OnOk result (page_causes_by rule (stored_page T.stored page.now) ≡ []) }
+    ensures cause { ComesOf result (page_causes_by rule (stored_page T.stored page.now)) }
 {
     if !is_count(page.null_count) {
         return Err(Error::ExternalFormat(Part::Index));
@@ -103,13 +103,18 @@ fn is_count(count: Option<i64>) -> bool
     }
 }
 
-/// Whether the low ends of all pages fit one array of a type, and the high ones another.
-fn fit_arrays(pages: &[PageIndex<Cell>], data_type: &DataType) -> bool
-    ensures { IsTrue result ↔ (spec.page_array_causes data_type.now pages.now ≡ []) }
+/// The low ends of all pages have to fit one array of a type, and the high ones another.
+fn check_arrays(pages: &[PageIndex<Cell>], data_type: &DataType) -> Result<(), Error>
+    ensures ok { OnOk result (page_array_causes data_type.now pages.now ≡ []) }
+    ensures cause { ComesOf result (page_array_causes data_type.now pages.now) }
 {
     let mut bytes = EndBytes::new();
     for page in pages {
         bytes.add(page.min.as_ref(), page.max.as_ref());
     }
-    bytes.fit(data_type)
+    if bytes.fit(data_type) {
+        Ok(())
+    } else {
+        Err(Error::Overflow)
+    }
 }

@@ -2,10 +2,10 @@
 ghost use Rattle.std.specs.Prelude.{◌≡◌, IfSome, true, option_map};
 ghost use Rattle.columns_core.specs.declared.data_type.DataType.{out-DataType};
 ghost use Rattle.flat_values.specs.Pairs.{from_boolean, from_int32, from_int64, from_int96, from_fixed, from_byte_array};
-ghost use Rattle.flat_values.specs.Pairs.{from_physical, page_from_physical, page_from_int96, page_from_fixed};
+ghost use Rattle.flat_values.specs.Pairs.{page_from_int96, page_from_fixed};
 ghost use Rattle.column_ends.specs.Converted as spec;
 ghost use Rattle.column_ends.specs.Rules.{conversion_of, value_conversion, int32_conversion, int64_conversion, int96_conversion};
-ghost use Rattle.column_ends.specs.Rules.{bytes_conversion, fixed_conversion, IsRuleOf, IsValueRuleOf, takes_size};
+ghost use Rattle.column_ends.specs.Rules.{bytes_conversion, fixed_conversion, own_rule, own_page_rule, IsRuleOf, IsValueRuleOf, takes_size};
 
 use columns_core::{DataType, IntervalUnit, TimeUnit};
 use parquet_meta::{PhysicalType, PrimitiveLogicalType, PrimitiveType};
@@ -113,7 +113,7 @@ pub(crate) fn page_rule(stored: &PrimitiveType, data_type: &DataType) -> Option<
 }
 
 fn value_rule(stored: &PrimitiveType, data_type: &DataType) -> Option<ValueRule>
-    ensures rule { option_map value_conversion result ≡ from_physical stored.now.physical_type stored.now.logical_type (out-DataType data_type.now) }
+    ensures rule { option_map value_conversion result ≡ own_rule stored.now data_type.now }
     ensures stored { IfSome result (IsValueRuleOf stored.now.physical_type) }
 {
     match stored.physical_type {
@@ -132,7 +132,7 @@ fn value_rule(stored: &PrimitiveType, data_type: &DataType) -> Option<ValueRule>
 }
 
 fn page_value_rule(stored: &PrimitiveType, data_type: &DataType) -> Option<ValueRule>
-    ensures rule { option_map value_conversion result ≡ page_from_physical stored.now.physical_type stored.now.logical_type (out-DataType data_type.now) }
+    ensures rule { option_map value_conversion result ≡ own_page_rule stored.now data_type.now }
     ensures stored { IfSome result (IsValueRuleOf stored.now.physical_type) }
 {
     match stored.physical_type {
