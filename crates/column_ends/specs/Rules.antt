@@ -23,6 +23,17 @@ use Rattle.flat_values.specs.Conversion.{Conversion, Nulls, Keep, LowUnsigned, L
 use Rattle.flat_values.specs.Pairs.{from_physical, page_from_physical, rescale, since_1970}
 use Rattle.flat_values.specs.Units.{unit_factor}
 
+-- a day in milliseconds
+abbrev pub day : ℕ
+day = 86400000
+
+-- an interval and the longest decimal in bytes
+abbrev pub interval_size : ℕ
+interval_size = 12
+
+abbrev pub most_decimal_size : ℕ
+most_decimal_size = 16
+
 abbrev pub int32_conversion : Int32Rule → Conversion
 int32_conversion int32.Keep = Keep
 int32_conversion int32.LowByte = LowUnsigned 8
@@ -30,7 +41,7 @@ int32_conversion int32.LowHalf = LowUnsigned 16
 int32_conversion int32.LowWord = LowUnsigned 32
 int32_conversion int32.LowByteSigned = LowSigned w8
 int32_conversion int32.LowHalfSigned = LowSigned w16
-int32_conversion int32.DaysToMillis = Scale 86400000 true
+int32_conversion int32.DaysToMillis = Scale day true
 
 abbrev pub int64_conversion : Int64Rule → Conversion
 int64_conversion int64.Keep = Keep
@@ -83,12 +94,12 @@ physical_of (values.Int96 rule) = Int96
 physical_of (values.Bytes rule) = ByteArray
 physical_of (values.Fixed size rule) = FixedLenByteArray size
 
--- An interval is stored in 12 bytes, and a decimal in at most 16.
+-- which numbers of bytes a rule is for
 abbrev pub takes_size : FixedRule → ℕ → Bool
 takes_size fixed.Keep size = true
-takes_size fixed.Decimal size = nat_lt 0 size && nat_le size 16
-takes_size fixed.Months size = size == 12
-takes_size fixed.DaysAndMillis size = size == 12
+takes_size fixed.Decimal size = nat_lt 0 size && nat_le size most_decimal_size
+takes_size fixed.Months size = size == interval_size
+takes_size fixed.DaysAndMillis size = size == interval_size
 
 abbrev pub fits_size : ValueRule → Bool
 fits_size (values.Fixed size rule) = takes_size rule size
