@@ -1,9 +1,9 @@
 -- What is wrong with a file for a request: the causes that the parts have which a scan has to look at. Each
 -- error comes only where its cause is among them, and a file without a cause is valid.
-use Rattle.std.specs.Prelude.{◌≡◌, ℕ, zero, suc, ◌&&◌, nat_le, nat_lt, Bool, true, false, is_some, Option, None, option_and_then, option_map, if◌then◌else◌, List, [], ◌∷◌, ◌++◌, filter, flat_map, length, map, sum_by, Result, Ok, Err}
+use Rattle.std.specs.Prelude.{◌≡◌, ℕ, zero, suc, ◌&&◌, nat_le, nat_lt, Bool, true, false, is_some, Option, None, option_and_then, option_map, if◌then◌else◌, List, [], ◌∷◌, ◌++◌, filter, filter_map, flat_map, length, map, sum_by, Result, Ok, Err}
 use Rattle.std.specs.List.{list_any}
 use Rattle.std.specs.Option.{option_map_or}
-use Rattle.columns_core.specs.Causes.{Cause, NotYetImplemented, ExternalFormat, OutOfSpec, Overflow, unless, and_then}
+use Rattle.columns_core.specs.Causes.{Cause, NotYetImplemented, ExternalFormat, Overflow, unless, and_then}
 use Rattle.columns_core.specs.declared.cell.Cell.{Cell}
 use Rattle.columns_core.specs.declared.data_type.DataType.{DataType}
 use Rattle.columns_core.specs.declared.data_type.Field.{Field}
@@ -12,6 +12,7 @@ use Rattle.parquet_base.specs.Intervals.{holds}
 use Rattle.parquet_base.specs.Pieces.{cut}
 use Rattle.parquet_meta.specs.declared.metadata.ColumnChunkMetaData.{ColumnChunkMetaData}
 use Rattle.parquet_meta.specs.declared.metadata.ColumnDescriptor.{ColumnDescriptor}
+use Rattle.parquet_meta.specs.declared.metadata.Ends.{Ends}
 use Rattle.parquet_meta.specs.declared.metadata.FileMetaData.{FileMetaData}
 use Rattle.parquet_meta.specs.declared.metadata.PhysicalType.{PhysicalType}
 use Rattle.parquet_meta.specs.declared.metadata.Place.{Place}
@@ -27,15 +28,14 @@ use Rattle.parquet_page.specs.Spelling.{dictionary_entries, has_plain_entries}
 use Rattle.flat_values.specs.Conversion.{Conversion, Item, Value, NotInRange, NotText}
 use Rattle.flat_values.specs.MostBytes.{most_bytes}
 use Rattle.flat_values.specs.Pairs.{conversion}
+use Rattle.column_ends.specs.Converted.{group_array_causes, group_causes, group_cells, item_causes}
 use Rattle.parquet_scan.specs.declared.bound.Bound.{Bound}
 use Rattle.parquet_scan.specs.Cells.{Reading, chunk_of, content_of, dictionary_content, is_null_type, located_item, located_pages, located_reading, walked_item, walked_reading}
 use Rattle.flat_binary.specs.Decoding.{key_limit_of}
 use Rattle.parquet_scan.specs.Decoded.{column_entries}
-use Rattle.parquet_scan.specs.NotBuilt.{not_built}
-use Rattle.parquet_scan.specs.Request.{Request, begins}
+use Rattle.parquet_scan.specs.Request.{Request, begins, bound_type, field_of}
 use Rattle.parquet_scan.specs.Pages.{column_index_causes, locations, locations_causes}
-use Rattle.parquet_scan.specs.Rows.{File, file_of, groups_of, column_named, group_counts, prunes_pages, groups_read}
-use Rattle.parquet_scan.specs.Statistics.{statistics_causes}
+use Rattle.parquet_scan.specs.Rows.{File, bounded_column, file_of, groups_of, column_named, group_counts, prunes_pages, groups_read}
 
 -- ---- the requested fields, in the schema
 
@@ -54,25 +54,40 @@ field_causes columns field = descriptor_causes field.data_type (filter (begins f
 
 -- ---- the statistics of bounded fields, in every group
 
-abbrev pub bounded_causes_of_group : RowGroupMetaData → Bound → List Cause
-bounded_causes_of_group group bound = option_map_or statistics_causes (column_named group bound.field) []
+abbrev pub bounded_causes_of_group : List Field → Bound → RowGroupMetaData → List Cause
+bounded_causes_of_group fields bound group =
+    option_map_or (λ (typed : DataType × ColumnChunkMetaData). group_causes typed.0 typed.1) (bounded_column fields group bound) []
 
-abbrev pub bounded_causes : List Bound → List RowGroupMetaData → List Cause
-bounded_causes bounds groups = flat_map (λ (group : RowGroupMetaData). flat_map (bounded_causes_of_group group) bounds) groups
+-- the ends of a bound's field in each group
+abbrev pub bounded_cells : List Field → Bound → RowGroupMetaData → Option (Ends Cell)
+bounded_cells fields bound group =
+    option_and_then (λ (typed : DataType × ColumnChunkMetaData). group_cells typed.0 typed.1) (bounded_column fields group bound)
+
+-- The ends of all groups are one array for the low ones and one for the high ones.
+abbrev pub array_causes_of_bound : List Field → List RowGroupMetaData → Bound → List Cause
+array_causes_of_bound fields groups bound =
+    option_map_or (λ (field : Field). group_array_causes (bound_type field) (filter_map (bounded_cells fields bound) groups)) (field_of fields bound) []
+
+abbrev pub causes_of_bound : List Field → List RowGroupMetaData → Bound → List Cause
+causes_of_bound fields groups bound = flat_map (bounded_causes_of_group fields bound) groups ++ array_causes_of_bound fields groups bound
+
+abbrev pub bounded_causes : List Field → List Bound → List RowGroupMetaData → List Cause
+bounded_causes fields bounds groups = flat_map (causes_of_bound fields groups) bounds
 
 -- ---- page indexes, where rows are pruned by pages
 
 abbrev pub offset_causes_of_field : List ℕ → RowGroupMetaData → Field → List Cause
 offset_causes_of_field bytes group field = option_map_or (locations_causes bytes group) (column_named group field.name) (ExternalFormat ∷ [])
 
-abbrev pub index_causes_of_bound : List ℕ → RowGroupMetaData → Bound → List Cause
-index_causes_of_bound bytes group bound =
-    option_map_or (λ column. column_index_causes (length (locations bytes column)) bytes column) (column_named group bound.field) (ExternalFormat ∷ [])
+abbrev pub index_causes_of_bound : List Field → List ℕ → RowGroupMetaData → Bound → List Cause
+index_causes_of_bound fields bytes group bound =
+    option_map_or (λ (typed : DataType × ColumnChunkMetaData). column_index_causes typed.0 (length (locations bytes typed.1)) bytes typed.1)
+    (bounded_column fields group bound) (ExternalFormat ∷ [])
 
 -- the offset index of each requested column, and the column index of each bounded one
 abbrev pub index_causes_of_group : List Field → List Bound → List ℕ → RowGroupMetaData → List Cause
 index_causes_of_group fields bounds bytes group =
-    flat_map (offset_causes_of_field bytes group) fields ++ flat_map (index_causes_of_bound bytes group) bounds
+    flat_map (offset_causes_of_field bytes group) fields ++ flat_map (index_causes_of_bound fields bytes group) bounds
 
 -- of each group that counts
 abbrev pub index_causes : Request → File → List Cause
@@ -111,13 +126,7 @@ abbrev pub causes_of_data : Reading → ChunkPage → List Cause
 causes_of_data reading page =
     page_causes (key_limit_of reading.data_type) (has_dictionary reading.dictionary) (entry_count reading.stored.physical_type reading.dictionary) (content_of reading.stored page)
 
--- what is wrong with an item
-abbrev pub item_causes : Item → List Cause
-item_causes (Value cell) = []
-item_causes NotInRange = Overflow ∷ []
-item_causes NotText = OutOfSpec ∷ []
-
--- with the items of rows, as far as pages stand for them
+-- what is wrong with the items of rows, as far as pages stand for them
 abbrev pub row_causes : (ℕ → Option Item) → List ℕ → List Cause
 row_causes item rows = flat_map (λ row. option_map_or item_causes (item row) []) rows
 
@@ -222,8 +231,7 @@ read_causes request file =
 -- What is wrong with the metadata. Statistics are asked only where the fields have no cause.
 abbrev pub metadata_causes : Request → FileMetaData → List Cause
 metadata_causes request metadata =
-    and_then (not_built request)
-    (and_then (flat_map (field_causes metadata.columns) request.fields) (bounded_causes request.bounds metadata.row_groups))
+    and_then (flat_map (field_causes metadata.columns) request.fields) (bounded_causes request.fields request.bounds metadata.row_groups)
 
 -- Which groups count is known only where the fields and the statistics have no cause, and which are read only where the indexes have none.
 abbrev pub file_causes : Request → File → List Cause

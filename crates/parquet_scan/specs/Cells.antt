@@ -24,7 +24,8 @@ use Rattle.parquet_page.specs.Locations.{located, part_of}
 use Rattle.parquet_page.specs.Spelling.{has_plain_entries}
 use Rattle.parquet_page.specs.Values.{all_some}
 pub use Rattle.flat_binary.specs.Paged.{is_null_type}
-use Rattle.flat_values.specs.Conversion.{Item, Value, NotInRange, NotText}
+use Rattle.column_ends.specs.Converted.{as_cell}
+use Rattle.flat_values.specs.Conversion.{Item, Value}
 use Rattle.flat_values.specs.Items.{page_items}
 use Rattle.parquet_scan.specs.Request.{Request}
 use Rattle.parquet_scan.specs.Pages.{location_rows, locations}
@@ -130,12 +131,6 @@ column_item by_pages bytes group data_type column row =
     if is_null_type data_type then given (nat_lt row group.num_rows) (Value Null)
     else if by_pages then located_item bytes group data_type column row
     else walked_item bytes group data_type column row
-
--- an item that is a cell
-abbrev pub as_cell : Item → Option Cell
-as_cell (Value cell) = Some cell
-as_cell NotInRange = None
-as_cell NotText = None
 
 abbrev pub column_cell : Bool → List ℕ → RowGroupMetaData → DataType → ColumnChunkMetaData → ℕ → Option Cell
 column_cell by_pages bytes group data_type column row = option_and_then as_cell (column_item by_pages bytes group data_type column row)

@@ -36,12 +36,14 @@ abbrev pub index_causes_of_groups : Bool → List Field → List Bound → List 
 index_causes_of_groups by_pages fields bounds bytes groups counts = flat_map (index_causes_if by_pages fields bounds bytes) (zip groups counts)
 
 -- the rows of a group, and the runs of those that are kept
-abbrev pub kept_if : Bool → List Bound → List ℕ → RowGroupMetaData × Bool → GroupKept
-kept_if by_pages bounds bytes group =
-    record { rows = (group.0).num_rows; intervals = maximal_runs (λ row. group.1 && pages_keep by_pages bounds bytes group.0 row) (group.0).num_rows }
+abbrev pub kept_if : Bool → List Field → List Bound → List ℕ → RowGroupMetaData × Bool → GroupKept
+kept_if by_pages fields bounds bytes group = record {
+  rows = (group.0).num_rows;
+  intervals = maximal_runs (λ row. group.1 && pages_keep by_pages fields bounds bytes group.0 row) (group.0).num_rows;
+}
 
-abbrev pub kept_of_groups : Bool → List Bound → List ℕ → List RowGroupMetaData → List Bool → List GroupKept
-kept_of_groups by_pages bounds bytes groups counts = map (kept_if by_pages bounds bytes) (zip groups counts)
+abbrev pub kept_of_groups : Bool → List Field → List Bound → List ℕ → List RowGroupMetaData → List Bool → List GroupKept
+kept_of_groups by_pages fields bounds bytes groups counts = map (kept_if by_pages fields bounds bytes) (zip groups counts)
 
 -- ---- groups beside the runs of the rows that they give
 

@@ -10,7 +10,6 @@ pub mod Exact
 pub mod Laws
 pub mod Located
 pub mod LookedAt
-pub mod NotBuilt
 pub mod Pages
 pub mod Request
 pub mod Rows

@@ -1,24 +1,25 @@
 -- The pages of a column as its indexes tell of them.
-use Rattle.std.specs.Prelude.{ℕ, ℤ, Bool, true, false, ◌==◌, List, [], length, map, zip, unwrap_or, Option, None, is_some, option_map}
+use Rattle.std.specs.Prelude.{ℕ, Bool, ◌==◌, List, [], ◌∷◌, ◌++◌, length, map, zip, unwrap_or, Option, is_some, option_and_then}
 use Rattle.std.specs.Option.{option_map_or}
 use Rattle.columns_core.specs.Causes.{Cause, ExternalFormat, NotYetImplemented, and_then, unless}
+use Rattle.columns_core.specs.declared.cell.Cell.{Cell}
+use Rattle.columns_core.specs.declared.data_type.DataType.{DataType}
 use Rattle.parquet_base.specs.Intervals.{is_kept_page}
 use Rattle.parquet_base.specs.Reading.{◌>>=◌}
 use Rattle.parquet_base.specs.declared.interval.Interval.{Interval}
 use Rattle.parquet_meta.specs.Indexes.{locations_of, raw_index}
-use Rattle.parquet_meta.specs.Lists.{all_of}
-use Rattle.parquet_meta.specs.TypedStatistics.{is_carried, known_count}
+use Rattle.parquet_meta.specs.Code.{not_negative}
 use Rattle.parquet_meta.specs.declared.metadata.ColumnChunkMetaData.{ColumnChunkMetaData}
 use Rattle.parquet_meta.specs.declared.metadata.Index.{Index}
-use Rattle.parquet_meta.specs.declared.metadata.Index.TheVariants as indexes
 use Rattle.parquet_meta.specs.declared.metadata.PageIndex.{PageIndex}
 use Rattle.parquet_meta.specs.declared.metadata.PageLocation.{PageLocation}
 use Rattle.parquet_meta.specs.declared.metadata.RowGroupMetaData.{RowGroupMetaData}
 use Rattle.parquet_page.specs.Locations.{has_shape, page_intervals}
+use Rattle.column_ends.specs.Converted.{causes_of_index, index_cells, index_rule}
+use Rattle.column_ends.specs.Told.{stored_pages}
 use Rattle.parquet_scan.specs.declared.bound.Bound.{Bound}
-use Rattle.parquet_scan.specs.declared.groups.KnownEnds.{KnownEnds}
-use Rattle.parquet_scan.specs.Bound.{ends_keep}
-use Rattle.parquet_scan.specs.Statistics.{physical_type, scalar_of}
+use Rattle.parquet_scan.specs.Bound.{KnownEnds, ends_keep}
+use Rattle.parquet_scan.specs.Statistics.{known_value}
 
 -- ---- the offset index: where pages stand, and which rows they hold
 
@@ -40,50 +41,27 @@ locations_causes bytes group column = unless (has_shape (locations bytes column)
 
 -- ---- the column index: the ends of each page
 
--- no count is negative
-abbrev pub ends_with : PageIndex ℤ → Option ℕ → KnownEnds
-ends_with page nulls = record { low = scalar_of page.min; high = scalar_of page.max; nulls = nulls }
+-- of a page without a cause
+abbrev pub ends_of_page : PageIndex Cell → KnownEnds
+ends_of_page page = record { low = known_value page.min; high = known_value page.max; nulls = option_and_then not_negative page.null_count }
 
-abbrev pub ends_of_page : PageIndex ℤ → Option KnownEnds
-ends_of_page page = option_map (ends_with page) (known_count page.null_count)
+-- what the column index tells of each page, as values of a type
+abbrev pub column_cells : DataType → List ℕ → ColumnChunkMetaData → Option (List (PageIndex Cell))
+column_cells data_type bytes column = raw_index bytes column >>= index_cells column.descriptor.primitive_type data_type
 
--- Numbers of 32 bits are read as they are. (Not yet: the ends of other types, which are refused.)
-abbrev pub is_read_index : Index → Bool
-is_read_index (indexes.Boolean pages) = false
-is_read_index (indexes.Int32 pages) = true
-is_read_index (indexes.Int64 pages) = false
-is_read_index (indexes.Int96 pages) = false
-is_read_index (indexes.ByteArray pages) = false
-is_read_index (indexes.FixedLenByteArray width pages) = false
+abbrev pub page_ends : DataType → List ℕ → ColumnChunkMetaData → List KnownEnds
+page_ends data_type bytes column = map ends_of_page (unwrap_or (column_cells data_type bytes column) [])
 
-abbrev pub ends_of_pages : Index → Option (List KnownEnds)
-ends_of_pages (indexes.Boolean pages) = None
-ends_of_pages (indexes.Int32 pages) = all_of ends_of_page pages
-ends_of_pages (indexes.Int64 pages) = None
-ends_of_pages (indexes.Int96 pages) = None
-ends_of_pages (indexes.ByteArray pages) = None
-ends_of_pages (indexes.FixedLenByteArray width pages) = None
+-- An index tells of as many pages as there are locations.
+abbrev pub count_causes : ℕ → Index → List Cause
+count_causes count index = unless (length (stored_pages index) == count) ExternalFormat
 
--- what is wrong with an index: its type is not read, or a count is negative
-abbrev pub ends_causes : Index → List Cause
-ends_causes index = and_then (unless (is_read_index index) NotYetImplemented) (unless (is_some (ends_of_pages index)) ExternalFormat)
-
--- what the column index tells of each page, where it is defined
-abbrev pub column_ends : List ℕ → ColumnChunkMetaData → Option (List KnownEnds)
-column_ends bytes column = raw_index bytes column >>= ends_of_pages
-
-abbrev pub page_ends : List ℕ → ColumnChunkMetaData → List KnownEnds
-page_ends bytes column = unwrap_or (column_ends bytes column) []
-
-abbrev pub has_count : ℕ → List KnownEnds → Bool
-has_count count ends = length ends == count
-
--- what is wrong with it: it has to be there, and to tell of as many pages as there are locations
-abbrev pub column_index_causes : ℕ → List ℕ → ColumnChunkMetaData → List Cause
-column_index_causes count bytes column =
-    and_then (unless (is_carried (physical_type column)) NotYetImplemented)
-    (and_then (unless (option_map_or is_read_index (raw_index bytes column) true) NotYetImplemented)
-    (unless (option_map_or (has_count count) (column_ends bytes column) false) ExternalFormat))
+-- what is wrong with it: the column has to be of a type whose pages are read as this one, and the index has to be there
+abbrev pub column_index_causes : DataType → ℕ → List ℕ → ColumnChunkMetaData → List Cause
+column_index_causes data_type count bytes column =
+    and_then (unless (is_some (index_rule column.descriptor.primitive_type data_type)) NotYetImplemented)
+    (option_map_or (λ index. causes_of_index column.descriptor.primitive_type data_type index ++ count_causes count index)
+    (raw_index bytes column) (ExternalFormat ∷ []))
 
 -- ---- pages that may hold a row which meets a bound
 
@@ -94,5 +72,5 @@ page_keeps bound page = ends_keep page.1 (page.0).length bound
 abbrev pub keeps_row : List Interval → List KnownEnds → Bound → ℕ → Bool
 keeps_row pages ends bound row = is_kept_page pages (map (page_keeps bound) (zip pages ends)) row
 
-abbrev pub row_keeps : List ℕ → RowGroupMetaData → Bound → ColumnChunkMetaData → ℕ → Bool
-row_keeps bytes group bound column row = keeps_row (location_rows bytes group column) (page_ends bytes column) bound row
+abbrev pub row_keeps : DataType → List ℕ → RowGroupMetaData → Bound → ColumnChunkMetaData → ℕ → Bool
+row_keeps data_type bytes group bound column row = keeps_row (location_rows bytes group column) (page_ends data_type bytes column) bound row

@@ -4,6 +4,8 @@ use Rattle.std.specs.List.{list_all, range_with_len}
 use Rattle.std.specs.Option.{option_map_or}
 use Rattle.parquet_base.specs.declared.interval.Interval.{Interval}
 use Rattle.parquet_base.specs.Intervals.{maximal_runs}
+use Rattle.parquet_base.specs.Reading.{◌>>=◌}
+use Rattle.columns_core.specs.declared.data_type.DataType.{DataType}
 use Rattle.columns_core.specs.declared.data_type.Field.{Field}
 use Rattle.parquet_meta.specs.File.{footer}
 use Rattle.parquet_meta.specs.declared.metadata.ColumnChunkMetaData.{ColumnChunkMetaData}
@@ -12,7 +14,7 @@ use Rattle.parquet_meta.specs.declared.metadata.PageLocation.{PageLocation}
 use Rattle.parquet_meta.specs.declared.metadata.RowGroupMetaData.{RowGroupMetaData}
 use Rattle.parquet_scan.specs.declared.bound.Bound.{Bound}
 use Rattle.parquet_scan.specs.Bound.{ends_keep}
-use Rattle.parquet_scan.specs.Request.{Request, begins}
+use Rattle.parquet_scan.specs.Request.{Request, begins, bound_type, field_of}
 use Rattle.parquet_scan.specs.Pages.{locations, row_keeps}
 use Rattle.parquet_scan.specs.Statistics.{group_ends}
 
@@ -54,15 +56,24 @@ has_offset_index group name = option_map_or (λ (column : ColumnChunkMetaData). 
 abbrev pub field_locations : List ℕ → RowGroupMetaData → List ℕ → List PageLocation
 field_locations bytes group name = option_map_or (locations bytes) (column_named group name) []
 
+-- the type of a bound's values, which is that of its field, and the field's column in a group
+abbrev pub bounded_column : List Field → RowGroupMetaData → Bound → Option (DataType × ColumnChunkMetaData)
+bounded_column fields group bound = do
+  field ← field_of fields bound
+  column ← column_named group bound.field
+  Some (bound_type field, column)
+
 -- ---- rows that are kept
 
 -- a group may hold a row that meets the bound
-abbrev pub group_keeps : RowGroupMetaData → Bound → Bool
-group_keeps group bound = option_map_or (λ column. ends_keep (group_ends column) group.num_rows bound) (column_named group bound.field) false
+abbrev pub group_keeps : List Field → RowGroupMetaData → Bound → Bool
+group_keeps fields group bound =
+    option_map_or (λ (typed : DataType × ColumnChunkMetaData). ends_keep (group_ends typed.0 typed.1) group.num_rows bound)
+    (bounded_column fields group bound) false
 
 -- A group counts where its statistics rule out no bound.
 abbrev pub group_counts : Request → RowGroupMetaData → Bool
-group_counts request group = list_all (group_keeps group) request.bounds
+group_counts request group = list_all (group_keeps request.fields group) request.bounds
 
 -- each bounded column has a column index and each requested column an offset index
 abbrev pub has_needed_indexes : Request → RowGroupMetaData → Bool
@@ -75,16 +86,18 @@ abbrev pub prunes_pages : Request → List RowGroupMetaData → Bool
 prunes_pages request groups = nat_lt 0 (length request.bounds) && list_all (has_needed_indexes request) (filter (group_counts request) groups)
 
 -- the page of the bounded column that holds the row may hold one that meets the bound
-abbrev pub bound_keeps : List ℕ → RowGroupMetaData → ℕ → Bound → Bool
-bound_keeps bytes group row bound = option_map_or (λ column. row_keeps bytes group bound column row) (column_named group bound.field) false
+abbrev pub bound_keeps : List Field → List ℕ → RowGroupMetaData → ℕ → Bound → Bool
+bound_keeps fields bytes group row bound =
+    option_map_or (λ (typed : DataType × ColumnChunkMetaData). row_keeps typed.0 bytes group bound typed.1 row) (bounded_column fields group bound) false
 
 -- Where rows are pruned by pages, each bound keeps the page that holds the row.
-abbrev pub pages_keep : Bool → List Bound → List ℕ → RowGroupMetaData → ℕ → Bool
-pages_keep by_pages bounds bytes group row = not by_pages || list_all (bound_keeps bytes group row) bounds
+abbrev pub pages_keep : Bool → List Field → List Bound → List ℕ → RowGroupMetaData → ℕ → Bool
+pages_keep by_pages fields bounds bytes group row = not by_pages || list_all (bound_keeps fields bytes group row) bounds
 
 -- A row of a group is kept where the group counts and its pages keep it.
 abbrev pub kept : Request → File → RowGroupMetaData → ℕ → Bool
-kept request file group row = group_counts request group && pages_keep (prunes_pages request (groups_of file)) request.bounds file.bytes group row
+kept request file group row =
+    group_counts request group && pages_keep (prunes_pages request (groups_of file)) request.fields request.bounds file.bytes group row
 
 -- the runs of kept rows of a group
 abbrev pub intervals : Request → File → RowGroupMetaData → List Interval

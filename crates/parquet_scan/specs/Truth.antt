@@ -13,11 +13,10 @@ use Rattle.parquet_page.specs.Chunk.{PlacedPage}
 use Rattle.parquet_page.specs.Content.{header_values}
 use Rattle.parquet_scan.specs.declared.bound.Bound.{Bound}
 use Rattle.parquet_scan.specs.declared.bound.Scalar.{Scalar}
-use Rattle.parquet_scan.specs.declared.groups.KnownEnds.{KnownEnds}
-use Rattle.parquet_scan.specs.Bound.{value_of, is_within, meets}
+use Rattle.parquet_scan.specs.Bound.{KnownEnds, value_of, is_within, meets}
 use Rattle.parquet_scan.specs.Cells.{cell, chunk_of, walked_pages}
 use Rattle.parquet_scan.specs.Pages.{location_rows, locations, page_ends}
-use Rattle.parquet_scan.specs.Request.{Request, field_of}
+use Rattle.parquet_scan.specs.Request.{Request, bound_type, field_of}
 use Rattle.parquet_scan.specs.Rows.{File, column_named, group_counts, groups_of, groups_read, kept, prunes_pages}
 use Rattle.parquet_scan.specs.Statistics.{group_ends}
 
@@ -46,7 +45,7 @@ items_of bytes group field rows = filter_map (cell bytes group field) rows
 
 -- the statistics of a column are true of its group
 abbrev pub has_true_statistics : List ℕ → RowGroupMetaData → Field → ColumnChunkMetaData → Bool
-has_true_statistics bytes group field column = are_true (group_ends column) (items_of bytes group field (range_with_len 0 group.num_rows))
+has_true_statistics bytes group field column = are_true (group_ends (bound_type field) column) (items_of bytes group field (range_with_len 0 group.num_rows))
 
 -- what a column index tells of a page is true of the page's rows
 abbrev pub is_true_of_page : List ℕ → RowGroupMetaData → Field → Interval × KnownEnds → Bool
@@ -54,7 +53,7 @@ is_true_of_page bytes group field page = are_true page.1 (items_of bytes group f
 
 -- the column index is true of each page
 abbrev pub has_true_index : List ℕ → RowGroupMetaData → Field → ColumnChunkMetaData → Bool
-has_true_index bytes group field column = list_all (is_true_of_page bytes group field) (zip (location_rows bytes group column) (page_ends bytes column))
+has_true_index bytes group field column = list_all (is_true_of_page bytes group field) (zip (location_rows bytes group column) (page_ends (bound_type field) bytes column))
 
 -- ---- counts and locations
 

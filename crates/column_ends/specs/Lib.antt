@@ -1,0 +1,6 @@
+pub mod Told
+pub mod Converted
+pub mod Counted
+pub mod Rules
+pub mod ByRule
+pub mod Laws
