@@ -36,7 +36,8 @@ use Rattle.flat_values.specs.MostBytes.{most_bytes}
 use Rattle.flat_values.specs.Outcomes.{dictionary_cells, fitted, outcome_of, place_outcomes, selected_outcomes, stored_outcome}
 use Rattle.flat_values.specs.Pairs.{conversion}
 use Rattle.flat_values.proofs.AgreementLemmas.{places_give_items, as_many, entries_converted}
-use Rattle.parquet_scan.specs.Causes.{causes_of_data, causes_of_defined, causes_of_dictionary, causes_of_entries, entry_count, has_dictionary, item_causes, pair_causes}
+use Rattle.column_ends.specs.Converted.{item_causes}
+use Rattle.parquet_scan.specs.Causes.{causes_of_data, causes_of_defined, causes_of_dictionary, causes_of_entries, entry_count, has_dictionary, pair_causes}
 use Rattle.parquet_scan.specs.Cells.{Reading, content_of, dictionary_content, items_in}
 use Rattle.parquet_scan.specs.Costs.{with_dictionary_page}
 use Rattle.flat_binary.specs.PagesWanted.{pages_wanted}
