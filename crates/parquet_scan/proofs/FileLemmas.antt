@@ -136,14 +136,15 @@ module _ (request : Request) (metadata : FileMetaData) where
     pub rows : map rows_of given ≡ given_of_groups request.limit kept
     pub shaped : are_shaped metadata.row_groups given ≡ true
 
-  pub given_of : (told : Option (List ℕ)) (b : Bool) (groups : List RowGroupMetaData) (counts : List Bool) (kept again : List GroupKept) (given : List (List Interval))
-      → b ≡ pruned → groups ≡ metadata.row_groups → counts ≡ counting → again ≡ kept
-      → IfSome told (λ bytes. kept ≡ kept_of_groups b request.fields request.bounds bytes groups counts) → map (λ (group : GroupKept). group.rows) kept ≡ map (λ (group : RowGroupMetaData). group.num_rows) groups
+  pub given_of : (told : Option (List ℕ)) (b : Bool) (fields : List Field) (groups : List RowGroupMetaData) (counts : List Bool) (kept again : List GroupKept) (given : List (List Interval))
+      → b ≡ pruned → fields ≡ request.fields → groups ≡ metadata.row_groups → counts ≡ counting → again ≡ kept
+      → IfSome told (λ bytes. kept ≡ kept_of_groups b fields request.bounds bytes groups counts) → map (λ (group : GroupKept). group.rows) kept ≡ map (λ (group : RowGroupMetaData). group.num_rows) groups
       → map rows_of given ≡ given_of_groups request.limit again → list_all (λ (group : GroupKept × List Interval). is_well_shaped group.1 (group.0).rows) (zip again given) ≡ true → AreGiven told kept given
-  given_of told b groups counts kept again given p g n k are rows first shaped = record {
+  given_of told b fields groups counts kept again given p f g n k are rows first shaped = record {
     runs = subst (λ (counts : List Bool). IfSome told (λ bytes. kept ≡ kept_of_groups pruned request.fields request.bounds bytes metadata.row_groups counts)) n
         (subst (λ (groups : List RowGroupMetaData). IfSome told (λ bytes. kept ≡ kept_of_groups pruned request.fields request.bounds bytes groups counts)) g
-        (subst (λ (b : Bool). IfSome told (λ bytes. kept ≡ kept_of_groups b request.fields request.bounds bytes groups counts)) p are));
+        (subst (λ (fields : List Field). IfSome told (λ bytes. kept ≡ kept_of_groups pruned fields request.bounds bytes groups counts)) f
+        (subst (λ (b : Bool). IfSome told (λ bytes. kept ≡ kept_of_groups b fields request.bounds bytes groups counts)) p are)));
     rows = first ∙ ap (given_of_groups request.limit) k;
     shaped = ap (λ groups. are_shaped groups given) (sym g)
         ∙ groups_shaped groups kept given rows (ap (λ kept. list_all (λ (group : GroupKept × List Interval). is_well_shaped group.1 (group.0).rows) (zip kept given)) (sym k) ∙ shaped);
