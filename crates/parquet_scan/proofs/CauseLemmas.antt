@@ -1,6 +1,6 @@
 -- How the causes of a part are among those of the whole.
 use Rattle.std.proofs.Common.{◌≡◌, ℕ, zero, suc, ◌<◌, List, [], ◌∷◌, ◌++◌, length, get_or, ap, arith, inl, inr}
-use Rattle.std.specs.Prelude.{Option, Some, None, ◌⊎◌}
+use Rattle.std.specs.Prelude.{Option, Some, None, ◌⊎◌, OnOk, Result, Ok, Err}
 use Rattle.std.specs.List.{flat_map}
 use Rattle.std.proofs.lemmas.List.Elements.{Contains-append_cases}
 use Rattle.columns_core.specs.declared.error.Error.{Error}
@@ -40,3 +40,8 @@ among_first (cause ∷ causes) next o k = k
 
 pub then_next : (first next : List Cause) → first ≡ [] → and_then first next ≡ next
 then_next first next none = ap (λ causes. and_then causes next) none
+
+-- what follows on an answer from what holds there
+pub ok_so : {T E P Q : Type 0} (r : Result T E) → (P → Q) → OnOk r P → OnOk r Q
+ok_so (Ok x) f p = f p
+ok_so (Err e) f p = tt

@@ -42,7 +42,8 @@ use Rattle.flat_values.specs.MostBytes.{most_bytes}
 use Rattle.flat_values.specs.Outcomes.{outcome_of}
 use Rattle.flat_values.specs.Pairs.{conversion}
 use Rattle.flat_values.proofs.OutcomeLemmas.{cells_in-given}
-use Rattle.parquet_scan.specs.Causes.{begins_below, causes_of_chunk, causes_of_data, causes_of_dictionary, causes_of_walk, given_causes, has_dictionary, item_causes, pair_causes, piece_causes, row_causes, rows_held, walked_causes}
+use Rattle.column_ends.specs.Converted.{item_causes}
+use Rattle.parquet_scan.specs.Causes.{begins_below, causes_of_chunk, causes_of_data, causes_of_dictionary, causes_of_walk, given_causes, has_dictionary, pair_causes, piece_causes, row_causes, rows_held, walked_causes}
 use Rattle.parquet_scan.specs.Cells.{Reading, chunk_of, dictionary_content, item_among, item_in, items_in, rows_of, walked_item, walked_reading}
 use Rattle.parquet_scan.specs.Costs.{lent_of_chunk, with_dictionary_page}
 use Rattle.flat_binary.specs.PagesWanted.{pages_wanted}

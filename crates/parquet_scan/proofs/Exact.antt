@@ -202,7 +202,7 @@ count-copies_no p (suc n) item rest here =
 abbrev pub kind_at : Layer → ℕ
 kind_at layer = cond (is_text_at layer) 1 (cond (is_some (number_range_at layer)) 0 2)
 
-kind-int : (layer : Layer) (n : ℤ) → option_map_or (λ range. int_le range.0 n && int_le n range.1) (number_range_at layer) false ≡ true → 0 ≡ kind_at layer
+pub kind-int : (layer : Layer) (n : ℤ) → option_map_or (λ range. int_le range.0 n && int_le n range.1) (number_range_at layer) false ≡ true → 0 ≡ kind_at layer
 kind-int DataType-F.Int8 n p = refl
 kind-int DataType-F.Int16 n p = refl
 kind-int DataType-F.Int32 n p = refl
@@ -220,7 +220,7 @@ kind-int (DataType-F.Timestamp unit time_zone) n p = refl
 kind-int (DataType-F.Decimal precision scale) n p = refl
 kind-int _ n p = absurd (false≢true p)
 
-kind-bytes : (layer : Layer) (n : ℕ) → takes_bytes_at layer n ≡ true → 2 ≡ kind_at layer
+pub kind-bytes : (layer : Layer) (n : ℕ) → takes_bytes_at layer n ≡ true → 2 ≡ kind_at layer
 kind-bytes DataType-F.Binary n p = refl
 kind-bytes DataType-F.LargeBinary n p = refl
 kind-bytes (DataType-F.FixedSizeBinary size) n p = refl

@@ -235,7 +235,7 @@ first_taken left n rows are =
 -- the rows of a group that counts are all of it where rows are not pruned by pages, and those of others none
 kept_first : (request : Request) (file : File) (group : RowGroupMetaData) → prunes_pages request (groups_of file) ≡ false → (n : ℕ) × (kept_rows request file group ≡ range_with_len 0 n)
 kept_first request file group whole =
-    by (group_counts request group) (λ i. filter (λ row. group_counts request group && pages_keep (whole i) request.bounds file.bytes group row) (range_with_len 0 group.num_rows)) where
+    by (group_counts request group) (λ i. filter (λ row. group_counts request group && pages_keep (whole i) request.fields request.bounds file.bytes group row) (range_with_len 0 group.num_rows)) where
       by : (counts : Bool) → kept_rows request file group ≡ filter (λ row. counts && true) (range_with_len 0 group.num_rows) → (n : ℕ) × (kept_rows request file group ≡ range_with_len 0 n)
       by true e = (group.num_rows, e ∙ all_or_none true (range_with_len 0 group.num_rows))
       by false e = (0, e ∙ all_or_none false (range_with_len 0 group.num_rows))

@@ -25,7 +25,6 @@ use Rattle.parquet_page.proofs.SpelledLemmas.{none_of}
 use Rattle.parquet_scan.specs.Causes.{causes, causes_of_group, file_causes, index_causes, index_causes_of_group, metadata_causes, read_causes, IsValid}
 use Rattle.parquet_scan.specs.Cells.{columns_of, given_chunks, group_chunks}
 use Rattle.parquet_scan.specs.Counting.{are_pruned, are_shaped, causes_of_groups, chunks_of_groups, given_of_groups, index_causes_of_groups, is_read, is_shaped, kept_of_groups, rows_of_groups, shown}
-use Rattle.parquet_scan.specs.NotBuilt.{is_built_bound, not_built}
 use Rattle.parquet_scan.specs.Request.{Request, is_legal}
 use Rattle.parquet_scan.specs.Rows.{File, file_with, first_rows, given_count, given_rows, gives_rows, group_counts, intervals, kept, kept_rows, prunes_pages}
 use Rattle.parquet_scan.specs.Scan.{FailsBy, OnFile, kept_of, kept_groups}
@@ -106,12 +105,12 @@ module _ (request : Request) (metadata : FileMetaData) where
   counting = map (group_counts request) metadata.row_groups
 
   rows_kept : (bytes : List ℕ) (groups : List RowGroupMetaData)
-      → map (kept_rows request (file_with bytes metadata)) groups ≡ map (λ (group : GroupKept). rows_of group.intervals) (kept_of_groups pruned request.bounds bytes groups (map (group_counts request) groups))
+      → map (kept_rows request (file_with bytes metadata)) groups ≡ map (λ (group : GroupKept). rows_of group.intervals) (kept_of_groups pruned request.fields request.bounds bytes groups (map (group_counts request) groups))
   rows_kept bytes [] = refl
   rows_kept bytes (group ∷ groups) = λ i. sym (rows_are (kept request (file_with bytes metadata) group) group.num_rows) i ∷ rows_kept bytes groups i
 
   runs_kept : (bytes : List ℕ) (groups : List RowGroupMetaData)
-      → map kept_of (kept_of_groups pruned request.bounds bytes groups (map (group_counts request) groups)) ≡ map (λ (group : RowGroupMetaData). (group.num_rows, intervals request (file_with bytes metadata) group)) groups
+      → map kept_of (kept_of_groups pruned request.fields request.bounds bytes groups (map (group_counts request) groups)) ≡ map (λ (group : RowGroupMetaData). (group.num_rows, intervals request (file_with bytes metadata) group)) groups
   runs_kept bytes [] = refl
   runs_kept bytes (group ∷ groups) = ap (λ rest. (group.num_rows, intervals request (file_with bytes metadata) group) ∷ rest) (runs_kept bytes groups)
 
@@ -133,18 +132,19 @@ module _ (request : Request) (metadata : FileMetaData) where
 
   -- the runs that are kept and those that are given, where the source tells its bytes
   pub record AreGiven (told : Option (List ℕ)) (kept : List GroupKept) (given : List (List Interval)) : Type 0 where
-    pub runs : IfSome told (λ bytes. kept ≡ kept_of_groups pruned request.bounds bytes metadata.row_groups counting)
+    pub runs : IfSome told (λ bytes. kept ≡ kept_of_groups pruned request.fields request.bounds bytes metadata.row_groups counting)
     pub rows : map rows_of given ≡ given_of_groups request.limit kept
     pub shaped : are_shaped metadata.row_groups given ≡ true
 
-  pub given_of : (told : Option (List ℕ)) (b : Bool) (groups : List RowGroupMetaData) (counts : List Bool) (kept again : List GroupKept) (given : List (List Interval))
-      → b ≡ pruned → groups ≡ metadata.row_groups → counts ≡ counting → again ≡ kept
-      → IfSome told (λ bytes. kept ≡ kept_of_groups b request.bounds bytes groups counts) → map (λ (group : GroupKept). group.rows) kept ≡ map (λ (group : RowGroupMetaData). group.num_rows) groups
+  pub given_of : (told : Option (List ℕ)) (b : Bool) (fields : List Field) (groups : List RowGroupMetaData) (counts : List Bool) (kept again : List GroupKept) (given : List (List Interval))
+      → b ≡ pruned → fields ≡ request.fields → groups ≡ metadata.row_groups → counts ≡ counting → again ≡ kept
+      → IfSome told (λ bytes. kept ≡ kept_of_groups b fields request.bounds bytes groups counts) → map (λ (group : GroupKept). group.rows) kept ≡ map (λ (group : RowGroupMetaData). group.num_rows) groups
       → map rows_of given ≡ given_of_groups request.limit again → list_all (λ (group : GroupKept × List Interval). is_well_shaped group.1 (group.0).rows) (zip again given) ≡ true → AreGiven told kept given
-  given_of told b groups counts kept again given p g n k are rows first shaped = record {
-    runs = subst (λ (counts : List Bool). IfSome told (λ bytes. kept ≡ kept_of_groups pruned request.bounds bytes metadata.row_groups counts)) n
-        (subst (λ (groups : List RowGroupMetaData). IfSome told (λ bytes. kept ≡ kept_of_groups pruned request.bounds bytes groups counts)) g
-        (subst (λ (b : Bool). IfSome told (λ bytes. kept ≡ kept_of_groups b request.bounds bytes groups counts)) p are));
+  given_of told b fields groups counts kept again given p f g n k are rows first shaped = record {
+    runs = subst (λ (counts : List Bool). IfSome told (λ bytes. kept ≡ kept_of_groups pruned request.fields request.bounds bytes metadata.row_groups counts)) n
+        (subst (λ (groups : List RowGroupMetaData). IfSome told (λ bytes. kept ≡ kept_of_groups pruned request.fields request.bounds bytes groups counts)) g
+        (subst (λ (fields : List Field). IfSome told (λ bytes. kept ≡ kept_of_groups pruned fields request.bounds bytes groups counts)) f
+        (subst (λ (b : Bool). IfSome told (λ bytes. kept ≡ kept_of_groups b fields request.bounds bytes groups counts)) p are)));
     rows = first ∙ ap (given_of_groups request.limit) k;
     shaped = ap (λ groups. are_shaped groups given) (sym g)
         ∙ groups_shaped groups kept given rows (ap (λ kept. list_all (λ (group : GroupKept × List Interval). is_well_shaped group.1 (group.0).rows) (zip kept given)) (sym k) ∙ shaped);
@@ -232,9 +232,6 @@ legal_size request metadata legal = size request.chunk_size (and_parts _ _ (and_
   size : (o : Option ℕ) → option_map_or (nat_lt 0) o true ≡ true → IsChunkSize o
   size None e = tt
   size (Some n) e = ltb-true 0 n e
-
-pub built_request : (request : Request) (metadata : FileMetaData) → metadata_causes request metadata ≡ [] → list_all (is_built_bound request.fields) request.bounds ≡ true
-built_request request metadata none = none_of (list_all (is_built_bound request.fields) request.bounds) NotYetImplemented (nothing_first (not_built request) _ none)
 
 pub some_field : (request : Request) (metadata : FileMetaData) → is_legal request (Some metadata) ≡ true → 0 < length request.fields
 some_field request metadata legal = ltb-true 0 (length request.fields) (and_parts _ _ (and_parts _ _ (and_parts _ _ (and_parts _ _ (and_parts _ _ legal).0).0).0).0).0

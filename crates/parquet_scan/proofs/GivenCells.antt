@@ -34,7 +34,7 @@ module _ (request : Request) (file : File) where
   counts_by group true e some = refl
   counts_by group false e some =
       let rows = range_with_len 0 group.num_rows in
-      let none = ap (λ b. filter (λ row. b && pages_keep (prunes_pages request (groups_of file)) request.bounds file.bytes group row) rows) e ∙ all_or_none false rows in
+      let none = ap (λ b. filter (λ row. b && pages_keep (prunes_pages request (groups_of file)) request.fields request.bounds file.bytes group row) rows) e ∙ all_or_none false rows in
       absurd (false≢true (sym (ap (λ kept. nat_lt 0 (length kept)) none) ∙ some))
 
   in_front : (P : RowGroupMetaData → Type 0) (group : RowGroupMetaData) (rows : List ℕ) (counts gives : Bool) → (gives ≡ true → counts ≡ true) → (others : List RowGroupMetaData) (read : List (RowGroupMetaData × List ℕ))

@@ -1,38 +1,40 @@
 -- The column index of one column, and the ends that it tells.
-use Rattle.std.proofs.Common.{◌≡◌, ℕ, ◌+◌, ◌<◌, ◌≤◌, Bool, true, false, cond, List, [], ◌∷◌, ◌++◌, length, drop, get_or, Option, Some, None, refl, sym, subst, ◌∙◌, ap, inl, inr}
-use Rattle.std.specs.Prelude.{◌&&◌, ◌||◌, IfSome, Result, Err, is_some, nat_eq}
+use Rattle.std.proofs.Common.{◌≡◌, ℕ, Bool, true, false, cond, List, [], ◌∷◌, ◌++◌, length, map, Option, Some, None, refl, sym, subst, ◌∙◌, ap, arith, eq-eqb, inr}
+use Rattle.std.specs.Prelude.{◌&&◌, ◌||◌, ◌==◌, IfSome, Result, Err, is_none, is_some, nat_eq, option_map, unwrap_or}
 use Rattle.std.specs.Cmp.Lexicographic.{pointwise, same_text}
 use Rattle.std.specs.List.{list_all}
 use Rattle.std.specs.Option.{option_map_or}
-use Rattle.std.proofs.lemmas.Bool.{and_parts, true≢false}
-use Rattle.std.proofs.lemmas.List.{drop_all, drop_more}
-use Rattle.columns_core.specs.Causes.{Cause, ExternalFormat, IsOneOf, NotYetImplemented, OutOfSpec, Overflow, and_then, unless}
+use Rattle.std.proofs.lemmas.Bool.{and_parts, eqb-true, true≢false}
+use Rattle.std.proofs.lemmas.List.{length-map}
+use Rattle.columns_core.specs.Causes.{Cause, ExternalFormat, IsOneOf, NotYetImplemented, and_then, unless}
+use Rattle.columns_core.specs.declared.cell.Cell.{Cell}
+use Rattle.columns_core.specs.declared.data_type.DataType.{DataType, fold-roll-DataType, ind-DataType, map-DataType, roll-DataType}
+use Rattle.columns_core.specs.declared.data_type.Field.{Field, fold-Field}
+use Rattle.columns_core.specs.declared.data_type.DataType.TheOpen.{DataType-F, Field-F}
+use Rattle.columns_core.specs.declared.error.Part.{Part}
 use Rattle.columns_core.specs.declared.error.Error.{Error}
 use Rattle.columns_core.specs.declared.error.Error.TheVariants as error
 use Rattle.parquet_base.specs.Reading.{◌>>=◌}
 use Rattle.parquet_meta.specs.Indexes.{FindsIndex, FindsIndexes, field_columns, has_index, is_broken, is_read, raw_index}
 use Rattle.parquet_meta.specs.Lists.{all_of}
 use Rattle.parquet_meta.specs.Indexes.{is_first as is_first_of}
+use Rattle.parquet_meta.specs.TypedStatistics.{is_carried}
 use Rattle.parquet_meta.specs.declared.metadata.ColumnChunkMetaData.{ColumnChunkMetaData}
 use Rattle.parquet_meta.specs.declared.metadata.Index.{Index}
-use Rattle.page_decoding.proofs.NextLemmas.{nothing_wrong}
-use Rattle.parquet_page.proofs.ListLemmas.{one_and}
-use Rattle.parquet_scan.specs.Pages.{column_index_causes, ends_causes, ends_of_pages, has_count, is_read_index}
+use Rattle.parquet_meta.specs.declared.metadata.PageIndex.{PageIndex}
+use Rattle.parquet_meta.specs.declared.metadata.PhysicalType.{PhysicalType}
+use Rattle.parquet_meta.specs.declared.metadata.PhysicalType.TheVariants as types
+use Rattle.parquet_meta.specs.declared.metadata.PrimitiveLogicalType.{PrimitiveLogicalType}
+use Rattle.flat_values.specs.Conversion.{Conversion}
+use Rattle.flat_values.specs.Pairs.{page_conversion, page_end_at, page_from_physical}
+use Rattle.column_ends.specs.Converted.{causes_of_index, cell_page, index_cells, index_rule}
+use Rattle.column_ends.specs.Told.{stored_pages}
+use Rattle.parquet_scan.specs.Pages.{column_index_causes, count_causes, ends_of_page, page_ends}
 use Rattle.parquet_scan.specs.Request.{begins, is_first}
 use Rattle.parquet_scan.specs.Scan.{FailsBy}
-use Rattle.parquet_scan.specs.declared.groups.KnownEnds.{KnownEnds}
-use Rattle.parquet_scan.proofs.CauseLemmas.{TellsOf}
+use Rattle.parquet_scan.proofs.CauseLemmas.{TellsOf, tells_left, tells_right}
 use Rattle.parquet_scan.proofs.LocationLemmas.{one_of}
-
--- ---- values of a list in turn
-
-pub all_next : {A B : Type 0} (value : A → Option B) (xs : List A) (i : ℕ) (d : A) → i < length xs → all_of value (drop i xs) ≡ one_and (value (get_or xs i d)) (all_of value (drop (i + 1) xs))
-unfolding all_of
-all_next value xs i d h = ap (all_of value) (drop_more xs i d h)
-
-pub all_behind : {A B : Type 0} (value : A → Option B) (xs : List A) (i : ℕ) → length xs ≤ i → all_of value (drop i xs) ≡ Some []
-unfolding all_of
-all_behind value xs i h = ap (all_of value) (drop_all i xs h)
+use Rattle.parquet_scan.proofs.ScanLemmas.{fails_telling, none_as}
 
 -- ---- the one column of a name
 
@@ -93,29 +95,108 @@ gives_some column (Some bytes) items none e = absurd (by (raw_index bytes column
   by None e = cc
   by (Some found) e = cc
 
--- what is wrong with the ends of an index is wrong with the index
-refuses_at : (column : ColumnChunkMetaData) (index : Index) (told : Option (List ℕ)) (count : ℕ) (cause : Cause) → IsOneOf (ends_causes index) (Some cause) → is_read column ≡ true
-    → IfSome told (λ bytes. raw_index bytes column ≡ Some index) → IfSome told (λ bytes. IsOneOf (column_index_causes count bytes column) (Some cause))
-refuses_at column index None count cause k carried is = tt
-refuses_at column index (Some bytes) count cause k carried is =
-    subst (λ (found : List Cause). IsOneOf found (Some cause))
-    (λ i. and_then (unless (sym carried i) NotYetImplemented)
-    (and_then (unless (option_map_or is_read_index (sym is i) true) NotYetImplemented) (unless (option_map_or (has_count count) (sym is i >>= ends_of_pages) false) ExternalFormat)))
-    (by (is_read_index index) (ends_of_pages index) k)
-  where
-    by : (b : Bool) (o : Option (List KnownEnds)) → IsOneOf (and_then (unless b NotYetImplemented) (unless (is_some o) ExternalFormat)) (Some cause)
-        → IsOneOf (and_then (unless b NotYetImplemented) (unless (option_map_or (has_count count) o false) ExternalFormat)) (Some cause)
-    by false o k = k
-    by true None k = k
-    by true (Some ends) k = absurd (nothing_wrong (Some cause) k)
+-- ---- a column whose pages are read as a type
 
-pub refuses_ends : (column : ColumnChunkMetaData) (index : Index) (told : Option (List ℕ)) (before now count : ℕ) (e : Error) → TellsOf (ends_causes index) e → is_read column ≡ true
-    → IfSome told (λ bytes. raw_index bytes column ≡ Some index) → FailsBy told before now (λ bytes. column_index_causes count bytes column) e
-refuses_ends column index told before now count e (inl h) carried is = subst (λ e. FailsBy told before now (λ bytes. column_index_causes count bytes column) e) (sym h) tt
-refuses_ends column index told before now count (error.InvalidArgumentError p) (inr k) carried is = k
-refuses_ends column index told before now count (error.NotYetImplemented p) (inr k) carried is = refuses_at column index told count NotYetImplemented k carried is
-refuses_ends column index told before now count (error.ExternalFormat p) (inr k) carried is = refuses_at column index told count ExternalFormat k carried is
-refuses_ends column index told before now count (error.OutOfSpec p) (inr k) carried is = refuses_at column index told count OutOfSpec k carried is
-refuses_ends column index told before now count error.Overflow (inr k) carried is = refuses_at column index told count Overflow k carried is
-refuses_ends column index told before now count error.Io (inr k) carried is = absurd k
-refuses_ends column index told before now count error.OutOfMemory (inr k) carried is = tt
+-- Floating point numbers are read as none.
+abbrev Found : Type 0
+Found = Option Conversion
+
+abbrev field_found : Field-F Found Found → Found
+field_found field = field.data_type
+
+module _ (physical : PhysicalType) (logical : Option PrimitiveLogicalType) (none : (layer : DataType-F Found Found) → page_from_physical physical logical layer ≡ None) where
+  abbrev IsNone : DataType → Type 0
+  IsNone data_type = page_conversion physical logical data_type ≡ None
+
+  abbrev in_field : Field → Found
+  in_field = fold-Field Found Found (page_end_at physical logical) field_found
+
+  abbrev found : DataType-F DataType Field → DataType-F Found Found
+  found layer = map-DataType DataType Field Found Found (page_conversion physical logical) in_field layer
+
+  at_roll : (layer : DataType-F DataType Field) → page_conversion physical logical (roll-DataType layer) ≡ page_end_at physical logical (found layer)
+  unfolding page_conversion
+  at_roll layer = fold-roll-DataType Found Found (page_end_at physical logical) field_found layer
+
+  none_inside : (layer : DataType-F ((data_type : DataType) × IsNone data_type) (Field × Unit {0}))
+      → page_end_at physical logical (found (map-DataType ((data_type : DataType) × IsNone data_type) (Field × Unit {0}) DataType Field (λ e. e.0) (λ e. e.0) layer)) ≡ None
+  none_inside (DataType-F.Dictionary key value ordered) = value.1
+  none_inside layer = none (found (map-DataType ((data_type : DataType) × IsNone data_type) (Field × Unit {0}) DataType Field (λ e. e.0) (λ e. e.0) layer))
+
+  no_pages : (data_type : DataType) → IsNone data_type
+  no_pages = ind-DataType IsNone (λ field. Unit {0}) (λ x y is. at_roll x ∙ subst (λ layer. page_end_at physical logical (found layer) ≡ None) is (none_inside y)) (λ x y is. tt)
+
+page_carried : (physical : PhysicalType) (logical : Option PrimitiveLogicalType) (data_type : DataType) → is_some (page_conversion physical logical data_type) ≡ true → is_carried physical ≡ true
+page_carried types.Float logical data_type some = absurd (true≢false (sym some ∙ ap is_some (no_pages types.Float logical (λ layer. refl) data_type)))
+page_carried types.Double logical data_type some = absurd (true≢false (sym some ∙ ap is_some (no_pages types.Double logical (λ layer. refl) data_type)))
+page_carried _ logical data_type some = refl
+
+abbrev IsCarriedAs : DataType → ColumnChunkMetaData → Type 0
+IsCarriedAs data_type column = is_some (index_rule column.descriptor.primitive_type data_type) ≡ true
+
+abbrev found_causes : DataType → ℕ → ColumnChunkMetaData → Option Index → List Cause
+found_causes data_type count column found =
+    option_map_or (λ index. causes_of_index column.descriptor.primitive_type data_type index ++ count_causes count index) found (ExternalFormat ∷ [])
+
+with_rule : (data_type : DataType) (count : ℕ) (bytes : List ℕ) (column : ColumnChunkMetaData) → IsCarriedAs data_type column → column_index_causes data_type count bytes column ≡ found_causes data_type count column (raw_index bytes column)
+with_rule data_type count bytes column some = ap (λ b. and_then (unless b NotYetImplemented) (found_causes data_type count column (raw_index bytes column))) some
+
+first_one : IsOneOf (ExternalFormat ∷ []) (Some ExternalFormat)
+first_one = (0, omega arith, refl)
+
+not_found : (read : Bool) (found : Option Index) → (read && is_none found) ≡ true → found ≡ None
+not_found true None e = refl
+not_found true (Some index) e = absurd (true≢false (sym e))
+not_found false found e = absurd (true≢false (sym e))
+
+-- a refusal of the index itself
+pub index_refused : (data_type : DataType) (count : ℕ) (column : ColumnChunkMetaData) (told : Option (List ℕ)) (before now : ℕ) (e : Error) → IsCarriedAs data_type column
+    → FindsIndex column told before now (Err e) → FailsBy told before now (λ bytes. column_index_causes data_type count bytes column) e
+index_refused data_type count column told before now (error.InvalidArgumentError p) some finds = finds
+index_refused data_type count column told before now (error.NotYetImplemented p) some finds =
+    absurd (true≢false (sym (page_carried _ column.descriptor.primitive_type.logical_type data_type some) ∙ finds))
+index_refused data_type count column None before now (error.ExternalFormat p) some finds = tt
+index_refused data_type count column (Some bytes) before now (error.ExternalFormat p) some finds =
+    subst (λ causes. IsOneOf causes (Some ExternalFormat))
+    (sym (with_rule data_type count bytes column some ∙ ap (found_causes data_type count column) (not_found (is_read column) (raw_index bytes column) finds))) first_one
+index_refused data_type count column told before now (error.OutOfSpec p) some finds = absurd finds
+index_refused data_type count column told before now error.Overflow some finds = absurd finds
+index_refused data_type count column told before now error.Io some finds = finds
+index_refused data_type count column told before now error.OutOfMemory some finds = tt
+
+-- what is wrong with the column index where it is there
+pub index_found : (data_type : DataType) (count : ℕ) (column : ColumnChunkMetaData) (index : Index) (told : Option (List ℕ)) → IsCarriedAs data_type column → IfSome told (λ bytes. raw_index bytes column ≡ Some index)
+    → IfSome told (λ bytes. column_index_causes data_type count bytes column ≡ causes_of_index column.descriptor.primitive_type data_type index ++ count_causes count index)
+index_found data_type count column index None some is = tt
+index_found data_type count column index (Some bytes) some is = with_rule data_type count bytes column some ∙ ap (found_causes data_type count column) is
+
+-- a refusal of its ends
+pub ends_refused : (data_type : DataType) (count : ℕ) (column : ColumnChunkMetaData) (index : Index) (told : Option (List ℕ)) (before now : ℕ) (e : Error) → IsCarriedAs data_type column
+    → IfSome told (λ bytes. raw_index bytes column ≡ Some index) → TellsOf (causes_of_index column.descriptor.primitive_type data_type index) e
+    → FailsBy told before now (λ bytes. column_index_causes data_type count bytes column) e
+ends_refused data_type count column index told before now e some is tells =
+    fails_telling told before now (causes_of_index column.descriptor.primitive_type data_type index ++ count_causes count index) (λ bytes. column_index_causes data_type count bytes column) e
+    (index_found data_type count column index told some is)
+    (tells_left (causes_of_index column.descriptor.primitive_type data_type index) (count_causes count index) e tells)
+
+-- as many ends as pages
+each_end : (rule : Option Conversion) (index : Index) (ends : List (PageIndex Cell)) → option_map (λ rule. map (cell_page rule) (stored_pages index)) rule ≡ Some ends → length ends ≡ length (stored_pages index)
+each_end None index ends e = absurd cc
+each_end (Some rule) index ends e = let same : map (cell_page rule) (stored_pages index) ≡ ends = cc in ap length (sym same) ∙ length-map (stored_pages index) (cell_page rule)
+
+-- and none or too many
+other_count : (b : Bool) (m n : ℕ) → (m == n) ≡ b → (m ≡ n → ⊥) → b ≡ false
+other_count true m n e apart = absurd (apart (eqb-true m n e))
+other_count false m n e apart = refl
+
+pub count_refused : (data_type : DataType) (count : ℕ) (column : ColumnChunkMetaData) (index : Index) (ends : List (PageIndex Cell)) (told : Option (List ℕ)) (before now : ℕ) (part : Part) → IsCarriedAs data_type column
+    → IfSome told (λ bytes. raw_index bytes column ≡ Some index) → index_cells column.descriptor.primitive_type data_type index ≡ Some ends → (length ends ≡ count → ⊥)
+    → FailsBy told before now (λ bytes. column_index_causes data_type count bytes column) (error.ExternalFormat part)
+count_refused data_type count column index ends told before now part some is are apart =
+    let stored = column.descriptor.primitive_type in
+    let causes = causes_of_index stored data_type index in
+    let same = each_end (index_rule stored data_type) index ends are in
+    let wrong : count_causes count index ≡ ExternalFormat ∷ [] = ap (λ b. unless b ExternalFormat) (other_count (length (stored_pages index) == count) (length (stored_pages index)) count refl (λ e. apart (same ∙ e))) in
+    fails_telling told before now (causes ++ count_causes count index) (λ bytes. column_index_causes data_type count bytes column) (error.ExternalFormat part)
+    (index_found data_type count column index told some is)
+    (tells_right causes (count_causes count index) (error.ExternalFormat part) (inr (subst (λ causes. IsOneOf causes (Some ExternalFormat)) (sym wrong) first_one)))

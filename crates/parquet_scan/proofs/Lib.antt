@@ -1,10 +1,12 @@
 pub mod AnswerLemmas
+pub mod BoundLemmas
 pub mod CauseLemmas
 pub mod CellLemmas
 pub mod ClippedLemmas
 pub mod ColumnLemmas
 pub mod CostLemmas
 pub mod DecodeLemmas
+pub mod EndTypes
 pub mod Exact
 pub mod ExactCounts
 pub mod Examples
@@ -31,5 +33,5 @@ pub mod SameWalk
 pub mod ScanLemmas
 pub mod Sound
 pub mod SoundLists
-pub mod SoundNumbers
+pub mod SoundKinds
 pub mod TurnedLemmas

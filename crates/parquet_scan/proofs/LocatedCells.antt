@@ -26,7 +26,8 @@ use Rattle.parquet_page.specs.Locations.{located, next_row, page_intervals, rows
 use Rattle.parquet_page.proofs.AloneLemmas.{dictionary_alone, pages_alone}
 use Rattle.parquet_page.proofs.HeaderLemmas.{dictionary_measured}
 use Rattle.flat_values.specs.Conversion.{Value}
-use Rattle.parquet_scan.specs.Cells.{Reading, as_cell, dictionary_by_locations, chunk_of, column_cell, column_item, dictionary_before, is_null_type, item_among, item_at, item_in, item_located, located_item, located_pages, located_reading, rows_of, walked_dictionary, walked_item, walked_pages, walked_reading}
+use Rattle.column_ends.specs.Converted.{as_cell}
+use Rattle.parquet_scan.specs.Cells.{Reading, dictionary_by_locations, chunk_of, column_cell, column_item, dictionary_before, is_null_type, item_among, item_at, item_in, item_located, located_item, located_pages, located_reading, rows_of, walked_dictionary, walked_item, walked_pages, walked_reading}
 use Rattle.parquet_scan.specs.Laws.{LocatedCellsAreCells}
 use Rattle.parquet_scan.specs.Pages.{location_rows, locations}
 use Rattle.parquet_scan.proofs.CellLemmas.{sum-placed}

@@ -41,7 +41,8 @@ use Rattle.flat_values.specs.Pairs.{conversion, conversion_at, is_repeated}
 use Rattle.dictionary_values.specs.Keys.{keys_of, placed_entry, selected_by}
 use Rattle.dictionary_values.proofs.SelectedLemmas.{fine-key-page}
 use Rattle.flat_values.proofs.AgreementLemmas.{places_give_items, as_many, entries_converted}
-use Rattle.parquet_scan.specs.Causes.{causes_of_data, causes_of_defined, causes_of_dictionary, causes_of_entries, entry_count, has_dictionary, item_causes, pair_causes}
+use Rattle.column_ends.specs.Converted.{item_causes}
+use Rattle.parquet_scan.specs.Causes.{causes_of_data, causes_of_defined, causes_of_dictionary, causes_of_entries, entry_count, has_dictionary, pair_causes}
 use Rattle.parquet_scan.specs.Cells.{Reading, content_of, dictionary_content, items_in}
 use Rattle.parquet_scan.specs.Costs.{with_dictionary_page}
 use Rattle.flat_binary.specs.Decoding.{key_limit_of, outcomes_by}

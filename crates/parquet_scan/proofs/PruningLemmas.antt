@@ -1,11 +1,13 @@
 -- The runs of rows that bounds keep by their pages.
 use Rattle.std.proofs.Common.{◌≡◌, ℕ, zero, suc, ◌<◌, Bool, true, false, cond, List, [], ◌∷◌, length, map, get_or, Option, Some, None, refl, sym, ◌∙◌, ap, arith}
-use Rattle.std.specs.Prelude.{◌&&◌, filter, is_some, unwrap_or, IfSome}
+use Rattle.std.specs.Prelude.{◌&&◌, filter, is_some, option_map, unwrap_or, IfSome}
 use Rattle.std.specs.List.{list_all}
 use Rattle.std.specs.Option.{option_map_or}
 use Rattle.std.proofs.lemmas.Bool.{and_parts}
 use Rattle.columns_core.specs.Causes.{ExternalFormat}
+use Rattle.columns_core.specs.declared.data_type.DataType.{DataType}
 use Rattle.columns_core.specs.declared.data_type.Field.{Field}
+use Rattle.parquet_base.specs.Reading.{◌>>=◌}
 use Rattle.parquet_base.specs.Intervals.{covers, maximal_runs}
 use Rattle.parquet_base.specs.declared.interval.Interval.{Interval}
 use Rattle.parquet_base.proofs.SegmentLemmas.{covers-maximal_runs, same_runs}
@@ -13,11 +15,11 @@ use Rattle.parquet_meta.specs.declared.metadata.ColumnChunkMetaData.{ColumnChunk
 use Rattle.parquet_meta.specs.declared.metadata.PageLocation.{PageLocation}
 use Rattle.parquet_meta.specs.declared.metadata.RowGroupMetaData.{RowGroupMetaData}
 use Rattle.parquet_scan.specs.declared.bound.Bound.{Bound}
-use Rattle.parquet_scan.specs.declared.groups.KnownEnds.{KnownEnds}
+use Rattle.parquet_scan.specs.Bound.{KnownEnds}
 use Rattle.parquet_scan.specs.Causes.{index_causes_of_bound}
 use Rattle.parquet_scan.specs.Pages.{column_index_causes, keeps_row, locations, page_ends, row_keeps, rows_at}
 use Rattle.parquet_scan.specs.Request.{are_values_of, begins, bound_type, field_of, is_legal_bound_of}
-use Rattle.parquet_scan.specs.Rows.{bound_keeps, column_named, field_locations, is_named, only_one, pages_keep}
+use Rattle.parquet_scan.specs.Rows.{bound_keeps, bounded_column, column_named, field_locations, is_named, only_one, pages_keep}
 
 -- ---- the column of a name
 
@@ -43,23 +45,40 @@ named_begins group name column e = first_passes (is_named name) group.columns []
 at_column : (bytes : List ℕ) (group : RowGroupMetaData) (name : List ℕ) (column : ColumnChunkMetaData) (list : List PageLocation) → column_named group name ≡ Some column → field_locations bytes group name ≡ list → locations bytes column ≡ list
 at_column bytes group name column list named e = sym (ap (λ o. option_map_or (locations bytes) o []) named) ∙ e
 
-pub of_bound : (told : Option (List ℕ)) (group : RowGroupMetaData) (bound : Bound) (column : ColumnChunkMetaData) (list : List PageLocation) → column_named group bound.field ≡ Some column
-    → IfSome told (λ bytes. field_locations bytes group bound.field ≡ list) → IfSome told (λ bytes. index_causes_of_bound bytes group bound ≡ column_index_causes (length list) bytes column)
-of_bound None group bound column list named e = tt
-of_bound (Some bytes) group bound column list named e =
-    ap (λ o. option_map_or (λ column. column_index_causes (length (locations bytes column)) bytes column) o (ExternalFormat ∷ [])) named
-    ∙ ap (λ found. column_index_causes (length found) bytes column) (at_column bytes group bound.field column list named e)
+-- ---- the column of a bound, whose values are of a type
+
+-- the type of a field and a column, where both are there
+abbrev pub typed_by : Option Field → Option ColumnChunkMetaData → Option (DataType × ColumnChunkMetaData)
+typed_by field column = do
+  found ← field
+  own ← column
+  Some (bound_type found, own)
+
+pub bound_column : (fields : List Field) (group : RowGroupMetaData) (bound : Bound) (data_type : DataType) (column : ColumnChunkMetaData) → bounded_column fields group bound ≡ Some (data_type, column) → column_named group bound.field ≡ Some column
+bound_column fields group bound data_type column e = by (field_of fields bound) (column_named group bound.field) e where
+  by : (field : Option Field) (found : Option ColumnChunkMetaData) → typed_by field found ≡ Some (data_type, column) → found ≡ Some column
+  by None found e = absurd cc
+  by (Some field) None e = absurd cc
+  by (Some field) (Some found) e = ap (λ (o : Option (DataType × ColumnChunkMetaData)). option_map (λ typed. typed.1) o) e
+
+pub of_bound : (told : Option (List ℕ)) (fields : List Field) (group : RowGroupMetaData) (bound : Bound) (data_type : DataType) (column : ColumnChunkMetaData) (list : List PageLocation) → bounded_column fields group bound ≡ Some (data_type, column)
+    → IfSome told (λ bytes. field_locations bytes group bound.field ≡ list) → IfSome told (λ bytes. index_causes_of_bound fields bytes group bound ≡ column_index_causes data_type (length list) bytes column)
+of_bound None fields group bound data_type column list typed e = tt
+of_bound (Some bytes) fields group bound data_type column list typed e =
+    ap (λ (o : Option (DataType × ColumnChunkMetaData)). option_map_or (λ typed. column_index_causes typed.0 (length (locations bytes typed.1)) bytes typed.1) o (ExternalFormat ∷ [])) typed
+    ∙ ap (λ found. column_index_causes data_type (length found) bytes column) (at_column bytes group bound.field column list (bound_column fields group bound data_type column typed) e)
 
 -- ---- the runs of a bound
 
-pub bound_runs : (told : Option (List ℕ)) (group : RowGroupMetaData) (bound : Bound) (column : ColumnChunkMetaData) (list : List PageLocation) (ends : List KnownEnds) (runs : List Interval) → column_named group bound.field ≡ Some column
-    → IfSome told (λ bytes. field_locations bytes group bound.field ≡ list) → IfSome told (λ bytes. page_ends bytes column ≡ ends)
+pub bound_runs : (told : Option (List ℕ)) (fields : List Field) (group : RowGroupMetaData) (bound : Bound) (data_type : DataType) (column : ColumnChunkMetaData) (list : List PageLocation) (ends : List KnownEnds) (runs : List Interval)
+    → bounded_column fields group bound ≡ Some (data_type, column)
+    → IfSome told (λ bytes. field_locations bytes group bound.field ≡ list) → IfSome told (λ bytes. page_ends data_type bytes column ≡ ends)
     → runs ≡ maximal_runs (keeps_row (rows_at list group.num_rows) ends bound) group.num_rows
-    → IfSome told (λ bytes. maximal_runs (λ row. bound_keeps bytes group row bound) group.num_rows ≡ runs)
-bound_runs None group bound column list ends runs named at are e = tt
-bound_runs (Some bytes) group bound column list ends runs named at are e =
-    ap (λ o. maximal_runs (λ row. option_map_or (λ column. row_keeps bytes group bound column row) o false) group.num_rows) named
-    ∙ (λ i. maximal_runs (keeps_row (rows_at (at_column bytes group bound.field column list named at i) group.num_rows) (are i) bound) group.num_rows) ∙ sym e
+    → IfSome told (λ bytes. maximal_runs (λ row. bound_keeps fields bytes group row bound) group.num_rows ≡ runs)
+bound_runs None fields group bound data_type column list ends runs typed at are e = tt
+bound_runs (Some bytes) fields group bound data_type column list ends runs typed at are e =
+    ap (λ (o : Option (DataType × ColumnChunkMetaData)). maximal_runs (λ row. option_map_or (λ typed. row_keeps typed.0 bytes group bound typed.1 row) o false) group.num_rows) typed
+    ∙ (λ i. maximal_runs (keeps_row (rows_at (at_column bytes group bound.field column list (bound_column fields group bound data_type column typed) at i) group.num_rows) (are i) bound) group.num_rows) ∙ sym e
 
 -- ---- the runs of all bounds
 
@@ -71,17 +90,17 @@ all_agree : {X : Type 0} (p q : X → Bool) (xs : List X) → ((x : X) → p x �
 all_agree p q [] same = refl
 all_agree p q (x ∷ xs) same = λ i. same x i && all_agree p q xs same i
 
-pub all_runs : {X : Type 0} (told : Option (List ℕ)) (group : RowGroupMetaData) (bounds : List Bound) (items : X → List Interval) (lists : List X) (runs : List Interval)
-    → IfSome told (λ bytes. map (λ bound. maximal_runs (λ row. bound_keeps bytes group row bound) group.num_rows) bounds ≡ map items lists)
+pub all_runs : {X : Type 0} (told : Option (List ℕ)) (fields : List Field) (group : RowGroupMetaData) (bounds : List Bound) (items : X → List Interval) (lists : List X) (runs : List Interval)
+    → IfSome told (λ bytes. map (λ bound. maximal_runs (λ row. bound_keeps fields bytes group row bound) group.num_rows) bounds ≡ map items lists)
     → runs ≡ maximal_runs (λ row. list_all (λ list. covers (items list) row) lists) group.num_rows
-    → IfSome told (λ bytes. runs ≡ maximal_runs (pages_keep true bounds bytes group) group.num_rows)
-all_runs None group bounds items lists runs are e = tt
-all_runs (Some bytes) group bounds items lists runs are e =
-    e ∙ same_runs _ (pages_keep true bounds bytes group) group.num_rows (λ row low.
+    → IfSome told (λ bytes. runs ≡ maximal_runs (pages_keep true fields bounds bytes group) group.num_rows)
+all_runs None fields group bounds items lists runs are e = tt
+all_runs (Some bytes) fields group bounds items lists runs are e =
+    e ∙ same_runs _ (pages_keep true fields bounds bytes group) group.num_rows (λ row low.
     all_mapped (λ runs. covers runs row) items lists ∙ ap (list_all (λ runs. covers runs row)) (sym are)
-    ∙ sym (all_mapped (λ runs. covers runs row) (λ bound. maximal_runs (λ row. bound_keeps bytes group row bound) group.num_rows) bounds)
-    ∙ all_agree (λ bound. covers (maximal_runs (λ row. bound_keeps bytes group row bound) group.num_rows) row) (bound_keeps bytes group row) bounds
-    (λ bound. covers-maximal_runs (λ row. bound_keeps bytes group row bound) group.num_rows row low))
+    ∙ sym (all_mapped (λ runs. covers runs row) (λ bound. maximal_runs (λ row. bound_keeps fields bytes group row bound) group.num_rows) bounds)
+    ∙ all_agree (λ bound. covers (maximal_runs (λ row. bound_keeps fields bytes group row bound) group.num_rows) row) (bound_keeps fields bytes group row) bounds
+    (λ bound. covers-maximal_runs (λ row. bound_keeps fields bytes group row bound) group.num_rows row low))
 
 -- ---- items at a place
 

@@ -17,8 +17,8 @@ use Rattle.parquet_meta.specs.Chunks.{chunk_causes, chunk_place}
 use Rattle.parquet_meta.specs.Indexes.{index_at, index_in, locations_at, raw_index, type_of}
 use Rattle.parquet_meta.specs.OffsetIndex.{locations_in}
 use Rattle.parquet_meta.specs.Places.{after, bytes_at, lies_in, part_at, within}
-use Rattle.parquet_meta.specs.TypedStatistics.{is_carried}
 use Rattle.parquet_meta.specs.declared.metadata.ColumnChunkMetaData.{ColumnChunkMetaData}
+use Rattle.parquet_meta.specs.declared.metadata.Index.{Index}
 use Rattle.parquet_meta.specs.declared.metadata.PageLocation.{PageLocation}
 use Rattle.parquet_meta.specs.declared.metadata.PhysicalType.{PhysicalType}
 use Rattle.parquet_meta.specs.declared.metadata.Place.{Place}
@@ -29,18 +29,19 @@ use Rattle.parquet_page.specs.Located.{dictionary_in, located_dictionary, page_i
 use Rattle.parquet_page.specs.Locations.{has_shape, located, part_of}
 use Rattle.parquet_page.proofs.HeaderLemmas.{dictionary_measured}
 use Rattle.flat_values.specs.Conversion.{Item, Value}
+use Rattle.column_ends.specs.Converted.{as_cell, causes_of_index, index_cells, index_rule}
 use Rattle.parquet_scan.specs.declared.bound.Bound.{Bound}
-use Rattle.parquet_scan.specs.declared.groups.KnownEnds.{KnownEnds}
+use Rattle.parquet_scan.specs.Bound.{KnownEnds}
 use Rattle.parquet_scan.specs.Causes.{causes_of_chunk, causes_of_column, causes_of_opened, causes_of_walk, chunk_read_causes, index_causes_of_bound, index_causes_of_group, is_opened, located_causes, offset_causes_of_field, opened_located, pair_causes, walked_causes}
-use Rattle.parquet_scan.specs.Cells.{Reading, as_cell, dictionary_by_locations, chunk_of, dictionary_before, first_location, given_cell, is_null_type, item_among, item_at, item_located, located_item, located_pages, located_reading, named_page, walked_item, walked_reading}
+use Rattle.parquet_scan.specs.Cells.{Reading, dictionary_by_locations, chunk_of, dictionary_before, first_location, given_cell, is_null_type, item_among, item_at, item_located, located_item, located_pages, located_reading, named_page, walked_item, walked_reading}
 use Rattle.parquet_scan.specs.Costs.{holds_any, names_some, opened_locations}
 use Rattle.parquet_scan.specs.LookedAt.{AgreeAt, AgreeOn, bound_parts, chunk_parts, column_parts, dictionary_length, dictionary_part, front_of, index_parts_of_group, located_parts, offset_parts, part_in_chunk, parts_if, walked_length, walked_parts, with_dictionary}
-use Rattle.parquet_scan.specs.Pages.{column_ends, ends_of_pages, has_count, is_read_index, keeps_row, location_rows, locations, locations_causes, rows_at}
-use Rattle.parquet_scan.specs.Request.{Request}
+use Rattle.parquet_scan.specs.Pages.{column_index_causes, count_causes, ends_of_page, keeps_row, location_rows, locations, locations_causes, row_keeps, rows_at}
+use Rattle.parquet_scan.specs.Request.{Request, bound_type, field_of}
 use Rattle.parquet_scan.specs.Rows.{bound_keeps, column_named}
-use Rattle.parquet_scan.specs.Statistics.{physical_type}
 use Rattle.parquet_scan.proofs.CellLemmas.{same_given}
 use Rattle.parquet_scan.proofs.LocatedLemmas.{any_row, chunk_length, located_by, page_there}
+use Rattle.parquet_scan.proofs.PruningLemmas.{typed_by}
 use Rattle.parquet_scan.proofs.OpenedLemmas.{chunk_fits, same_opened}
 use Rattle.parquet_scan.proofs.SameWalk.{IsSameWalk, over, same_dictionary, shorter, walk_alike}
 
@@ -173,9 +174,6 @@ module _ (first second : List ℕ) (long : length second ≡ length first) where
   index_same type None h = refl
   index_same type (Some place) h = ap (λ o. o >>= index_in type) (part_same place h.0)
 
-  ends_same : (column : ColumnChunkMetaData) → AgreeOn first second (parts_if column.column_index) → column_ends second column ≡ column_ends first column
-  ends_same column h = ap (λ o. o >>= ends_of_pages) (index_same (type_of column) column.column_index h)
-
   named_same : (group : RowGroupMetaData) (field : Field) → AgreeOn first second (offset_parts group field) → IfSome (column_named group field.name) (λ column. locations second column ≡ locations first column)
   named_same group field h = by (column_named group field.name) h where
     by : (o : Option ColumnChunkMetaData) → AgreeOn first second (option_map_or (λ (column : ColumnChunkMetaData). parts_if column.offset_index) o []) → IfSome o (λ column. locations second column ≡ locations first column)
@@ -189,47 +187,48 @@ module _ (first second : List ℕ) (long : length second ≡ length first) where
     by None h = refl
     by (Some column) h = ap (λ found. unless (has_shape found group.num_rows) ExternalFormat) (locations_same column h)
 
-  abbrev index_causes_by : List ℕ → ColumnChunkMetaData → List Cause
-  index_causes_by bytes column =
-      and_then (unless (is_carried (physical_type column)) NotYetImplemented)
-      (and_then (unless (option_map_or is_read_index (raw_index bytes column) true) NotYetImplemented)
-      (unless (option_map_or (has_count (length (locations bytes column))) (column_ends bytes column) false) ExternalFormat))
+  abbrev index_causes_by : List ℕ → DataType × ColumnChunkMetaData → List Cause
+  index_causes_by bytes typed = column_index_causes typed.0 (length (locations bytes typed.1)) bytes typed.1
 
-  bound_causes_same : (group : RowGroupMetaData) (bound : Bound) → AgreeOn first second (bound_parts group bound) → index_causes_of_bound second group bound ≡ index_causes_of_bound first group bound
-  bound_causes_same group bound h = by (column_named group bound.field) h where
-    by : (o : Option ColumnChunkMetaData) → AgreeOn first second (option_map_or (λ (column : ColumnChunkMetaData). parts_if column.column_index ++ parts_if column.offset_index) o [])
-        → option_map_or (index_causes_by second) o (ExternalFormat ∷ []) ≡ option_map_or (index_causes_by first) o (ExternalFormat ∷ [])
-    by None h = refl
-    by (Some column) h =
+  bound_causes_same : (fields : List Field) (group : RowGroupMetaData) (bound : Bound) → AgreeOn first second (bound_parts group bound) → index_causes_of_bound fields second group bound ≡ index_causes_of_bound fields first group bound
+  bound_causes_same fields group bound h = by (field_of fields bound) (column_named group bound.field) h where
+    by : (field : Option Field) (o : Option ColumnChunkMetaData) → AgreeOn first second (option_map_or (λ (column : ColumnChunkMetaData). parts_if column.column_index ++ parts_if column.offset_index) o [])
+        → option_map_or (index_causes_by second) (typed_by field o) (ExternalFormat ∷ []) ≡ option_map_or (index_causes_by first) (typed_by field o) (ExternalFormat ∷ [])
+    by None o h = refl
+    by (Some field) None h = refl
+    by (Some field) (Some column) h =
         let both = agree_split first second (parts_if column.column_index) (parts_if column.offset_index) h in
-        λ i. and_then (unless (is_carried (physical_type column)) NotYetImplemented)
-        (and_then (unless (option_map_or is_read_index (index_same (type_of column) column.column_index both.0 i) true) NotYetImplemented)
-        (unless (option_map_or (has_count (length (locations_same column both.1 i))) (ends_same column both.0 i) false) ExternalFormat))
+        let stored = column.descriptor.primitive_type in
+        let data_type = bound_type field in
+        λ i. and_then (unless (is_some (index_rule stored data_type)) NotYetImplemented)
+        (option_map_or (λ index. causes_of_index stored data_type index ++ count_causes (length (locations_same column both.1 i)) index) (index_same (type_of column) column.column_index both.0 i) (ExternalFormat ∷ []))
 
-  bound_keeps_same : (group : RowGroupMetaData) (row : ℕ) (bound : Bound) → AgreeOn first second (bound_parts group bound) → bound_keeps second group row bound ≡ bound_keeps first group row bound
-  bound_keeps_same group row bound h = by (column_named group bound.field) h where
-    keeps_by : List PageLocation → Option (List KnownEnds) → Bool
-    keeps_by found ends = keeps_row (rows_at found group.num_rows) (unwrap_or ends []) bound row
+  bound_keeps_same : (fields : List Field) (group : RowGroupMetaData) (row : ℕ) (bound : Bound) → AgreeOn first second (bound_parts group bound) → bound_keeps fields second group row bound ≡ bound_keeps fields first group row bound
+  bound_keeps_same fields group row bound h = by (field_of fields bound) (column_named group bound.field) h where
+    keeps_by : List ℕ → DataType × ColumnChunkMetaData → Bool
+    keeps_by bytes typed = row_keeps typed.0 bytes group bound typed.1 row
 
-    by : (o : Option ColumnChunkMetaData) → AgreeOn first second (option_map_or (λ (column : ColumnChunkMetaData). parts_if column.column_index ++ parts_if column.offset_index) o [])
-        → option_map_or (λ column. keeps_by (locations second column) (column_ends second column)) o false ≡ option_map_or (λ column. keeps_by (locations first column) (column_ends first column)) o false
-    by None h = refl
-    by (Some column) h =
+    by : (field : Option Field) (o : Option ColumnChunkMetaData) → AgreeOn first second (option_map_or (λ (column : ColumnChunkMetaData). parts_if column.column_index ++ parts_if column.offset_index) o [])
+        → option_map_or (keeps_by second) (typed_by field o) false ≡ option_map_or (keeps_by first) (typed_by field o) false
+    by None o h = refl
+    by (Some field) None h = refl
+    by (Some field) (Some column) h =
         let both = agree_split first second (parts_if column.column_index) (parts_if column.offset_index) h in
-        λ i. keeps_by (locations_same column both.1 i) (ends_same column both.0 i)
+        let ends : Option Index → List KnownEnds = λ index. map ends_of_page (unwrap_or (index >>= index_cells column.descriptor.primitive_type (bound_type field)) []) in
+        λ i. keeps_row (rows_at (locations_same column both.1 i) group.num_rows) (ends (index_same (type_of column) column.column_index both.0 i)) bound row
 
   pub group_causes_same : (request : Request) (group : RowGroupMetaData) → AgreeOn first second (index_parts_of_group request group)
       → index_causes_of_group request.fields request.bounds second group ≡ index_causes_of_group request.fields request.bounds first group
   group_causes_same request group h =
       let both = agree_split first second (flat_map (offset_parts group) request.fields) (flat_map (bound_parts group) request.bounds) h in
       let fields = same_flat first second (offset_parts group) (offset_causes_of_field second group) (offset_causes_of_field first group) request.fields (offset_causes_same group) both.0 in
-      let bounds = same_flat first second (bound_parts group) (index_causes_of_bound second group) (index_causes_of_bound first group) request.bounds (bound_causes_same group) both.1 in
+      let bounds = same_flat first second (bound_parts group) (index_causes_of_bound request.fields second group) (index_causes_of_bound request.fields first group) request.bounds (bound_causes_same request.fields group) both.1 in
       λ i. fields i ++ bounds i
 
   pub group_keeps_same : (request : Request) (group : RowGroupMetaData) (row : ℕ) → AgreeOn first second (index_parts_of_group request group)
-      → list_all (bound_keeps second group row) request.bounds ≡ list_all (bound_keeps first group row) request.bounds
+      → list_all (bound_keeps request.fields second group row) request.bounds ≡ list_all (bound_keeps request.fields first group row) request.bounds
   group_keeps_same request group row h =
-      same_all first second (bound_parts group) (bound_keeps second group row) (bound_keeps first group row) request.bounds (bound_keeps_same group row)
+      same_all first second (bound_parts group) (bound_keeps request.fields second group row) (bound_keeps request.fields first group row) request.bounds (bound_keeps_same request.fields group row)
       (agree_split first second (flat_map (offset_parts group) request.fields) (flat_map (bound_parts group) request.bounds) h).1
 
   chunk_same : (group : RowGroupMetaData) (column : ColumnChunkMetaData) → chunk_of second group column ≡ chunk_of first group column

@@ -95,10 +95,10 @@ module _ (first second : List ℕ) (long : length second ≡ length first) (requ
   indexed false (group ∷ groups) h = ((λ yes counts. absurd (true≢false (sym yes))), indexed false groups h)
 
   kept_same : (b : Bool) (group : RowGroupMetaData) → Indexed b group → (row : ℕ)
-      → (group_counts request group && pages_keep b request.bounds second group row) ≡ (group_counts request group && pages_keep b request.bounds first group row)
+      → (group_counts request group && pages_keep b request.fields request.bounds second group row) ≡ (group_counts request group && pages_keep b request.fields request.bounds first group row)
   kept_same b group is row = by b (group_counts request group) is refl where
     by : (b c : Bool) → Indexed b group → group_counts request group ≡ c
-        → (c && (not b || list_all (bound_keeps second group row) request.bounds)) ≡ (c && (not b || list_all (bound_keeps first group row) request.bounds))
+        → (c && (not b || list_all (bound_keeps request.fields second group row) request.bounds)) ≡ (c && (not b || list_all (bound_keeps request.fields first group row) request.bounds))
     by true false is e = refl
     by false false is e = refl
     by false true is e = refl

@@ -1,7 +1,8 @@
 -- Groups beside whether they count, and beside the runs of their rows that are given.
-use Rattle.std.specs.Prelude.{◌≡◌, ℕ, Option, Some, map, Bool, true, false, not, ◌&&◌, ◌||◌, ◌==◌, ◌+◌, nat_lt, if◌then◌else◌, List, [], length, zip, flat_map, sum_by}
+use Rattle.std.specs.Prelude.{◌≡◌, ℕ, Option, Some, None, map, Bool, true, false, not, ◌&&◌, ◌||◌, ◌==◌, ◌+◌, nat_lt, if◌then◌else◌, List, [], length, zip, flat_map, sum_by}
 use Rattle.std.specs.List.{list_all, range_with_len}
-use Rattle.columns_core.specs.Causes.{Cause}
+use Rattle.std.specs.Option.{option_map_or}
+use Rattle.columns_core.specs.Causes.{Cause, Overflow, unless}
 use Rattle.columns_core.specs.declared.array.Array.{Array}
 use Rattle.columns_core.specs.declared.cell.Cell.{Cell}
 use Rattle.columns_core.specs.declared.data_type.DataType.{DataType}
@@ -9,13 +10,29 @@ use Rattle.columns_core.specs.declared.data_type.Field.{Field}
 use Rattle.parquet_base.specs.declared.interval.Interval.{Interval}
 use Rattle.parquet_base.specs.Intervals.{is_well_shaped, maximal_runs, row_count, rows_of}
 use Rattle.parquet_base.specs.Pieces.{cut}
+use Rattle.parquet_meta.specs.declared.metadata.Ends.{Ends}
 use Rattle.parquet_meta.specs.declared.metadata.RowGroupMetaData.{RowGroupMetaData}
+use Rattle.column_ends.specs.Counted.{counted, fit}
 use Rattle.parquet_scan.specs.declared.bound.Bound.{Bound}
 use Rattle.parquet_scan.specs.declared.scanning.GroupKept.{GroupKept}
 use Rattle.parquet_scan.specs.Causes.{causes_of_group, index_causes_of_group}
 use Rattle.parquet_scan.specs.Cells.{columns_of, given_chunk}
 use Rattle.parquet_scan.specs.Costs.{column_index_of, lent_of_group, offset_index_of, taken_of_column}
-use Rattle.parquet_scan.specs.Rows.{first_rows, has_column_index, has_offset_index, pages_keep}
+use Rattle.parquet_scan.specs.Request.{bound_type, field_of}
+use Rattle.parquet_scan.specs.Rows.{first_rows, group_keeps, has_column_index, has_offset_index, pages_keep}
+
+-- a group counts where it did by the bounds so far, and one more keeps it
+abbrev pub counts_by : List Field → Bound → RowGroupMetaData × Bool → Bool
+counts_by fields bound group = group.1 && group_keeps fields group.0 bound
+
+-- the bytes of low and of high ends, with those of one more group, if its column is there
+abbrev pub with_ends : ℕ × ℕ → Option (Ends Cell) → ℕ × ℕ
+with_ends bytes None = bytes
+with_ends bytes (Some ends) = counted bytes ends.min_value ends.max_value
+
+-- what is wrong with so many bytes of a bound's ends
+abbrev pub causes_of_bytes : ℕ × ℕ → List Field → Bound → List Cause
+causes_of_bytes bytes fields bound = option_map_or (λ (field : Field). unless (fit (bound_type field) bytes) Overflow) (field_of fields bound) []
 
 abbrev pub has_indexes_for : List Bound → List Field → RowGroupMetaData → Bool
 has_indexes_for bounds fields group =

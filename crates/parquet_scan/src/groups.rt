@@ -1,27 +1,19 @@
 //! Which row groups count.
-ghost use Rattle.std.specs.Prelude.{◌≡◌, ◌&&◌, [], ◌∷◌, OnOk, IfOk, length, map, zip, flat_map, option_copied};
+ghost use Rattle.std.specs.Prelude.{◌≡◌, ◌&&◌, [], ◌∷◌, OnOk, IfOk, length, map, zip, flat_map, option_copied, option_map};
 ghost use Rattle.std.specs.List.{list_all};
 ghost use Rattle.columns_core.specs.Causes.{ComesOf};
-ghost use Rattle.parquet_scan.specs.Bound.{ends_keep as ends_keep_by};
-ghost use Rattle.parquet_scan.specs.Causes.{bounded_causes, bounded_causes_of_group, descriptor_causes, field_causes};
-ghost use Rattle.parquet_scan.specs.Counting.{are_pruned as are_pruned_by, has_indexes_for, has_indexes_if_counting as has_indexes_if_counting_by};
+ghost use Rattle.parquet_scan.specs.Causes.{bounded_causes, bounded_causes_of_group, bounded_cells, causes_of_bound, descriptor_causes, field_causes};
+ghost use Rattle.parquet_scan.specs.Counting.{causes_of_bytes, counts_by, with_ends, are_pruned as are_pruned_by, has_indexes_for, has_indexes_if_counting as has_indexes_if_counting_by};
 ghost use Rattle.parquet_scan.specs.Rows as spec;
-ghost use Rattle.parquet_scan.specs.Statistics as statistics;
 
+use crate::Bound;
+use crate::bound::ends_keep;
 use crate::built::check_pair;
-use crate::request::begins;
-use crate::{Bound, Scalar, keeps};
+use crate::request::{begins, field_of, value_type};
+use column_ends::{EndBytes, statistics_ends};
 use columns_core::{DataType, Error, Field, Name, Part};
-use parquet_meta::{ColumnChunkMetaData, ColumnDescriptor, RawStatistics, RowGroupMetaData};
+use parquet_meta::{ColumnChunkMetaData, ColumnDescriptor, RowGroupMetaData};
 use std::alloc::Global;
-
-/// The ends and the number of nulls of some rows, as far as they are known.
-#[derive(Drop)]
-pub(crate) struct KnownEnds {
-    pub(crate) low: Option<Scalar>,
-    pub(crate) high: Option<Scalar>,
-    pub(crate) nulls: Option<u64>,
-}
 
 /// Refuses a field whose name begins several columns, and one whose column is not flat or not read as its type.
 pub(crate) fn check_field(columns: &[ColumnDescriptor], field: &Field) -> Result<(), Error>
@@ -76,30 +68,41 @@ pub(crate) fn column_named<'a>(
 pub(crate) fn counting_groups(
     alloc: Global,
     groups: &[RowGroupMetaData],
+    fields: &[Field],
     bounds: &[Bound],
 ) -> Result<Vec<bool>, Error>
-    ensures counts { IfOk result (λ counts. counts.items ≡ map (λ group. list_all (spec.group_keeps group) bounds.now) groups.now) }
-    ensures ok { OnOk result (bounded_causes bounds.now groups.now ≡ []) }
-    ensures cause { ComesOf result (bounded_causes bounds.now groups.now) }
+    ensures counts { IfOk result (λ counts.
+        counts.items ≡ map (λ group. list_all (spec.group_keeps fields.now group) bounds.now) groups.now) }
+    ensures ok { OnOk result (bounded_causes fields.now bounds.now groups.now ≡ []) }
+    ensures cause { ComesOf result (bounded_causes fields.now bounds.now groups.now) }
 {
-    let mut counts = Vec::new(alloc);
-    for group in groups {
-        counts.push(is_counting(alloc, group, bounds)?)?;
+    let mut counts = vec![in alloc; true; groups.len()]?;
+    for bound in bounds {
+        rule_out(alloc, groups, fields, bound, &mut counts)?;
     }
     Ok(counts)
 }
 
-/// Whether a group may hold a row that meets each bound.
-fn is_counting(alloc: Global, group: &RowGroupMetaData, bounds: &[Bound]) -> Result<bool, Error>
-    ensures counts { IfOk result (λ counts. counts ≡ list_all (spec.group_keeps group.now) bounds.now) }
-    ensures ok { OnOk result (flat_map (bounded_causes_of_group group.now) bounds.now ≡ []) }
-    ensures cause { ComesOf result (flat_map (bounded_causes_of_group group.now) bounds.now) }
+/// Rules out groups by a bound. The ends of all groups fit arrays of their own.
+fn rule_out(
+    alloc: Global,
+    groups: &[RowGroupMetaData],
+    fields: &[Field],
+    bound: &Bound,
+    counts: &mut [bool],
+) -> Result<(), Error>
+    requires { length counts.old ≡ length groups.now }
+    ensures counts { OnOk result (counts.new ≡ map (counts_by fields.now bound.now) (zip groups.now counts.old)) }
+    ensures length { length counts.new ≡ length groups.now }
+    ensures ok { OnOk result (causes_of_bound fields.now groups.now bound.now ≡ []) }
+    ensures cause { ComesOf result (causes_of_bound fields.now groups.now bound.now) }
 {
-    let mut counts = true;
-    for bound in bounds {
-        counts = both(counts, group_keeps(alloc, group, bound)?);
+    let mut bytes = EndBytes::new();
+    for i in 0..groups.len() {
+        let keeps = group_keeps(alloc, &groups[i], fields, bound, &mut bytes)?;
+        counts[i] = both(counts[i], keeps);
     }
-    Ok(counts)
+    check_bytes(&bytes, fields, bound)
 }
 
 fn both(first: bool, second: bool) -> bool
@@ -108,75 +111,52 @@ fn both(first: bool, second: bool) -> bool
     first && second
 }
 
-fn group_keeps(alloc: Global, group: &RowGroupMetaData, bound: &Bound) -> Result<bool, Error>
-    ensures keeps { IfOk result (λ keeps. keeps ≡ spec.group_keeps group.now bound.now) }
-    ensures ok { OnOk result (bounded_causes_of_group group.now bound.now ≡ []) }
-    ensures cause { ComesOf result (bounded_causes_of_group group.now bound.now) }
+/// Whether a group may hold a row that meets the bound. The bytes of its ends are counted.
+fn group_keeps(
+    alloc: Global,
+    group: &RowGroupMetaData,
+    fields: &[Field],
+    bound: &Bound,
+    bytes: &mut EndBytes,
+) -> Result<bool, Error>
+    ensures keeps { IfOk result (λ keeps. keeps ≡ spec.group_keeps fields.now group.now bound.now) }
+    ensures ok { OnOk result (bounded_causes_of_group fields.now bound.now group.now ≡ []) }
+    ensures cause { ComesOf result (bounded_causes_of_group fields.now bound.now group.now) }
+    ensures bytes { OnOk result (bytes.new ≡ with_ends bytes.old (bounded_cells fields.now bound.now group.now)) }
 {
-    match column_named(group, &bound.field) {
+    match bounded_column(group, fields, bound) {
         None => Ok(false),
-        Some(column) => {
-            let ends = group_ends(alloc, column)?;
-            Ok(ends_keep(&ends, group.num_rows as u64, bound))
+        Some((data_type, column)) => {
+            let ends = statistics_ends(alloc, column, data_type)?;
+            let (low, high) = (ends.min_value.as_ref(), ends.max_value.as_ref());
+            bytes.add(low, high);
+            let rows = group.num_rows as u64;
+            Ok(ends_keep(low, high, ends.null_count, rows, bound))
         }
     }
 }
 
-pub(crate) fn ends_keep(ends: &KnownEnds, rows: u64, bound: &Bound) -> bool
-    ensures { result ≡ ends_keep_by ends.now rows bound.now }
+/// The type of a bound's values, which is that of its field, and the field's column in a group.
+pub(crate) fn bounded_column<'a>(
+    group: &'a RowGroupMetaData,
+    fields: &'a [Field],
+    bound: &Bound,
+) -> Option<(&'a DataType, &'a ColumnChunkMetaData)>
+    ensures { option_map (λ typed. (typed.0.now, typed.1.now)) result ≡ spec.bounded_column fields.now group.now bound.now }
 {
-    keeps(
-        ends.low.as_ref(),
-        ends.high.as_ref(),
-        ends.nulls,
-        rows,
-        bound,
-    )
+    let field = field_of(bound, fields)?;
+    let column = column_named(group, &bound.field)?;
+    Some((value_type(&field.data_type), column))
 }
 
-/// What the statistics of a column say of a group.
-fn group_ends(alloc: Global, column: &ColumnChunkMetaData) -> Result<KnownEnds, Error>
-    ensures ends { IfOk result (λ ends. ends ≡ statistics.group_ends column.now) }
-    ensures ok { OnOk result (statistics.statistics_causes column.now ≡ []) }
-    ensures cause { ComesOf result (statistics.statistics_causes column.now) }
+/// Refuses ends that do not fit arrays of the bound's type.
+fn check_bytes(bytes: &EndBytes, fields: &[Field], bound: &Bound) -> Result<(), Error>
+    ensures ok { OnOk result (causes_of_bytes bytes.now fields.now bound.now ≡ []) }
+    ensures cause { ComesOf result (causes_of_bytes bytes.now fields.now bound.now) }
 {
-    let Some(stored) = column.statistics(alloc)? else {
-        return Ok(KnownEnds {
-            low: None,
-            high: None,
-            nulls: None,
-        });
-    };
-    match converted(stored) {
-        Some(ends) => Ok(ends),
-        None => Err(Error::NotYetImplemented(Part::Statistics)),
-    }
-}
-
-/// The ends of statistics of a type that is read.
-fn converted(stored: RawStatistics) -> Option<KnownEnds>
-    ensures { result ≡ statistics.converted stored }
-{
-    match stored {
-        RawStatistics::Int32(ends) => Some(KnownEnds {
-            low: scalar_of(ends.min_value),
-            high: scalar_of(ends.max_value),
-            nulls: ends.null_count,
-        }),
-        RawStatistics::Boolean(_)
-        | RawStatistics::Int64(_)
-        | RawStatistics::Int96(_)
-        | RawStatistics::ByteArray(_)
-        | RawStatistics::FixedLenByteArray(_, _) => None,
-    }
-}
-
-pub(crate) fn scalar_of(number: Option<i32>) -> Option<Scalar>
-    ensures { result ≡ statistics.scalar_of number }
-{
-    match number {
-        Some(number) => Some(Scalar::Int(number as i128)),
-        None => None,
+    match field_of(bound, fields) {
+        Some(field) if !bytes.fit(value_type(&field.data_type)) => Err(Error::Overflow),
+        _ => Ok(()),
     }
 }
 

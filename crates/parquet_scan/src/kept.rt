@@ -32,7 +32,7 @@ pub(crate) fn kept_groups<S: Source>(
     ensures keeps { Keeps S.Source source.old source.new }
     ensures ok { OnOk result (IfSome (S.told source.old) (λ bytes. index_causes_of_groups by_pages fields.now bounds.now bytes groups.now counts.now ≡ [])) }
     ensures fails { IfErr result (FailsBy (S.told source.old) (S.faults source.old) (S.faults source.new) (λ bytes. index_causes_of_groups by_pages fields.now bounds.now bytes groups.now counts.now)) }
-    ensures kept { IfOk result (λ kept. IfSome (S.told source.old) (λ bytes. kept.items ≡ kept_of_groups by_pages bounds.now bytes groups.now counts.now)) }
+    ensures kept { IfOk result (λ kept. IfSome (S.told source.old) (λ bytes. kept.items ≡ kept_of_groups by_pages fields.now bounds.now bytes groups.now counts.now)) }
     ensures rows { IfOk result (λ kept.
         map (λ group. group.rows) kept.items ≡ map (λ (group : RowGroup). group.num_rows) groups.now) }
     ensures apart { IfOk result (λ kept. All IsApart kept.items) }
@@ -61,7 +61,7 @@ fn kept_group<S: Source>(
     ensures keeps { Keeps S.Source source.old source.new }
     ensures ok { OnOk result (IfSome (S.told source.old) (λ bytes. index_causes_if by_pages fields.now bounds.now bytes (group.now, counts) ≡ [])) }
     ensures fails { IfErr result (FailsBy (S.told source.old) (S.faults source.old) (S.faults source.new) (λ bytes. index_causes_if by_pages fields.now bounds.now bytes (group.now, counts))) }
-    ensures kept { IfOk result (λ kept. IfSome (S.told source.old) (λ bytes. kept ≡ kept_if by_pages bounds.now bytes (group.now, counts))) }
+    ensures kept { IfOk result (λ kept. IfSome (S.told source.old) (λ bytes. kept ≡ kept_if by_pages fields.now bounds.now bytes (group.now, counts))) }
     ensures rows { IfOk result (λ kept. kept.rows ≡ group.now.num_rows) }
     ensures apart { IfOk result IsApart }
     ensures first { IfOk result (λ kept. AreFirst by_pages kept.intervals) }
@@ -88,7 +88,7 @@ fn kept_runs<S: Source>(
     ensures keeps { Keeps S.Source source.old source.new }
     ensures ok { OnOk result (IfSome (S.told source.old) (λ bytes. index_causes_if by_pages fields.now bounds.now bytes (group.now, counts) ≡ [])) }
     ensures fails { IfErr result (FailsBy (S.told source.old) (S.faults source.old) (S.faults source.new) (λ bytes. index_causes_if by_pages fields.now bounds.now bytes (group.now, counts))) }
-    ensures kept { IfOk result (λ runs. IfSome (S.told source.old) (λ bytes. runs.items ≡ maximal_runs (λ row. counts && pages_keep by_pages bounds.now bytes group.now row) group.now.num_rows)) }
+    ensures kept { IfOk result (λ runs. IfSome (S.told source.old) (λ bytes. runs.items ≡ maximal_runs (λ row. counts && pages_keep by_pages fields.now bounds.now bytes group.now row) group.now.num_rows)) }
     ensures apart { IfOk result (λ runs. AreApart 0 runs.items group.now.num_rows) }
     ensures first { IfOk result (λ runs. AreFirst by_pages runs.items) }
     ensures taken { OnOk result (S.taken source.new ≤ S.taken source.old + indexes_taken by_pages fields.now bounds.now (group.now, counts)) }

@@ -145,7 +145,7 @@ pub(crate) fn place_of(bound: &Bound, fields: &[Field]) -> usize
 }
 
 /// Of a dictionary type the type of its entries, and of any other the type itself.
-fn value_type(data_type: &DataType) -> &DataType
+pub(crate) fn value_type(data_type: &DataType) -> &DataType
     ensures { result.now ≡ types.value_type data_type.now }
 {
     match data_type {

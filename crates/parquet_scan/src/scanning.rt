@@ -11,7 +11,6 @@ ghost use Rattle.parquet_scan.specs.Rows.{file_with, given_count, group_counts};
 ghost use Rattle.parquet_scan.specs.Scan.{Answers, FailsBy, IsApart, OnFile, Refuses, RisesBy, RisesJustBy, kept_groups as kept_groups_by, kept_of, request_of, rows_in};
 
 use crate::Bound;
-use crate::built::check_built;
 use crate::chunks::RowsRead;
 use crate::given::given_runs;
 use crate::groups::{are_pruned, check_fields, counting_groups};
@@ -99,9 +98,8 @@ fn check_metadata(
 {
     let (columns, groups) = (metadata.columns.as_slice(), metadata.row_groups.as_slice());
     let fields = schema.fields.as_slice();
-    check_built(schema, bounds)?;
     check_fields(columns, fields)?;
-    counting_groups(alloc, groups, bounds)
+    counting_groups(alloc, groups, fields, bounds)
 }
 
 /// What is kept of all groups and read of them.

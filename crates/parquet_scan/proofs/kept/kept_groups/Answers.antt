@@ -52,13 +52,13 @@ loop-i-preserved g c =
     let count = get_or counts i false in
     let kept = c.in_ok-kept_group.field-0 in
     let own = subst (λ (told : Option (List ℕ)). IfSome told (λ bytes. index_causes_if by_pages c.args.fields.now bounds bytes (group, count) ≡ [])) c.loop-i.invariant.keeps.same c.in_ok-kept_group.ensures.ok in
-    let is = subst (λ (told : Option (List ℕ)). IfSome told (λ bytes. kept ≡ kept_if by_pages bounds bytes (group, count))) c.loop-i.invariant.keeps.same c.in_ok-kept_group.ensures.kept in
+    let is = subst (λ (told : Option (List ℕ)). IfSome told (λ bytes. kept ≡ kept_if by_pages c.args.fields.now bounds bytes (group, count))) c.loop-i.invariant.keeps.same c.in_ok-kept_group.ensures.kept in
     record {
       keeps = search rules;
       none = none_pair told (index_causes_if by_pages c.args.fields.now bounds) groups counts i group count false c.loop-i-test.true (omega arith) c.index-groups-i.is refl c.loop-i.invariant.none own;
-      kept = subst (λ (items : List GroupKept). IfSome told (λ bytes. kept_of_groups by_pages bounds bytes groups counts ≡ items ++ kept_of_groups by_pages bounds bytes (drop (i + 1) groups) (drop (i + 1) counts)))
+      kept = subst (λ (items : List GroupKept). IfSome told (λ bytes. kept_of_groups by_pages c.args.fields.now bounds bytes groups counts ≡ items ++ kept_of_groups by_pages c.args.fields.now bounds bytes (drop (i + 1) groups) (drop (i + 1) counts)))
           (sym c.in_ok-push.ensures.items)
-          (map_pair told (kept_if by_pages bounds) groups counts i group count false c.loop-i.kept.items kept c.loop-i-test.true (omega arith) c.index-groups-i.is refl c.loop-i.invariant.kept is);
+          (map_pair told (kept_if by_pages c.args.fields.now bounds) groups counts i group count false c.loop-i.kept.items kept c.loop-i-test.true (omega arith) c.index-groups-i.is refl c.loop-i.invariant.kept is);
       taken = omega (arith, c.loop-i.invariant.taken, c.in_ok-kept_group.ensures.taken, pair_left (indexes_taken by_pages c.args.fields.now bounds) groups counts i group count false c.loop-i-test.true (omega arith) c.index-groups-i.is refl);
       rows = subst (λ (items : List GroupKept). map (λ (group : RowGroupMetaData). group.num_rows) groups ≡ map (λ (group : GroupKept). group.rows) items ++ map (λ (group : RowGroupMetaData). group.num_rows) (drop (i + 1) groups))
           (sym c.in_ok-push.ensures.items) (rows_more groups c.loop-i.kept.items i group kept c.loop-i-test.true c.index-groups-i.is c.in_ok-kept_group.ensures.rows c.loop-i.invariant.rows);

@@ -1,5 +1,6 @@
 use Rattle.std.proofs.Common.{◌≡◌, ◌∙◌, ap, subst, sym, true, false, List, ℕ, Bool, []}
 use Rattle.std.specs.Prelude.{Option, ◌&&◌, IfSome, Some, None}
+use Rattle.columns_core.specs.declared.data_type.Field.{Field}
 use Rattle.parquet_base.specs.Intervals.{AreApart, maximal_runs}
 use Rattle.parquet_base.proofs.SegmentLemmas.{runs_apart}
 use Rattle.parquet_base.specs.declared.interval.Interval.{Interval}
@@ -11,24 +12,24 @@ use Rattle.parquet_scan.proofs.PageLemmas.{if_ok}
 use Rattle.parquet_scan.proofs.ScanLemmas.{no_runs}
 use Rattle.parquet_scan.proofs.kept.kept_runs.Goals as goal
 
-none_kept : (told : Option (List ℕ)) (by_pages : Bool) (bounds : List Bound) (group : RowGroupMetaData) (counts : Bool) (runs : List Interval) → runs ≡ [] → counts ≡ false
-    → IfSome told (λ bytes. runs ≡ maximal_runs (λ row. counts && pages_keep by_pages bounds bytes group row) group.num_rows)
-none_kept None by_pages bounds group counts runs e ruled_out = tt
-none_kept (Some bytes) by_pages bounds group counts runs e ruled_out =
-    e ∙ sym (no_runs group.num_rows) ∙ ap (λ b. maximal_runs (λ row. b && pages_keep by_pages bounds bytes group row) group.num_rows) (sym ruled_out)
+none_kept : (told : Option (List ℕ)) (by_pages : Bool) (fields : List Field) (bounds : List Bound) (group : RowGroupMetaData) (counts : Bool) (runs : List Interval) → runs ≡ [] → counts ≡ false
+    → IfSome told (λ bytes. runs ≡ maximal_runs (λ row. counts && pages_keep by_pages fields bounds bytes group row) group.num_rows)
+none_kept None by_pages fields bounds group counts runs e ruled_out = tt
+none_kept (Some bytes) by_pages fields bounds group counts runs e ruled_out =
+    e ∙ sym (no_runs group.num_rows) ∙ ap (λ b. maximal_runs (λ row. b && pages_keep by_pages fields bounds bytes group row) group.num_rows) (sym ruled_out)
 
-all_kept : (told : Option (List ℕ)) (bounds : List Bound) (group : RowGroupMetaData) (by_pages counts : Bool) (runs : List Interval) → runs ≡ maximal_runs (λ row. true) group.num_rows → counts ≡ true → by_pages ≡ false
-    → IfSome told (λ bytes. runs ≡ maximal_runs (λ row. counts && pages_keep by_pages bounds bytes group row) group.num_rows)
-all_kept None bounds group by_pages counts runs e counting whole = tt
-all_kept (Some bytes) bounds group by_pages counts runs e counting whole =
-    e ∙ (λ i. maximal_runs (λ row. sym counting i && pages_keep (sym whole i) bounds bytes group row) group.num_rows)
+all_kept : (told : Option (List ℕ)) (fields : List Field) (bounds : List Bound) (group : RowGroupMetaData) (by_pages counts : Bool) (runs : List Interval) → runs ≡ maximal_runs (λ row. true) group.num_rows → counts ≡ true → by_pages ≡ false
+    → IfSome told (λ bytes. runs ≡ maximal_runs (λ row. counts && pages_keep by_pages fields bounds bytes group row) group.num_rows)
+all_kept None fields bounds group by_pages counts runs e counting whole = tt
+all_kept (Some bytes) fields bounds group by_pages counts runs e counting whole =
+    e ∙ (λ i. maximal_runs (λ row. sym counting i && pages_keep (sym whole i) fields bounds bytes group row) group.num_rows)
 
 pub returns-then-not-counts-clause-kept : goal.returns-then-not-counts-clause-kept
-returns-then-not-counts-clause-kept g c = none_kept (g.S.Source.told c.args.source.now) c.args.by_pages c.args.bounds.now c.args.group.now c.args.counts c.new.result.items c.new.ensures.items c.if-not-counts.true
+returns-then-not-counts-clause-kept g c = none_kept (g.S.Source.told c.args.source.now) c.args.by_pages c.args.fields.now c.args.bounds.now c.args.group.now c.args.counts c.new.result.items c.new.ensures.items c.if-not-counts.true
 
 pub returns-clause-kept : goal.returns-clause-kept
 returns-clause-kept g c =
-    all_kept (g.S.Source.told c.args.source.now) c.args.bounds.now c.args.group.now c.args.by_pages c.args.counts c.in_ok-runs_of_all.field-0.items c.in_ok-runs_of_all.ensures c.if-not-counts.false c.if-by_pages.false
+    all_kept (g.S.Source.told c.args.source.now) c.args.fields.now c.args.bounds.now c.args.group.now c.args.by_pages c.args.counts c.in_ok-runs_of_all.field-0.items c.in_ok-runs_of_all.ensures c.if-not-counts.false c.if-by_pages.false
 
 pub returns-then-not-counts-clause-first : goal.returns-then-not-counts-clause-first
 returns-then-not-counts-clause-first g c = none_first c.args.by_pages c.new.result.items c.new.ensures.items

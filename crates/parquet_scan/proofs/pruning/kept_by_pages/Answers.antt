@@ -38,7 +38,7 @@ returns-in_err-locations-clause-fails g c =
     let fields = c.args.fields.now in
     let bounds = c.args.bounds.now in
     let first : List ℕ → List Cause = λ bytes. flat_map (offset_causes_of_field bytes group) fields in
-    let second : List ℕ → List Cause = λ bytes. flat_map (index_causes_of_bound bytes group) bounds in
+    let second : List ℕ → List Cause = λ bytes. flat_map (index_causes_of_bound fields bytes group) bounds in
     rw (p.1, p.2) (fails_more told start start (g.S.Source.faults c.read_all_locations.new.source) first (λ bytes. first bytes ++ second bytes) c.in_err-locations.field-0.0 (omega arith) (in_first told first second) c.in_err-locations.ensures.fails)
 
 pub returns-in_err-runs-clause-fails : goal.returns-in_err-runs-clause-fails
@@ -52,7 +52,7 @@ returns-in_err-runs-clause-fails g c =
     let fields = c.args.fields.now in
     let bounds = c.args.bounds.now in
     let first : List ℕ → List Cause = λ bytes. flat_map (offset_causes_of_field bytes group) fields in
-    let second : List ℕ → List Cause = λ bytes. flat_map (index_causes_of_bound bytes group) bounds in
+    let second : List ℕ → List Cause = λ bytes. flat_map (index_causes_of_bound fields bytes group) bounds in
     rw (p.1, p.2) (fails_more told start mid now second (λ bytes. first bytes ++ second bytes) c.in_err-runs.field-0.0 c.in_ok-locations.ensures.keeps.later (in_second told first second)
     (subst (λ (told : Option (List ℕ)). FailsBy told mid now second c.in_err-runs.field-0.0) c.in_ok-locations.ensures.keeps.same c.in_err-runs.ensures.fails))
 
@@ -66,17 +66,18 @@ returns-clause-ok g c =
     let fields = c.args.fields.now in
     let bounds = c.args.bounds.now in
     let first : List ℕ → List Cause = λ bytes. flat_map (offset_causes_of_field bytes group) fields in
-    let second : List ℕ → List Cause = λ bytes. flat_map (index_causes_of_bound bytes group) bounds in
+    let second : List ℕ → List Cause = λ bytes. flat_map (index_causes_of_bound fields bytes group) bounds in
     none_of_both told first second c.in_ok-locations.ensures.ok (subst (λ (told : Option (List ℕ)). IfSome told (λ bytes. second bytes ≡ [])) c.in_ok-locations.ensures.keeps.same c.in_ok-runs.ensures.ok)
 
 pub returns-clause-kept : goal.returns-clause-kept
 returns-clause-kept g c =
     let told = g.S.Source.told c.args.source.now in
     let group = c.args.group.now in
+    let fields = c.args.fields.now in
     let bounds = c.args.bounds.now in
     let items : Vec Interval Global → List Interval = λ list. list.items in
-    let are = subst (λ (told : Option (List ℕ)). IfSome told (λ bytes. map (λ bound. maximal_runs (λ row. bound_keeps bytes group row bound) group.num_rows) bounds ≡ map items c.in_ok-runs.runs.items)) c.in_ok-locations.ensures.keeps.same c.in_ok-runs.ensures.runs in
-    all_runs told group bounds items c.in_ok-runs.runs.items c.in_ok-runs_of_all.field-0.items are
+    let are = subst (λ (told : Option (List ℕ)). IfSome told (λ bytes. map (λ bound. maximal_runs (λ row. bound_keeps fields bytes group row bound) group.num_rows) bounds ≡ map items c.in_ok-runs.runs.items)) c.in_ok-locations.ensures.keeps.same c.in_ok-runs.ensures.runs in
+    all_runs told fields group bounds items c.in_ok-runs.runs.items c.in_ok-runs_of_all.field-0.items are
     (c.in_ok-runs_of_all.ensures ∙ ap (λ (lists : List (Vec Interval Global)). maximal_runs (λ row. list_all (λ list. covers list.items row) lists) group.num_rows) c.deref-2.ensures.value)
 
 pub returns-clause-apart : goal.returns-clause-apart

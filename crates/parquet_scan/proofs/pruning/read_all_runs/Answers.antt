@@ -24,10 +24,10 @@ returns-in_err-read_runs-clause-fails g c =
     let mid = g.S.Source.faults c.loop-bound.source in
     let now = g.S.Source.faults c.read_runs.new.source in
     let group = c.args.group.now in
-    rw (p.1, p.2) (fails_more told before mid now (λ bytes. index_causes_of_bound bytes group c.bound-item.result) (λ bytes. flat_map (index_causes_of_bound bytes group) c.args.bounds.now)
+    rw (p.1, p.2) (fails_more told before mid now (λ bytes. index_causes_of_bound c.args.fields.now bytes group c.bound-item.result) (λ bytes. flat_map (index_causes_of_bound c.args.fields.now bytes group) c.args.bounds.now)
     c.in_err-read_runs.field-0.0 c.loop-bound.invariant.keeps.later
-    (in_item told (λ bytes. index_causes_of_bound bytes group) c.args.bounds.now c.loop-bound.bound-index c.bound-item.result c.loop-bound-test.true c.bound-item.is)
-    (subst (λ (told : Option (List ℕ)). FailsBy told mid now (λ bytes. index_causes_of_bound bytes group c.bound-item.result) c.in_err-read_runs.field-0.0) c.loop-bound.invariant.keeps.same c.in_err-read_runs.ensures.fails))
+    (in_item told (λ bytes. index_causes_of_bound c.args.fields.now bytes group) c.args.bounds.now c.loop-bound.bound-index c.bound-item.result c.loop-bound-test.true c.bound-item.is)
+    (subst (λ (told : Option (List ℕ)). FailsBy told mid now (λ bytes. index_causes_of_bound c.args.fields.now bytes group c.bound-item.result) c.in_err-read_runs.field-0.0) c.loop-bound.invariant.keeps.same c.in_err-read_runs.ensures.fails))
 
 pub loop-bound-preserved : goal.loop-bound-preserved
 loop-bound-preserved g c =
@@ -38,15 +38,15 @@ loop-bound-preserved g c =
     let bound = c.bound-item.result in
     let list = c.in_ok-read_runs.field-0 in
     let items : Vec Interval Global → List Interval = λ list. list.items in
-    let own = subst (λ (told : Option (List ℕ)). IfSome told (λ bytes. index_causes_of_bound bytes group bound ≡ [])) c.loop-bound.invariant.keeps.same c.in_ok-read_runs.ensures.ok in
-    let are = subst (λ (told : Option (List ℕ)). IfSome told (λ bytes. maximal_runs (λ row. bound_keeps bytes group row bound) group.num_rows ≡ list.items)) c.loop-bound.invariant.keeps.same c.in_ok-read_runs.ensures.runs in
+    let own = subst (λ (told : Option (List ℕ)). IfSome told (λ bytes. index_causes_of_bound c.args.fields.now bytes group bound ≡ [])) c.loop-bound.invariant.keeps.same c.in_ok-read_runs.ensures.ok in
+    let are = subst (λ (told : Option (List ℕ)). IfSome told (λ bytes. maximal_runs (λ row. bound_keeps c.args.fields.now bytes group row bound) group.num_rows ≡ list.items)) c.loop-bound.invariant.keeps.same c.in_ok-read_runs.ensures.runs in
     record {
       keeps = search rules;
-      none = none_more told (λ bytes. index_causes_of_bound bytes group) bounds i bound c.loop-bound-test.true c.bound-item.is c.loop-bound.invariant.none own;
-      runs = subst (λ (lists : List (List Interval)). IfSome told (λ bytes. map (λ bound. maximal_runs (λ row. bound_keeps bytes group row bound) group.num_rows) bounds
-          ≡ lists ++ map (λ bound. maximal_runs (λ row. bound_keeps bytes group row bound) group.num_rows) (drop (i + 1) bounds)))
+      none = none_more told (λ bytes. index_causes_of_bound c.args.fields.now bytes group) bounds i bound c.loop-bound-test.true c.bound-item.is c.loop-bound.invariant.none own;
+      runs = subst (λ (lists : List (List Interval)). IfSome told (λ bytes. map (λ bound. maximal_runs (λ row. bound_keeps c.args.fields.now bytes group row bound) group.num_rows) bounds
+          ≡ lists ++ map (λ bound. maximal_runs (λ row. bound_keeps c.args.fields.now bytes group row bound) group.num_rows) (drop (i + 1) bounds)))
           (sym (ap (map items) c.in_ok-push.ensures.items ∙ map-append items c.loop-bound.lists.items (list ∷ [])))
-          (made_more told (λ bytes bound. maximal_runs (λ row. bound_keeps bytes group row bound) group.num_rows) bounds i bound (map items c.loop-bound.lists.items) list.items c.loop-bound-test.true c.bound-item.is c.loop-bound.invariant.runs are);
+          (made_more told (λ bytes bound. maximal_runs (λ row. bound_keeps c.args.fields.now bytes group row bound) group.num_rows) bounds i bound (map items c.loop-bound.lists.items) list.items c.loop-bound-test.true c.bound-item.is c.loop-bound.invariant.runs are);
       taken = omega (arith, c.loop-bound.invariant.taken, c.in_ok-read_runs.ensures.taken, sum_left (column_index_of group) bounds i bound c.loop-bound-test.true c.bound-item.is);
       apart = subst (λ (lists : List (Vec Interval Global)). All (λ list. AreApart 0 list.items group.num_rows) lists) (sym c.in_ok-push.ensures.items)
           (All-push (λ list. AreApart 0 list.items group.num_rows) c.loop-bound.lists.items list c.loop-bound.invariant.apart c.in_ok-read_runs.ensures.apart);

@@ -13,10 +13,10 @@ invariant-loop-bound g l =
     let source = g.S.Source in
     record {
       keeps : Keeps source l.fn.source l.source;
-      none : IfSome (source.told l.fn.source) (λ bytes. flat_map (index_causes_of_bound bytes l.group) l.bounds ≡ flat_map (index_causes_of_bound bytes l.group) (drop l.bound-index l.bounds));
+      none : IfSome (source.told l.fn.source) (λ bytes. flat_map (index_causes_of_bound l.fields bytes l.group) l.bounds ≡ flat_map (index_causes_of_bound l.fields bytes l.group) (drop l.bound-index l.bounds));
       runs : IfSome (source.told l.fn.source) (λ bytes.
-          map (λ bound. maximal_runs (λ row. bound_keeps bytes l.group row bound) l.group.num_rows) l.bounds
-          ≡ map (λ list. list.items) l.lists.items ++ map (λ bound. maximal_runs (λ row. bound_keeps bytes l.group row bound) l.group.num_rows) (drop l.bound-index l.bounds));
+          map (λ bound. maximal_runs (λ row. bound_keeps l.fields bytes l.group row bound) l.group.num_rows) l.bounds
+          ≡ map (λ list. list.items) l.lists.items ++ map (λ bound. maximal_runs (λ row. bound_keeps l.fields bytes l.group row bound) l.group.num_rows) (drop l.bound-index l.bounds));
       taken : source.taken l.source + sum_by (column_index_of l.group) (drop l.bound-index l.bounds) ≤ source.taken l.fn.source + sum_by (column_index_of l.group) l.bounds;
       apart : All (λ list. AreApart 0 list.items l.group.num_rows) l.lists.items;
     }

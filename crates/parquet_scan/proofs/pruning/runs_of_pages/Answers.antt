@@ -3,7 +3,7 @@ use Rattle.std.specs.Prelude.{unwrap_or, zip}
 use Rattle.std.proofs.lemmas.Result.{err_from_is_err_and}
 use Rattle.parquet_base.specs.Intervals.{AreAdjacent, is_kept_page, maximal_runs}
 use Rattle.parquet_base.specs.declared.interval.Interval.{Interval}
-use Rattle.parquet_scan.specs.Pages.{page_keeps}
+use Rattle.parquet_scan.specs.Pages.{ends_of_page, page_keeps}
 use Rattle.parquet_scan.proofs.LocationLemmas.{adjacent_pages, rows_fail}
 use Rattle.parquet_scan.proofs.pruning.runs_of_pages.Goals as goal
 use Rattle.parquet_page.proofs.SelectionLemmas.{pages-length}
@@ -29,7 +29,7 @@ page_runs-requires-clause-same_length c =
 pub returns-clause-runs : goal.returns-clause-runs
 returns-clause-runs c =
     let bound = c.args.bound.now in
-    let ends = c.args.ends.now in
+    let ends = map ends_of_page c.args.ends.now in
     let are = sym (ap (λ o. unwrap_or o []) c.in_ok-pages.ensures.rows) in
     let pages = c.deref-2.ensures.value ∙ are in
     let keep = c.deref-3.ensures.value ∙ sym c.in_ok-keep.ensures.kept ∙ ap (λ (pages : List Interval). map (page_keeps bound) (zip pages ends)) (c.deref.ensures.value ∙ are) in

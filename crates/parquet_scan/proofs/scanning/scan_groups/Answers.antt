@@ -94,7 +94,7 @@ returns-in_err-read_groups-clause-fails g c =
     let kept = c.in_ok-kept.kept.items in
     let given = c.in_ok-given.given.items in
     let is = pruned_is request metadata c.are_pruned-by_pages.result c.as_slice-fields.result.now c.as_slice-groups.result.now c.args.counts.now c.are_pruned-by_pages.ensures c.as_slice-fields.ensures c.as_slice-groups.ensures c.requires.counts in
-    let are = given_of request metadata told c.are_pruned-by_pages.result c.as_slice-groups.result.now c.args.counts.now kept c.deref.result.now given is c.as_slice-groups.ensures c.requires.counts c.deref.ensures.value
+    let are = given_of request metadata told c.are_pruned-by_pages.result c.as_slice-fields.result.now c.as_slice-groups.result.now c.args.counts.now kept c.deref.result.now given is c.as_slice-fields.ensures c.as_slice-groups.ensures c.requires.counts c.deref.ensures.value
     c.in_ok-kept.ensures.kept c.in_ok-kept.ensures.rows c.in_ok-given.ensures.rows c.in_ok-given.ensures.shaped in
     let none = moved (λ told b fields groups counts given. IfSome told (λ bytes. index_causes_of_groups b fields request.bounds bytes groups counts ≡ [])) told told c.are_pruned-by_pages.result (pruned request metadata)
     c.as_slice-fields.result.now request.fields c.as_slice-groups.result.now metadata.row_groups c.args.counts.now (counting request metadata) [] [] refl is c.as_slice-fields.ensures c.as_slice-groups.ensures c.requires.counts refl c.in_ok-kept.ensures.ok in
@@ -112,7 +112,7 @@ returns-clause-ok g c =
     let kept = c.in_ok-kept.kept.items in
     let given = c.in_ok-given.given.items in
     let is = pruned_is request metadata c.are_pruned-by_pages.result c.as_slice-fields.result.now c.as_slice-groups.result.now c.args.counts.now c.are_pruned-by_pages.ensures c.as_slice-fields.ensures c.as_slice-groups.ensures c.requires.counts in
-    let are = given_of request metadata told c.are_pruned-by_pages.result c.as_slice-groups.result.now c.args.counts.now kept c.deref.result.now given is c.as_slice-groups.ensures c.requires.counts c.deref.ensures.value
+    let are = given_of request metadata told c.are_pruned-by_pages.result c.as_slice-fields.result.now c.as_slice-groups.result.now c.args.counts.now kept c.deref.result.now given is c.as_slice-fields.ensures c.as_slice-groups.ensures c.requires.counts c.deref.ensures.value
     c.in_ok-kept.ensures.kept c.in_ok-kept.ensures.rows c.in_ok-given.ensures.rows c.in_ok-given.ensures.shaped in
     none_wrong request metadata kept given told are
     (moved (λ told b fields groups counts given. IfSome told (λ bytes. index_causes_of_groups b fields request.bounds bytes groups counts ≡ [])) told told c.are_pruned-by_pages.result (pruned request metadata)
@@ -129,7 +129,7 @@ returns-clause-kept g c =
     let kept = c.in_ok-kept.kept.items in
     let given = c.in_ok-given.given.items in
     let is = pruned_is request metadata c.are_pruned-by_pages.result c.as_slice-fields.result.now c.as_slice-groups.result.now c.args.counts.now c.are_pruned-by_pages.ensures c.as_slice-fields.ensures c.as_slice-groups.ensures c.requires.counts in
-    let are = given_of request metadata told c.are_pruned-by_pages.result c.as_slice-groups.result.now c.args.counts.now kept c.deref.result.now given is c.as_slice-groups.ensures c.requires.counts c.deref.ensures.value
+    let are = given_of request metadata told c.are_pruned-by_pages.result c.as_slice-fields.result.now c.as_slice-groups.result.now c.args.counts.now kept c.deref.result.now given is c.as_slice-fields.ensures c.as_slice-groups.ensures c.requires.counts c.deref.ensures.value
     c.in_ok-kept.ensures.kept c.in_ok-kept.ensures.rows c.in_ok-given.ensures.rows c.in_ok-given.ensures.shaped in
     subst (λ (kept : List GroupKept). IfSome told (λ bytes. map kept_of kept ≡ kept_groups request (file_with bytes metadata))) (sym c.new-2.ensures) (kept_told request metadata kept given told are)
 
@@ -142,7 +142,7 @@ returns-clause-chunks g c =
     let given = c.in_ok-given.given.items in
     let found = c.read_groups.new.read.chunks.items in
     let is = pruned_is request metadata c.are_pruned-by_pages.result c.as_slice-fields.result.now c.as_slice-groups.result.now c.args.counts.now c.are_pruned-by_pages.ensures c.as_slice-fields.ensures c.as_slice-groups.ensures c.requires.counts in
-    let are = given_of request metadata told c.are_pruned-by_pages.result c.as_slice-groups.result.now c.args.counts.now kept c.deref.result.now given is c.as_slice-groups.ensures c.requires.counts c.deref.ensures.value
+    let are = given_of request metadata told c.are_pruned-by_pages.result c.as_slice-fields.result.now c.as_slice-groups.result.now c.args.counts.now kept c.deref.result.now given is c.as_slice-fields.ensures c.as_slice-groups.ensures c.requires.counts c.deref.ensures.value
     c.in_ok-kept.ensures.kept c.in_ok-kept.ensures.rows c.in_ok-given.ensures.rows c.in_ok-given.ensures.shaped in
     let chunks = moved (λ told b fields groups counts given. IfSome told (λ bytes. shown found ≡ shown c.new.result.items ++ chunks_of_groups b request.chunk_size fields bytes groups given)) (g.S.Source.told c.kept_groups.new.source) told c.are_pruned-by_pages.result (pruned request metadata)
     c.as_slice-fields.result.now request.fields c.as_slice-groups.result.now metadata.row_groups c.args.counts.now (counting request metadata) c.deref-2.result.now given
@@ -158,7 +158,7 @@ returns-clause-rows g c =
     let kept = c.in_ok-kept.kept.items in
     let given = c.in_ok-given.given.items in
     let is = pruned_is request metadata c.are_pruned-by_pages.result c.as_slice-fields.result.now c.as_slice-groups.result.now c.args.counts.now c.are_pruned-by_pages.ensures c.as_slice-fields.ensures c.as_slice-groups.ensures c.requires.counts in
-    let are = given_of request metadata told c.are_pruned-by_pages.result c.as_slice-groups.result.now c.args.counts.now kept c.deref.result.now given is c.as_slice-groups.ensures c.requires.counts c.deref.ensures.value
+    let are = given_of request metadata told c.are_pruned-by_pages.result c.as_slice-fields.result.now c.as_slice-groups.result.now c.args.counts.now kept c.deref.result.now given is c.as_slice-fields.ensures c.as_slice-groups.ensures c.requires.counts c.deref.ensures.value
     c.in_ok-kept.ensures.kept c.in_ok-kept.ensures.rows c.in_ok-given.ensures.rows c.in_ok-given.ensures.shaped in
     let all : 0 + rows_of_groups given ≡ rows_of_groups given = omega arith in
     rows_told request metadata kept given told c.read_groups.new.read.rows are
@@ -172,7 +172,7 @@ returns-clause-lent g c =
     let kept = c.in_ok-kept.kept.items in
     let given = c.in_ok-given.given.items in
     let is = pruned_is request metadata c.are_pruned-by_pages.result c.as_slice-fields.result.now c.as_slice-groups.result.now c.args.counts.now c.are_pruned-by_pages.ensures c.as_slice-fields.ensures c.as_slice-groups.ensures c.requires.counts in
-    let are = given_of request metadata told c.are_pruned-by_pages.result c.as_slice-groups.result.now c.args.counts.now kept c.deref.result.now given is c.as_slice-groups.ensures c.requires.counts c.deref.ensures.value
+    let are = given_of request metadata told c.are_pruned-by_pages.result c.as_slice-fields.result.now c.as_slice-groups.result.now c.args.counts.now kept c.deref.result.now given is c.as_slice-fields.ensures c.as_slice-groups.ensures c.requires.counts c.deref.ensures.value
     c.in_ok-kept.ensures.kept c.in_ok-kept.ensures.rows c.in_ok-given.ensures.rows c.in_ok-given.ensures.shaped in
     lent_told request metadata kept given told c.args.steps.now c.read_groups.new.steps are
     (moved (λ told b fields groups counts given. RisesJustBy told c.args.steps.now c.read_groups.new.steps (λ bytes. lent_of_groups b fields bytes groups given)) (g.S.Source.told c.kept_groups.new.source) told c.are_pruned-by_pages.result (pruned request metadata)
@@ -190,7 +190,7 @@ returns-clause-taken g c =
     let kept = c.in_ok-kept.kept.items in
     let given = c.in_ok-given.given.items in
     let is = pruned_is request metadata c.are_pruned-by_pages.result c.as_slice-fields.result.now c.as_slice-groups.result.now c.args.counts.now c.are_pruned-by_pages.ensures c.as_slice-fields.ensures c.as_slice-groups.ensures c.requires.counts in
-    let are = given_of request metadata told c.are_pruned-by_pages.result c.as_slice-groups.result.now c.args.counts.now kept c.deref.result.now given is c.as_slice-groups.ensures c.requires.counts c.deref.ensures.value
+    let are = given_of request metadata told c.are_pruned-by_pages.result c.as_slice-fields.result.now c.as_slice-groups.result.now c.args.counts.now kept c.deref.result.now given is c.as_slice-fields.ensures c.as_slice-groups.ensures c.requires.counts c.deref.ensures.value
     c.in_ok-kept.ensures.kept c.in_ok-kept.ensures.rows c.in_ok-given.ensures.rows c.in_ok-given.ensures.shaped in
     let first = moved (λ told b fields groups counts given. mid ≤ start + indexes_taken_of_groups b fields request.bounds groups counts) told told c.are_pruned-by_pages.result (pruned request metadata)
     c.as_slice-fields.result.now request.fields c.as_slice-groups.result.now metadata.row_groups c.args.counts.now (counting request metadata) [] [] refl is c.as_slice-fields.ensures c.as_slice-groups.ensures c.requires.counts refl c.in_ok-kept.ensures.taken in

@@ -1,0 +1,186 @@
+-- Bounds one after another, each over all groups.
+use Rattle.std.proofs.Common.{◌≡◌, ℕ, zero, suc, ◌+◌, ◌-◌, ◌^◌, ◌<◌, ◌≤◌, Bool, true, false, List, [], ◌∷◌, ◌++◌, length, map, min, take, drop, get_or, set, replicate, Option, Some, None, refl, sym, subst, ◌∙◌, ap, arith, append-nil, append_assoc}
+use Rattle.std.specs.Prelude.{◌&&◌, IfSome, filter_map, nat_le, option_to_list, sum_by, zip}
+use Rattle.std.specs.List.{cons_option, flat_map, list_all}
+use Rattle.std.specs.Option.{option_map_or}
+use Rattle.std.proofs.lemmas.Bool.Decides.{nat_tests}
+use Rattle.std.proofs.lemmas.Grind.{flat_map-append}
+use Rattle.std.proofs.lemmas.List.{drop-set-lt, drop_all, map-append, take_all, take_more, take_more_set}
+use Rattle.std.proofs.lemmas.List.Elements.{filter_map-append}
+use Rattle.std.proofs.lemmas.List.Sums.{sum_by-append}
+use Rattle.columns_core.specs.Causes.{Cause, Overflow, unless}
+use Rattle.columns_core.specs.declared.cell.Cell.{Cell}
+use Rattle.columns_core.specs.declared.data_type.DataType.{DataType, out-DataType}
+use Rattle.columns_core.specs.declared.data_type.DataType.TheOpen.{DataType-F}
+use Rattle.columns_core.specs.declared.data_type.Field.{Field}
+use Rattle.columns_core.specs.declared.error.Error.{Error}
+use Rattle.columns_core.specs.Types.{Layer}
+use Rattle.page_decoding.specs.Bytes.{fits_most}
+use Rattle.flat_values.specs.MostBytes.{most_bytes, most_bytes_at}
+use Rattle.parquet_meta.specs.declared.metadata.Ends.{Ends}
+use Rattle.parquet_meta.specs.declared.metadata.RowGroupMetaData.{RowGroupMetaData}
+use Rattle.column_ends.specs.Converted.{array_causes, end_bytes, group_array_causes, high_of, low_of}
+use Rattle.column_ends.specs.Counted.{capped, count_of, counted, fit}
+use Rattle.parquet_scan.specs.declared.bound.Bound.{Bound}
+use Rattle.parquet_scan.specs.Causes.{array_causes_of_bound, bounded_cells, bounded_causes_of_group, causes_of_bound}
+use Rattle.parquet_scan.specs.Counting.{causes_of_bytes, counts_by, with_ends}
+use Rattle.parquet_scan.specs.Request.{bound_type, field_of}
+use Rattle.parquet_scan.specs.Rows.{group_keeps}
+use Rattle.parquet_scan.proofs.CauseLemmas.{TellsOf, tells_left, tells_right}
+use Rattle.parquet_scan.proofs.PairLemmas.{map_behind}
+
+-- ---- the groups that count
+
+-- all of them, before any bound is asked for
+pub all_count : (fields : List Field) (groups : List RowGroupMetaData) → replicate (length groups) true ≡ map (λ group. list_all (group_keeps fields group) []) groups
+all_count fields [] = refl
+all_count fields (group ∷ groups) = ap (λ rest. true ∷ rest) (all_count fields groups)
+
+all_again : {X : Type 0} (p : X → Bool) (xs : List X) (x : X) → list_all p (xs ++ x ∷ []) ≡ (list_all p xs && p x)
+all_again p [] x = by (p x) where
+  by : (b : Bool) → (b && true) ≡ b
+  by true = refl
+  by false = refl
+all_again p (y ∷ ys) x = by (p y) (all_again p ys x) where
+  by : (b : Bool) → list_all p (ys ++ x ∷ []) ≡ (list_all p ys && p x) → (b && list_all p (ys ++ x ∷ [])) ≡ ((b && list_all p ys) && p x)
+  by true e = e
+  by false e = refl
+
+joined : (fields : List Field) (bound : Bound) (so_far : List Bound) (groups : List RowGroupMetaData)
+    → map (counts_by fields bound) (zip groups (map (λ group. list_all (group_keeps fields group) so_far) groups)) ≡ map (λ group. list_all (group_keeps fields group) (so_far ++ bound ∷ [])) groups
+joined fields bound so_far [] = refl
+joined fields bound so_far (group ∷ groups) = λ i. sym (all_again (group_keeps fields group) so_far bound) i ∷ joined fields bound so_far groups i
+
+-- with one bound more
+pub counts_more : (fields : List Field) (bounds : List Bound) (groups : List RowGroupMetaData) (i : ℕ) (bound : Bound) (before now : List Bool) → i < length bounds → bound ≡ get_or bounds i bound
+    → before ≡ map (λ group. list_all (group_keeps fields group) (take i bounds)) groups → now ≡ map (counts_by fields bound) (zip groups before)
+    → now ≡ map (λ group. list_all (group_keeps fields group) (take (i + 1) bounds)) groups
+counts_more fields bounds groups i bound before now h at are e =
+    e ∙ ap (λ counts. map (counts_by fields bound) (zip groups counts)) are ∙ joined fields bound (take i bounds) groups
+    ∙ ap (λ found. map (λ (group : RowGroupMetaData). list_all (group_keeps fields group) found) groups) (ap (λ x. take i bounds ++ x ∷ []) at ∙ sym (take_more bounds i bound h))
+
+-- in place, with one group more
+pub counts_at : (fields : List Field) (bound : Bound) (groups : List RowGroupMetaData) (old counts : List Bool) (i : ℕ) (group : RowGroupMetaData) (v : Bool) → i < length groups → i < length counts → group ≡ get_or groups i group
+    → v ≡ counts_by fields bound (group, get_or counts i false)
+    → map (counts_by fields bound) (zip groups old) ≡ take i counts ++ map (counts_by fields bound) (zip (drop i groups) (drop i counts))
+    → map (counts_by fields bound) (zip groups old) ≡ take (i + 1) (set counts i v) ++ map (counts_by fields bound) (zip (drop (i + 1) groups) (drop (i + 1) (set counts i v)))
+counts_at fields bound groups old counts i group v h k at is e =
+    let f = counts_by fields bound in
+    let left = λ (counts : List Bool). map f (zip (drop (i + 1) groups) counts) in
+    let one : f (get_or groups i group, get_or counts i false) ≡ v = ap (λ x. f (x, get_or counts i false)) (sym at) ∙ sym is in
+    e ∙ ap (λ rest. take i counts ++ rest) (map_behind f groups counts i group false h k ∙ ap (λ first. first ∷ left (drop (i + 1) counts)) one)
+    ∙ sym (append_assoc (take i counts) (v ∷ []) (left (drop (i + 1) counts)))
+    ∙ (λ j. sym (take_more_set counts i v k) j ++ left (sym (drop-set-lt (i + 1) counts i v (omega arith)) j))
+
+pub counts_done : (fields : List Field) (bound : Bound) (groups : List RowGroupMetaData) (old counts : List Bool) (i : ℕ) → length groups ≤ i → length counts ≤ i
+    → map (counts_by fields bound) (zip groups old) ≡ take i counts ++ map (counts_by fields bound) (zip (drop i groups) (drop i counts)) → counts ≡ map (counts_by fields bound) (zip groups old)
+counts_done fields bound groups old counts i h k e =
+    sym (e ∙ (λ j. take_all i counts k j ++ map (counts_by fields bound) (zip (drop_all i groups h j) (drop i counts))) ∙ append-nil counts)
+
+-- nothing is wrong with one item more
+pub nothing_more : {X : Type 0} (f : X → List Cause) (xs : List X) (i : ℕ) (x : X) → i < length xs → x ≡ get_or xs i x → flat_map f (take i xs) ≡ [] → f x ≡ [] → flat_map f (take (i + 1) xs) ≡ []
+nothing_more f xs i x h at none own =
+    ap (flat_map f) (take_more xs i x h ∙ ap (λ y. take i xs ++ y ∷ []) (sym at)) ∙ flat_map-append f (take i xs) (x ∷ [])
+    ∙ (λ j. none j ++ (own j ++ []))
+
+-- ---- the bytes of ends
+
+capped_more : (a b : ℕ) → capped (capped a + b) ≡ capped (a + b)
+capped_more a b = omega arith
+
+sum_more : (ends : List (Option Cell)) (end : Option Cell) → capped (capped (sum_by end_bytes ends) + end_bytes end) ≡ capped (sum_by end_bytes (ends ++ end ∷ []))
+sum_more ends end =
+    capped_more (sum_by end_bytes ends) (end_bytes end)
+    ∙ ap capped (omega (arith, sum_by-append end_bytes ends (end ∷ [])))
+
+abbrev pub bytes_of : List (Ends Cell) → ℕ × ℕ
+bytes_of ends = count_of (map low_of ends) (map high_of ends)
+
+one_counted : (all : List (Ends Cell)) (ends : Ends Cell) → counted (bytes_of all) ends.min_value ends.max_value ≡ bytes_of (all ++ ends ∷ [])
+one_counted all ends =
+    (λ i. (sum_more (map low_of all) ends.min_value i, sum_more (map high_of all) ends.max_value i))
+    ∙ (λ i. count_of (sym (map-append low_of all (ends ∷ [])) i) (sym (map-append high_of all (ends ∷ [])) i))
+
+with_one : (all : List (Ends Cell)) (o : Option (Ends Cell)) → with_ends (bytes_of all) o ≡ bytes_of (all ++ cons_option o [])
+with_one all None = ap bytes_of (sym (no_more all)) where
+  no_more : (all : List (Ends Cell)) → all ++ [] ≡ all
+  no_more [] = refl
+  no_more (ends ∷ all) = ap (λ rest. ends ∷ rest) (no_more all)
+with_one all (Some ends) = one_counted all ends
+
+-- with those of one group more
+pub bytes_more : (f : RowGroupMetaData → Option (Ends Cell)) (groups : List RowGroupMetaData) (i : ℕ) (group : RowGroupMetaData) (before now : ℕ × ℕ) → i < length groups → group ≡ get_or groups i group
+    → before ≡ bytes_of (filter_map f (take i groups)) → now ≡ with_ends before (f group) → now ≡ bytes_of (filter_map f (take (i + 1) groups))
+bytes_more f groups i group before now h at are e =
+    e ∙ ap (λ bytes. with_ends bytes (f group)) are ∙ with_one (filter_map f (take i groups)) (f group)
+    ∙ ap bytes_of (sym (filter_map-append f (take i groups) (group ∷ [])) ∙ ap (filter_map f) (ap (λ x. take i groups ++ x ∷ []) at ∙ sym (take_more groups i group h)))
+
+-- ---- whether they fit
+
+-- no type has place for the greatest count
+small_most : (layer : Layer) → IfSome (most_bytes_at layer) (λ most. most < 2 ^ 64 - 1)
+small_most DataType-F.Utf8 = omega arith
+small_most DataType-F.Binary = omega arith
+small_most DataType-F.LargeUtf8 = omega arith
+small_most DataType-F.LargeBinary = omega arith
+small_most _ = tt
+
+fits_capped : (most : Option ℕ) (n : ℕ) → IfSome most (λ most. most < 2 ^ 64 - 1) → fits_most most (capped n) ≡ fits_most most n
+fits_capped None n small = refl
+fits_capped (Some most) n small = grind (arith, nat_tests)
+
+fit_same : (field : Field) (cells : List (Ends Cell)) (side : Ends Cell → Option Cell) → fits_most (most_bytes (bound_type field)) (capped (sum_by end_bytes (map side cells))) ≡ fits_most (most_bytes (bound_type field)) (sum_by end_bytes (map side cells))
+fit_same field cells side = fits_capped (most_bytes (bound_type field)) (sum_by end_bytes (map side cells)) (small_most (out-DataType (bound_type field)))
+
+-- what is wrong with two sides is wrong with one of them
+abbrev of_sides : Bool → Bool → List Cause
+of_sides low high = unless low Overflow ++ unless high Overflow
+
+sides_fit : (low high : Bool) → unless (low && high) Overflow ≡ [] → of_sides low high ≡ []
+sides_fit true true none = refl
+sides_fit true false none = none
+sides_fit false high none = absurd cc
+
+sides_tell : (low high : Bool) (e : Error) → TellsOf (unless (low && high) Overflow) e → TellsOf (of_sides low high) e
+sides_tell true true e tells = tells
+sides_tell true false e tells = tells
+sides_tell false high e tells = tells_left (Overflow ∷ []) (unless high Overflow) e tells
+
+module _ (fields : List Field) (bound : Bound) (cells : List (Ends Cell)) where
+  abbrev counted_causes : Option Field → List Cause
+  counted_causes field = option_map_or (λ (field : Field). unless (fit (bound_type field) (bytes_of cells)) Overflow) field []
+
+  abbrev side_causes : Option Field → List Cause
+  side_causes field = option_map_or (λ (field : Field). group_array_causes (bound_type field) cells) field []
+
+  of_field : (field : Field) → side_causes (Some field) ≡ of_sides (fits_most (most_bytes (bound_type field)) (capped (sum_by end_bytes (map low_of cells)))) (fits_most (most_bytes (bound_type field)) (capped (sum_by end_bytes (map high_of cells))))
+  of_field field = λ i. of_sides (sym (fit_same field cells low_of) i) (sym (fit_same field cells high_of) i)
+
+  pub bytes_fit : causes_of_bytes (bytes_of cells) fields bound ≡ [] → side_causes (field_of fields bound) ≡ []
+  bytes_fit = by (field_of fields bound) where
+    by : (field : Option Field) → counted_causes field ≡ [] → side_causes field ≡ []
+    by None none = refl
+    by (Some field) none = of_field field ∙ sides_fit _ _ none
+
+  pub bytes_tell : (e : Error) → TellsOf (causes_of_bytes (bytes_of cells) fields bound) e → TellsOf (side_causes (field_of fields bound)) e
+  bytes_tell e = by (field_of fields bound) where
+    by : (field : Option Field) → TellsOf (counted_causes field) e → TellsOf (side_causes field) e
+    by None tells = tells
+    by (Some field) tells = subst (λ causes. TellsOf causes e) (sym (of_field field)) (sides_tell _ _ e tells)
+
+-- ---- one bound
+
+-- nothing is wrong with it where nothing is with the groups, nor with the bytes of all ends
+pub nothing_of_bound : (fields : List Field) (bound : Bound) (groups : List RowGroupMetaData) (bytes : ℕ × ℕ) → flat_map (bounded_causes_of_group fields bound) groups ≡ [] → bytes ≡ bytes_of (filter_map (bounded_cells fields bound) groups)
+    → causes_of_bytes bytes fields bound ≡ [] → causes_of_bound fields groups bound ≡ []
+nothing_of_bound fields bound groups bytes none are fine =
+    λ i. none i ++ bytes_fit fields bound (filter_map (bounded_cells fields bound) groups) (ap (λ bytes. causes_of_bytes bytes fields bound) (sym are) ∙ fine) i
+
+pub group_tells : (fields : List Field) (bound : Bound) (groups : List RowGroupMetaData) (e : Error) → TellsOf (flat_map (bounded_causes_of_group fields bound) groups) e → TellsOf (causes_of_bound fields groups bound) e
+group_tells fields bound groups e tells = tells_left (flat_map (bounded_causes_of_group fields bound) groups) (array_causes_of_bound fields groups bound) e tells
+
+pub bytes_tell_of_bound : (fields : List Field) (bound : Bound) (groups : List RowGroupMetaData) (bytes : ℕ × ℕ) (e : Error) → bytes ≡ bytes_of (filter_map (bounded_cells fields bound) groups)
+    → TellsOf (causes_of_bytes bytes fields bound) e → TellsOf (causes_of_bound fields groups bound) e
+bytes_tell_of_bound fields bound groups bytes e are tells =
+    tells_right (flat_map (bounded_causes_of_group fields bound) groups) (array_causes_of_bound fields groups bound) e
+    (bytes_tell fields bound (filter_map (bounded_cells fields bound) groups) e (subst (λ bytes. TellsOf (causes_of_bytes bytes fields bound) e) are tells))
