@@ -20,7 +20,6 @@ use Rattle.parquet_page.specs.Lending.{AreOfType, DataPagesAre}
 use Rattle.page_decoding.specs.Bytes.{IsCausedByChunks, cell_bytes, fits_most}
 use Rattle.page_decoding.specs.Column.{rows as all_rows}
 use Rattle.page_decoding.specs.Outcome.{Given}
-use Rattle.flat_values.specs.Arrays.{decoding_by}
 use Rattle.flat_values.specs.ColumnLeft.{ColumnLeft, wanted}
 use Rattle.flat_values.specs.Conversion.{Conversion}
 use Rattle.flat_values.specs.MostBytes.{most_bytes}
@@ -28,7 +27,7 @@ use Rattle.flat_values.specs.Outcomes.{fitted_by, selected_outcomes}
 use Rattle.flat_values.specs.Pairs.{conversion, conversion_at, from_physical, is_repeated}
 use Rattle.flat_binary.specs.Built.{is_dictionary, is_dictionary_at, is_null_at, is_null_type}
 use Rattle.flat_binary.specs.Collected.{AreCollected, Collects}
-use Rattle.flat_binary.specs.Left.{Supply, converted_left, decoded_left}
+use Rattle.flat_binary.specs.Left.{Supply, converted_left}
 use Rattle.flat_binary.specs.PagesWanted.{pages_wanted}
 use Rattle.parquet_scan.specs.Causes.{pair_causes}
 use Rattle.parquet_scan.specs.Decoded.{column_rows, pages_by, pages_for, rows_by}
