@@ -1,26 +1,22 @@
 -- Bounds one after another, each over all groups.
-use Rattle.std.proofs.Common.{◌≡◌, ℕ, zero, suc, ◌+◌, ◌-◌, ◌^◌, ◌<◌, ◌≤◌, Bool, true, false, List, [], ◌∷◌, ◌++◌, length, map, min, take, drop, get_or, set, replicate, Option, Some, None, refl, sym, subst, ◌∙◌, ap, arith, append-nil, append_assoc}
-use Rattle.std.specs.Prelude.{◌&&◌, IfSome, filter_map, nat_le, option_to_list, sum_by, zip}
+use Rattle.std.proofs.Common.{◌≡◌, ℕ, ◌+◌, ◌<◌, ◌≤◌, Bool, true, false, List, [], ◌∷◌, ◌++◌, length, map, take, drop, get_or, set, replicate, Option, Some, None, inl, inr, refl, sym, subst, ◌∙◌, ap, arith, append-nil, append_assoc}
+use Rattle.std.specs.Prelude.{◌&&◌, Contains, filter_map, zip}
 use Rattle.std.specs.List.{cons_option, flat_map, list_all}
 use Rattle.std.specs.Option.{option_map_or}
-use Rattle.std.proofs.lemmas.Bool.Decides.{nat_tests}
 use Rattle.std.proofs.lemmas.Grind.{flat_map-append}
 use Rattle.std.proofs.lemmas.List.{drop-set-lt, drop_all, map-append, take_all, take_more, take_more_set}
-use Rattle.std.proofs.lemmas.List.Elements.{filter_map-append}
-use Rattle.std.proofs.lemmas.List.Sums.{sum_by-append}
-use Rattle.columns_core.specs.Causes.{Cause, Overflow, unless}
+use Rattle.std.proofs.lemmas.List.Elements.{Contains-push_cases, filter_map-append}
+use Rattle.columns_core.specs.Causes.{Cause, IsOneOf, Overflow, cause_of, unless}
 use Rattle.columns_core.specs.declared.cell.Cell.{Cell}
-use Rattle.columns_core.specs.declared.data_type.DataType.{DataType, out-DataType}
-use Rattle.columns_core.specs.declared.data_type.DataType.TheOpen.{DataType-F}
 use Rattle.columns_core.specs.declared.data_type.Field.{Field}
 use Rattle.columns_core.specs.declared.error.Error.{Error}
-use Rattle.columns_core.specs.Types.{Layer}
-use Rattle.page_decoding.specs.Bytes.{fits_most}
-use Rattle.flat_values.specs.MostBytes.{most_bytes, most_bytes_at}
 use Rattle.parquet_meta.specs.declared.metadata.Ends.{Ends}
 use Rattle.parquet_meta.specs.declared.metadata.RowGroupMetaData.{RowGroupMetaData}
-use Rattle.column_ends.specs.Converted.{array_causes, end_bytes, group_array_causes, high_of, low_of}
-use Rattle.column_ends.specs.Counted.{capped, count_of, counted, fit}
+use Rattle.page_decoding.proofs.NextLemmas.{nothing_wrong}
+use Rattle.parquet_page.proofs.SpelledLemmas.{none_of}
+use Rattle.column_ends.specs.Converted.{group_array_causes, high_of, low_of}
+use Rattle.column_ends.specs.Counted.{count_of, counted, fit}
+use Rattle.column_ends.proofs.CountLemmas.{counted-more, fit-ok, unfit-told}
 use Rattle.parquet_scan.specs.declared.bound.Bound.{Bound}
 use Rattle.parquet_scan.specs.Causes.{array_causes_of_bound, bounded_cells, bounded_causes_of_group, causes_of_bound}
 use Rattle.parquet_scan.specs.Counting.{causes_of_bytes, counts_by, with_ends}
@@ -85,20 +81,12 @@ nothing_more f xs i x h at none own =
 
 -- ---- the bytes of ends
 
-capped_more : (a b : ℕ) → capped (capped a + b) ≡ capped (a + b)
-capped_more a b = omega arith
-
-sum_more : (ends : List (Option Cell)) (end : Option Cell) → capped (capped (sum_by end_bytes ends) + end_bytes end) ≡ capped (sum_by end_bytes (ends ++ end ∷ []))
-sum_more ends end =
-    capped_more (sum_by end_bytes ends) (end_bytes end)
-    ∙ ap capped (omega (arith, sum_by-append end_bytes ends (end ∷ [])))
-
 abbrev pub bytes_of : List (Ends Cell) → ℕ × ℕ
 bytes_of ends = count_of (map low_of ends) (map high_of ends)
 
 one_counted : (all : List (Ends Cell)) (ends : Ends Cell) → counted (bytes_of all) ends.min_value ends.max_value ≡ bytes_of (all ++ ends ∷ [])
 one_counted all ends =
-    (λ i. (sum_more (map low_of all) ends.min_value i, sum_more (map high_of all) ends.max_value i))
+    counted-more (map low_of all) (map high_of all) ends.min_value ends.max_value
     ∙ (λ i. count_of (sym (map-append low_of all (ends ∷ [])) i) (sym (map-append high_of all (ends ∷ [])) i))
 
 with_one : (all : List (Ends Cell)) (o : Option (Ends Cell)) → with_ends (bytes_of all) o ≡ bytes_of (all ++ cons_option o [])
@@ -117,34 +105,14 @@ bytes_more f groups i group before now h at are e =
 
 -- ---- whether they fit
 
--- no type has place for the greatest count
-small_most : (layer : Layer) → IfSome (most_bytes_at layer) (λ most. most < 2 ^ 64 - 1)
-small_most DataType-F.Utf8 = omega arith
-small_most DataType-F.Binary = omega arith
-small_most DataType-F.LargeUtf8 = omega arith
-small_most DataType-F.LargeBinary = omega arith
-small_most _ = tt
-
-fits_capped : (most : Option ℕ) (n : ℕ) → IfSome most (λ most. most < 2 ^ 64 - 1) → fits_most most (capped n) ≡ fits_most most n
-fits_capped None n small = refl
-fits_capped (Some most) n small = grind (arith, nat_tests)
-
-fit_same : (field : Field) (cells : List (Ends Cell)) (side : Ends Cell → Option Cell) → fits_most (most_bytes (bound_type field)) (capped (sum_by end_bytes (map side cells))) ≡ fits_most (most_bytes (bound_type field)) (sum_by end_bytes (map side cells))
-fit_same field cells side = fits_capped (most_bytes (bound_type field)) (sum_by end_bytes (map side cells)) (small_most (out-DataType (bound_type field)))
-
--- what is wrong with two sides is wrong with one of them
-abbrev of_sides : Bool → Bool → List Cause
-of_sides low high = unless low Overflow ++ unless high Overflow
-
-sides_fit : (low high : Bool) → unless (low && high) Overflow ≡ [] → of_sides low high ≡ []
-sides_fit true true none = refl
-sides_fit true false none = none
-sides_fit false high none = absurd cc
-
-sides_tell : (low high : Bool) (e : Error) → TellsOf (unless (low && high) Overflow) e → TellsOf (of_sides low high) e
-sides_tell true true e tells = tells
-sides_tell true false e tells = tells
-sides_tell false high e tells = tells_left (Overflow ∷ []) (unless high Overflow) e tells
+-- where they do not, an error tells of it
+too_many : (causes : List Cause) (o : Option Cause) → Contains causes Overflow → IsOneOf (Overflow ∷ []) o → IsOneOf causes o
+too_many causes None has one = one
+too_many causes (Some cause) has one =
+    elim (Contains-push_cases [] Overflow cause one) [
+      | inl none ↦ absurd (nothing_wrong (Some cause) none)
+      | inr same ↦ subst (Contains causes) same has
+    ]
 
 module _ (fields : List Field) (bound : Bound) (cells : List (Ends Cell)) where
   abbrev counted_causes : Option Field → List Cause
@@ -153,20 +121,21 @@ module _ (fields : List Field) (bound : Bound) (cells : List (Ends Cell)) where
   abbrev side_causes : Option Field → List Cause
   side_causes field = option_map_or (λ (field : Field). group_array_causes (bound_type field) cells) field []
 
-  of_field : (field : Field) → side_causes (Some field) ≡ of_sides (fits_most (most_bytes (bound_type field)) (capped (sum_by end_bytes (map low_of cells)))) (fits_most (most_bytes (bound_type field)) (capped (sum_by end_bytes (map high_of cells))))
-  of_field field = λ i. of_sides (sym (fit_same field cells low_of) i) (sym (fit_same field cells high_of) i)
-
   pub bytes_fit : causes_of_bytes (bytes_of cells) fields bound ≡ [] → side_causes (field_of fields bound) ≡ []
   bytes_fit = by (field_of fields bound) where
     by : (field : Option Field) → counted_causes field ≡ [] → side_causes field ≡ []
     by None none = refl
-    by (Some field) none = of_field field ∙ sides_fit _ _ none
+    by (Some field) none = fit-ok (bound_type field) (map low_of cells) (map high_of cells) (none_of _ Overflow none)
 
   pub bytes_tell : (e : Error) → TellsOf (causes_of_bytes (bytes_of cells) fields bound) e → TellsOf (side_causes (field_of fields bound)) e
   bytes_tell e = by (field_of fields bound) where
     by : (field : Option Field) → TellsOf (counted_causes field) e → TellsOf (side_causes field) e
     by None tells = tells
-    by (Some field) tells = subst (λ causes. TellsOf causes e) (sym (of_field field)) (sides_tell _ _ e tells)
+    by (Some field) (inl memory) = inl memory
+    by (Some field) (inr one) = told (fit (bound_type field) (bytes_of cells)) refl one where
+      told : (b : Bool) → fit (bound_type field) (bytes_of cells) ≡ b → IsOneOf (unless b Overflow) (cause_of e) → TellsOf (side_causes (Some field)) e
+      told true fits one = absurd (nothing_wrong (cause_of e) one)
+      told false fits one = inr (too_many (side_causes (Some field)) (cause_of e) (unfit-told (bound_type field) (map low_of cells) (map high_of cells) fits) one)
 
 -- ---- one bound
 

@@ -21,7 +21,6 @@ use Rattle.parquet_meta.proofs.FileRows.{few_rows}
 use Rattle.parquet_meta.specs.declared.metadata.FileMetaData.{FileMetaData}
 use Rattle.parquet_meta.specs.declared.metadata.RowGroupMetaData.{RowGroupMetaData}
 use Rattle.parquet_page.specs.Values.{all_some}
-use Rattle.parquet_page.proofs.SpelledLemmas.{none_of}
 use Rattle.parquet_scan.specs.Causes.{causes, causes_of_group, file_causes, index_causes, index_causes_of_group, metadata_causes, read_causes, IsValid}
 use Rattle.parquet_scan.specs.Cells.{columns_of, given_chunks, group_chunks}
 use Rattle.parquet_scan.specs.Counting.{are_pruned, are_shaped, causes_of_groups, chunks_of_groups, given_of_groups, index_causes_of_groups, is_read, is_shaped, kept_of_groups, rows_of_groups, shown}

@@ -1,6 +1,6 @@
 -- The column index of one column, and the ends that it tells.
-use Rattle.std.proofs.Common.{◌≡◌, ℕ, Bool, true, false, cond, List, [], ◌∷◌, ◌++◌, length, map, Option, Some, None, refl, sym, subst, ◌∙◌, ap, arith, eq-eqb, inr}
-use Rattle.std.specs.Prelude.{◌&&◌, ◌||◌, ◌==◌, IfSome, Result, Err, is_none, is_some, nat_eq, option_map, unwrap_or}
+use Rattle.std.proofs.Common.{◌≡◌, ℕ, Bool, true, false, cond, List, [], ◌∷◌, ◌++◌, length, map, Option, Some, None, refl, sym, subst, ◌∙◌, ap, arith, inr}
+use Rattle.std.specs.Prelude.{◌&&◌, ◌||◌, ◌==◌, IfSome, Result, Err, is_none, is_some, nat_eq, option_map}
 use Rattle.std.specs.Cmp.Lexicographic.{pointwise, same_text}
 use Rattle.std.specs.List.{list_all}
 use Rattle.std.specs.Option.{option_map_or}
@@ -29,12 +29,12 @@ use Rattle.flat_values.specs.Conversion.{Conversion}
 use Rattle.flat_values.specs.Pairs.{page_conversion, page_end_at, page_from_physical}
 use Rattle.column_ends.specs.Converted.{causes_of_index, cell_page, index_cells, index_rule}
 use Rattle.column_ends.specs.Told.{stored_pages}
-use Rattle.parquet_scan.specs.Pages.{column_index_causes, count_causes, ends_of_page, page_ends}
+use Rattle.parquet_scan.specs.Pages.{column_index_causes, count_causes}
 use Rattle.parquet_scan.specs.Request.{begins, is_first}
 use Rattle.parquet_scan.specs.Scan.{FailsBy}
 use Rattle.parquet_scan.proofs.CauseLemmas.{TellsOf, tells_left, tells_right}
 use Rattle.parquet_scan.proofs.LocationLemmas.{one_of}
-use Rattle.parquet_scan.proofs.ScanLemmas.{fails_telling, none_as}
+use Rattle.parquet_scan.proofs.ScanLemmas.{fails_telling}
 
 -- ---- the one column of a name
 

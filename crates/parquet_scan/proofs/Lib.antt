@@ -6,7 +6,6 @@ pub mod ClippedLemmas
 pub mod ColumnLemmas
 pub mod CostLemmas
 pub mod DecodeLemmas
-pub mod EndTypes
 pub mod Exact
 pub mod ExactCounts
 pub mod Examples

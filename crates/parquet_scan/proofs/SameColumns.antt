@@ -14,7 +14,7 @@ use Rattle.parquet_base.proofs.SegmentLemmas.{holds_inside}
 use Rattle.parquet_base.specs.Reading.{◌>>=◌, given}
 use Rattle.parquet_base.specs.declared.interval.Interval.{Interval}
 use Rattle.parquet_meta.specs.Chunks.{chunk_causes, chunk_place}
-use Rattle.parquet_meta.specs.Indexes.{index_at, index_in, locations_at, raw_index, type_of}
+use Rattle.parquet_meta.specs.Indexes.{index_at, index_in, locations_at, type_of}
 use Rattle.parquet_meta.specs.OffsetIndex.{locations_in}
 use Rattle.parquet_meta.specs.Places.{after, bytes_at, lies_in, part_at, within}
 use Rattle.parquet_meta.specs.declared.metadata.ColumnChunkMetaData.{ColumnChunkMetaData}

@@ -1,6 +1,6 @@
 -- What is compared of a field is of one kind: its items, the ends that are known of them, and those of its bounds.
 use Rattle.std.proofs.Common.{◌≡◌, ℕ, zero, suc, ℤ, ◌-◌, Bool, true, false, List, [], ◌∷◌, ◌++◌, length, map, refl, ◌∙◌, sym, ap}
-use Rattle.std.specs.Prelude.{Option, Some, None, IfSome, ◌&&◌, ◌==◌, find, is_some, nat_lt, option_and_then, option_map, slice_get, unwrap_or, if◌then◌else◌}
+use Rattle.std.specs.Prelude.{Option, Some, None, IfSome, ◌&&◌, find, is_some, nat_lt, option_and_then, option_map, slice_get, unwrap_or, if◌then◌else◌}
 use Rattle.std.specs.List.{AllByRecursion, list_all}
 use Rattle.std.specs.Option.{option_map_or}
 use Rattle.std.proofs.lemmas.Bool.{false≢true, and_parts, cond-true, eqb-true}
@@ -28,20 +28,21 @@ use Rattle.flat_values.specs.Conversion.{Conversion, Item, Value, NotInRange, No
 use Rattle.flat_values.specs.Sound.{is_item_of}
 use Rattle.flat_values.proofs.PageLemmas.{page_has_type}
 use Rattle.column_ends.specs.Converted.{as_cell, causes_of_index, cell_page, group_cells, index_cells, index_rule}
+use Rattle.column_ends.specs.Laws.{AreEndsOf, IsEndOf}
 use Rattle.column_ends.specs.Told.{stored_pages}
+use Rattle.column_ends.proofs.EndTypes.{group_ends_have_type, page_ends_have_type}
 use Rattle.parquet_scan.specs.declared.bound.Bound.{Bound}
 use Rattle.parquet_scan.specs.declared.bound.Scalar.{Scalar}
 use Rattle.parquet_scan.specs.Bound.{KnownEnds}
 use Rattle.parquet_scan.specs.Cells.{Reading, cell, column_cell, column_item, content_of, dictionary_content, is_null_type, item_at, item_in, items_in, rows_of, walked_item, walked_pages, walked_reading}
-use Rattle.parquet_scan.specs.Pages.{column_cells, column_index_causes, count_causes, ends_of_page, locations, page_ends}
+use Rattle.parquet_scan.specs.Pages.{column_index_causes, count_causes, ends_of_page, locations, page_ends}
 use Rattle.parquet_scan.specs.Request.{are_values_of, bound_type, is_value_of}
 use Rattle.parquet_scan.specs.Rows.{column_named}
 use Rattle.parquet_scan.specs.Statistics.{group_ends, known_ends, known_value, unknown}
 use Rattle.parquet_scan.specs.Truth.{items_of}
-use Rattle.parquet_scan.proofs.EndTypes.{AreOf, IsOf, group_typed, pages_typed}
 use Rattle.parquet_scan.proofs.Exact.{IsItemIn, kind-bytes, kind-int, kind-of_value, kind_at}
 use Rattle.parquet_scan.proofs.Order.{kind}
-use Rattle.parquet_scan.proofs.SoundLists.{all_found, and_then_all, append_nil, nothing_next}
+use Rattle.parquet_scan.proofs.SoundLists.{all_found, and_then_all, append_nil}
 
 -- a value of the kind that a type's values have
 abbrev pub IsKind : DataType → Scalar → Type 0
@@ -144,7 +145,7 @@ module _ (data_type : DataType) (ordered : is_ordered data_type ≡ true) where
   value_kind : (item : Cell) → is_cell_of data_type item ≡ true → IsItem data_type item
   value_kind item of_type = cell_kind (out-DataType data_type) item ordered (sym (ap (λ own. is_cell_at (out-DataType own) item) own) ∙ of_type)
 
-  end_kind : (end : Option Cell) → IsOf data_type end → IfSome (known_value end) (IsKind data_type)
+  end_kind : (end : Option Cell) → IsEndOf data_type end → IfSome (known_value end) (IsKind data_type)
   end_kind None of_type = tt
   end_kind (Some Null) of_type = tt
   end_kind (Some (Truth b)) of_type = tt
@@ -158,18 +159,25 @@ module _ (data_type : DataType) (ordered : is_ordered data_type ≡ true) where
     by : (o : Option (Ends Cell)) → group_cells data_type column ≡ o → AreKind data_type (option_map_or known_ends o unknown)
     by None e = (tt, tt)
     by (Some ends) e =
-        let typed = group_typed data_type column ends own e in
+        let typed = group_ends_have_type data_type column ends own e in
         (end_kind ends.min_value typed.0, end_kind ends.max_value typed.1)
 
-  each_kind : (pages : List (PageIndex Cell)) → AllByRecursion (AreOf data_type) pages → AllByRecursion (AreKind data_type) (map ends_of_page pages)
+  each_kind : (pages : List (PageIndex Cell)) → AllByRecursion (AreEndsOf data_type) pages → AllByRecursion (AreKind data_type) (map ends_of_page pages)
   each_kind [] typed = tt
   each_kind (page ∷ pages) typed = ((end_kind page.min typed.0.0, end_kind page.max typed.0.1), each_kind pages typed.1)
 
   pub page_ends_are_of_kind : (bytes : List ℕ) (column : ColumnChunkMetaData) → AllByRecursion (AreKind data_type) (page_ends data_type bytes column)
-  page_ends_are_of_kind bytes column = by (column_cells data_type bytes column) refl where
-    by : (o : Option (List (PageIndex Cell))) → column_cells data_type bytes column ≡ o → AllByRecursion (AreKind data_type) (map ends_of_page (unwrap_or o []))
+  page_ends_are_of_kind bytes column = by (raw_index bytes column) refl where
+    stored : PrimitiveType
+    stored = column.descriptor.primitive_type
+
+    found : (index : Index) (o : Option (List (PageIndex Cell))) → raw_index bytes column ≡ Some index → index_cells stored data_type index ≡ o → AllByRecursion (AreKind data_type) (map ends_of_page (unwrap_or o []))
+    found index None is e = tt
+    found index (Some pages) is e = each_kind pages (page_ends_have_type data_type bytes column index pages own is e)
+
+    by : (o : Option Index) → raw_index bytes column ≡ o → AllByRecursion (AreKind data_type) (map ends_of_page (unwrap_or (o >>= index_cells stored data_type) []))
     by None e = tt
-    by (Some pages) e = each_kind pages (pages_typed data_type bytes column pages own e)
+    by (Some index) e = found index (index_cells stored data_type index) e refl
 
 -- an index without a cause tells of each location
 each_told : (rule : Option Conversion) (index : Option Index) (count : ℕ) (causes : Index → List Cause)

@@ -32,7 +32,7 @@ loop-bound-preserved c =
     let now = c.rule_out.new.counts in
     let counts = c.loop-bound.invariant.counts in
     let long : length now ≡ c.loop-bound.counts.len =
-        omega (arith, c.rule_out.ensures.length, c.deref_mut.ensures.len, ap length c.deref_mut.ensures.value, ap length counts, length-map groups (λ group. list_all (group_keeps fields group) (take i bounds))) in
+    omega (arith, c.rule_out.ensures.length, c.deref_mut.ensures.len, ap length c.deref_mut.ensures.value, ap length counts, length-map groups (λ group. list_all (group_keeps fields group) (take i bounds))) in
     record {
       none = nothing_more (causes_of_bound fields groups) bounds i bound c.loop-bound-test.true c.bound-item.is c.loop-bound.invariant.none c.in_ok-rule_out.ensures.ok;
       counts = take_at now (drop (length now) c.loop-bound.counts.items) c.loop-bound.counts.len long

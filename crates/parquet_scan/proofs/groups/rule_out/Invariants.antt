@@ -1,4 +1,4 @@
-use Rattle.std.proofs.Common.{◌≡◌, ◌++◌, [], drop, length, map, take}
+use Rattle.std.proofs.Common.{◌≡◌, ◌++◌, [], drop, map, take}
 use Rattle.std.specs.Prelude.{filter_map, zip}
 use Rattle.std.specs.List.{flat_map}
 use Rattle.parquet_scan.specs.Causes.{bounded_causes_of_group, bounded_cells}

@@ -1,7 +1,6 @@
 use Rattle.std.proofs.Common.{Bor, ◌∙◌, List, length, map, ap, sym}
 use Rattle.std.specs.Prelude.{option_map}
 use Rattle.std.proofs.lemmas.Result.{err_from_is_err_and}
-
 use Rattle.columns_core.specs.declared.cell.Cell.{Cell}
 use Rattle.columns_core.specs.declared.data_type.DataType.{DataType}
 use Rattle.parquet_meta.specs.declared.metadata.ColumnChunkMetaData.{ColumnChunkMetaData}
