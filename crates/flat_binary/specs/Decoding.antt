@@ -32,7 +32,7 @@ column_outcomes data_type = outcomes_by (key_limit_of data_type)
 abbrev pub column_entries : DataType → Conversion → PhysicalType → DictContent → Result (List Cell) (List Cause)
 column_entries data_type rule physical = fitted_by (most_bytes (value_type data_type)) rule physical
 
--- Arrays of keys have no places of texts.
+-- How a column of a stored type is decoded by a rule. An array of keys has no most bytes of its own.
 abbrev pub column_decoding : PhysicalType → DataType → Conversion → Decoding
 column_decoding physical data_type rule = record {
   entries = column_entries data_type rule physical;

@@ -8,7 +8,7 @@ ghost use Rattle.parquet_page.specs.Lending.{DataPagesAre, has_data_behind};
 ghost use Rattle.flat_values.specs.Arrays.{decoding_by};
 ghost use Rattle.flat_values.specs.Pairs.{from_boolean, from_byte_array, from_fixed, from_int32, from_int64, from_int96, from_physical};
 ghost use Rattle.flat_values.specs.Units.{unit_factor};
-ghost use Rattle.flat_binary.specs.Collected.{Collects, IsNotBuilt};
+ghost use Rattle.flat_binary.specs.Collected.{Collects, IsNotCarried};
 ghost use Rattle.flat_binary.specs.Left.{converted_left, decoded_left, supply_of};
 ghost use Rattle.flat_binary.specs.Paged.{paged_conversion};
 
@@ -52,7 +52,7 @@ pub fn collect_column<I: Pages, L: Ledger>(
         let left = converted_left physical data_type chunk_size num_rows supply rule in
         Collects (λ found. found.0.items) (λ found. found.1) left result steps.old steps.new) }
     ensures refused { let rule = paged_conversion physical (option_copied logical.entry) data_type in
-        rule ≡ None → IsNotBuilt result steps.old steps.new }
+        rule ≡ None → IsNotCarried result steps.old steps.new }
 {
     match &data_type {
         DataType::Dictionary(_, _, _) => collect_dictionary(
@@ -85,7 +85,7 @@ fn collect_flat<I: Pages, L: Ledger>(
         Collects (λ found. found.0.items) (λ found. found.1) left result steps.old steps.new) }
     ensures refused { let unit = option_copied logical.entry in
         let rule = from_physical physical unit (out-DataType data_type) in
-        rule ≡ None → IsNotBuilt result steps.old steps.new }
+        rule ≡ None → IsNotCarried result steps.old steps.new }
 {
     match physical {
         PhysicalType::Boolean => collect_boolean(
@@ -148,7 +148,7 @@ fn collect_boolean<I: Pages, L: Ledger>(
         let left = converted_left Boolean data_type chunk_size num_rows supply rule in
         Collects (λ found. found.0.items) (λ found. found.1) left result steps.old steps.new) }
     ensures refused { let rule = from_boolean (out-DataType data_type) in
-        rule ≡ None → IsNotBuilt result steps.old steps.new }
+        rule ≡ None → IsNotCarried result steps.old steps.new }
 {
     match &data_type {
         DataType::Boolean => {
@@ -182,7 +182,7 @@ fn collect_int32<I: Pages, L: Ledger>(
         let left = converted_left Int32 data_type chunk_size num_rows supply rule in
         Collects (λ found. found.0.items) (λ found. found.1) left result steps.old steps.new) }
     ensures refused { let rule = from_int32 (out-DataType data_type) in
-        rule ≡ None → IsNotBuilt result steps.old steps.new }
+        rule ≡ None → IsNotCarried result steps.old steps.new }
 {
     match &data_type {
         DataType::Int32 | DataType::Date32 | DataType::Time32(_) => {
@@ -238,7 +238,7 @@ fn collect_int64<I: Pages, L: Ledger>(
         let left = converted_left Int64 data_type chunk_size num_rows supply rule in
         Collects (λ found. found.0.items) (λ found. found.1) left result steps.old steps.new) }
     ensures refused { let rule = from_int64 (option_copied logical.entry) (out-DataType data_type) in
-        rule ≡ None → IsNotBuilt result steps.old steps.new }
+        rule ≡ None → IsNotCarried result steps.old steps.new }
 {
     match &data_type {
         DataType::Int64 | DataType::Date64 | DataType::Time64(_) | DataType::Duration(_) => {
@@ -289,7 +289,7 @@ fn collect_int96<I: Pages, L: Ledger>(
         let left = converted_left Int96 data_type chunk_size num_rows supply rule in
         Collects (λ found. found.0.items) (λ found. found.1) left result steps.old steps.new) }
     ensures refused { let rule = from_int96 (out-DataType data_type) in
-        rule ≡ None → IsNotBuilt result steps.old steps.new }
+        rule ≡ None → IsNotCarried result steps.old steps.new }
 {
     match &data_type {
         DataType::Timestamp(unit, _) => {
@@ -319,7 +319,7 @@ fn collect_fixed<I: Pages, L: Ledger>(
         let left = converted_left (FixedLenByteArray length) data_type chunk_size num_rows supply rule in
         Collects (λ found. found.0.items) (λ found. found.1) left result steps.old steps.new) }
     ensures refused { let rule = from_fixed length (out-DataType data_type) in
-        rule ≡ None → IsNotBuilt result steps.old steps.new }
+        rule ≡ None → IsNotCarried result steps.old steps.new }
 {
     match &data_type {
         DataType::FixedSizeBinary(wanted) if 0 < length && length == *wanted => {
@@ -359,7 +359,7 @@ fn collect_byte_array<I: Pages, L: Ledger>(
         let left = converted_left ByteArray data_type chunk_size num_rows supply rule in
         Collects (λ found. found.0.items) (λ found. found.1) left result steps.old steps.new) }
     ensures refused { let rule = from_byte_array (out-DataType data_type) in
-        rule ≡ None → IsNotBuilt result steps.old steps.new }
+        rule ≡ None → IsNotCarried result steps.old steps.new }
 {
     match &data_type {
         DataType::Utf8 => {

@@ -9,7 +9,7 @@ ghost use Rattle.flat_values.specs.Outcomes.{fitted_by};
 ghost use Rattle.flat_values.specs.Pairs.{entry_from_fixed, entry_from_int32, entry_from_int64, entry_from_physical, from_byte_array};
 ghost use Rattle.dictionary_values.specs.DictLeft.{keys_decoding};
 ghost use Rattle.dictionary_values.specs.Keys.{keys_of};
-ghost use Rattle.flat_binary.specs.Collected.{Collects, IsNotBuilt};
+ghost use Rattle.flat_binary.specs.Collected.{Collects, IsNotCarried};
 ghost use Rattle.flat_binary.specs.Left.{converted_left, decoded_left, supply_of};
 ghost use Rattle.flat_binary.specs.Paged.{entry_conversion};
 
@@ -47,7 +47,7 @@ pub(crate) fn collect_dictionary<I: Pages, L: Ledger>(
         let left = converted_left physical data_type chunk_size num_rows supply rule in
         Collects (λ found. found.0.items) (λ found. found.1) left result steps.old steps.new) }
     ensures refused { let table = entry_from_physical physical (option_copied logical.entry) in
-        entry_conversion table data_type ≡ None → IsNotBuilt result steps.old steps.new }
+        entry_conversion table data_type ≡ None → IsNotCarried result steps.old steps.new }
 {
     match physical {
         PhysicalType::Int32 => {
@@ -83,7 +83,7 @@ fn collect_int32_entries<I: Pages, L: Ledger>(
         let left = converted_left Int32 data_type chunk_size num_rows supply rule in
         Collects (λ found. found.0.items) (λ found. found.1) left result steps.old steps.new) }
     ensures refused { let rule = entry_conversion entry_from_int32 data_type in
-        rule ≡ None → IsNotBuilt result steps.old steps.new }
+        rule ≡ None → IsNotCarried result steps.old steps.new }
 {
     let DataType::Dictionary(key, entry, _) = &data_type else {
         return Err(Error::NotYetImplemented(Part::Schema));
@@ -151,7 +151,7 @@ fn collect_int64_entries<I: Pages, L: Ledger>(
         let left = converted_left Int64 data_type chunk_size num_rows supply rule in
         Collects (λ found. found.0.items) (λ found. found.1) left result steps.old steps.new) }
     ensures refused { let table = entry_from_int64 (option_copied logical.entry) in
-        entry_conversion table data_type ≡ None → IsNotBuilt result steps.old steps.new }
+        entry_conversion table data_type ≡ None → IsNotCarried result steps.old steps.new }
 {
     let DataType::Dictionary(key, entry, _) = &data_type else {
         return Err(Error::NotYetImplemented(Part::Schema));
@@ -198,7 +198,7 @@ fn collect_fixed_entries<I: Pages, L: Ledger>(
         let left = converted_left (FixedLenByteArray length) data_type chunk_size num_rows supply rule in
         Collects (λ found. found.0.items) (λ found. found.1) left result steps.old steps.new) }
     ensures refused { let rule = entry_conversion (entry_from_fixed length) data_type in
-        rule ≡ None → IsNotBuilt result steps.old steps.new }
+        rule ≡ None → IsNotCarried result steps.old steps.new }
 {
     let DataType::Dictionary(key, entry, _) = &data_type else {
         return Err(Error::NotYetImplemented(Part::Schema));
@@ -232,7 +232,7 @@ fn collect_byte_array_entries<I: Pages, L: Ledger>(
         let left = converted_left ByteArray data_type chunk_size num_rows supply rule in
         Collects (λ found. found.0.items) (λ found. found.1) left result steps.old steps.new) }
     ensures refused { let rule = entry_conversion from_byte_array data_type in
-        rule ≡ None → IsNotBuilt result steps.old steps.new }
+        rule ≡ None → IsNotCarried result steps.old steps.new }
 {
     let DataType::Dictionary(key, entry, _) = &data_type else {
         return Err(Error::NotYetImplemented(Part::Schema));

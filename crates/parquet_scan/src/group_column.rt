@@ -17,10 +17,10 @@ ghost use Rattle.parquet_scan.specs.Costs.{lent_of_chunk, lent_of_read, taken_of
 ghost use Rattle.parquet_scan.specs.Counting.{AreFirst};
 ghost use Rattle.parquet_scan.specs.Scan.{FailsBy, RisesBy, RisesJustBy};
 
-use crate::built::{check_pair, is_null_type};
 use crate::column::{place_of_chunk, read_chunk};
 use crate::decode::decode_column;
 use crate::located::{count_of_rows, read_located};
+use crate::pairs::{check_pair, is_null_type};
 use columns_core::{Array, DataType, Error, NullArray};
 use parquet_base::{Interval, Steps};
 use parquet_meta::{ColumnChunkMetaData, RowGroupMetaData, Source};

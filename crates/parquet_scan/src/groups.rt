@@ -8,7 +8,7 @@ ghost use Rattle.parquet_scan.specs.Rows as spec;
 
 use crate::Bound;
 use crate::bound::ends_keep;
-use crate::built::check_pair;
+use crate::pairs::check_pair;
 use crate::request::{begins, field_of, value_type};
 use column_ends::{EndBytes, statistics_ends};
 use columns_core::{DataType, Error, Field, Name, Part};

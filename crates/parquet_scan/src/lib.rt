@@ -2,7 +2,6 @@
 #![tactic(auto)]
 
 mod bound;
-mod built;
 mod chunks;
 mod column;
 mod decode;
@@ -14,6 +13,7 @@ pub mod laws;
 mod located;
 mod locations;
 mod page_ends;
+mod pairs;
 mod pruning;
 mod reading;
 mod request;
