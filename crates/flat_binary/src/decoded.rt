@@ -53,10 +53,10 @@ pub(crate) fn keyed_arrays<K: StoredKey, I: Pages, V: IntoEntries + IntoColumn +
     requires size { IsChunkSize chunk_size }
     ensures left { IfOk result (λ arrays.
         let supply = supply_of I.to_come I.causes I.row_count I.lent_count pages in
-        let decode = λ (by : V). keys_decoding (fitted_by (V.most_bytes by) (V.rule by) (V.physical by)) K.key_count in
-        let decode_by = λ (reader : EntriesBy V). decode reader.values in
-        dict_left decode_by I.to_come I.causes I.row_count I.lent_count arrays
-        ≡ decoded_left (decode values) data_type chunk_size num_rows supply) }
+        let entries = λ (by : V). fitted_by (V.most_bytes by) (V.rule by) (V.physical by) in
+        let decode = λ (reader : EntriesBy V). keys_decoding (entries reader.values) K.key_count in
+        dict_left decode I.to_come I.causes I.row_count I.lent_count arrays
+        ≡ decoded_left (keys_decoding (entries values) K.key_count) data_type chunk_size num_rows supply) }
     ensures memory { IfErr result IsWantOfMemory }
 {
     DictIter::of_values(alloc, pages, values, data_type, num_rows, chunk_size)
