@@ -1,4 +1,5 @@
-"""What the inputs of the benchmarks are written with: numbers of several bytes, packed numbers and their runs, and deltas."""
+"""What the inputs of the benchmarks are written with: numbers of several bytes, packed numbers and their runs, deltas, and structs."""
+import struct
 
 
 def varint(n):
@@ -44,3 +45,52 @@ def delta(values):
         for part, width in zip(parts, widths):
             out += packed(part, width)
     return bytes(out)
+
+
+class Struct:
+    """A struct of the compact protocol, its fields in rising order."""
+
+    def __init__(self):
+        self.bytes, self.last = bytearray(), 0
+
+    def head(self, field, kind):
+        self.bytes.append(field - self.last << 4 | kind)
+        self.last = field
+
+    def truth(self, field, value):
+        self.head(field, 1 if value else 2)
+        return self
+
+    def i32(self, field, n):
+        self.head(field, 5)
+        self.bytes += zigzag(n)
+        return self
+
+    def i64(self, field, n):
+        self.head(field, 6)
+        self.bytes += zigzag(n)
+        return self
+
+    def binary(self, field, text):
+        self.head(field, 8)
+        self.bytes += varint(len(text)) + text
+        return self
+
+    def struct(self, field, inner):
+        self.head(field, 12)
+        self.bytes += inner.end()
+        return self
+
+    def list(self, field, kind, items):
+        self.head(field, 9)
+        count = len(items)
+        self.bytes += bytes([count << 4 | kind]) if count < 15 else bytes([240 | kind]) + varint(count)
+        self.bytes += b"".join(items)
+        return self
+
+    def end(self):
+        return bytes(self.bytes) + b"\0"
+
+
+def word(n):
+    return struct.pack("<i", n)

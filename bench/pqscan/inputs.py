@@ -17,7 +17,7 @@ import sys
 
 sys.dont_write_bytecode = True
 sys.path.insert(0, os.path.join(os.path.dirname(os.path.abspath(__file__)), ".."))
-from formats import delta, packed_runs, varint, zigzag
+from formats import Struct, delta, packed_runs, varint, word, zigzag
 
 GROUP, PAGE, ENTRIES = 20_000, 1_000, 1_000
 INT32, BYTE_ARRAY = 1, 6
@@ -26,51 +26,6 @@ PLAIN, DELTA_LENGTH_BYTE_ARRAY, RLE_DICTIONARY = 0, 6, 8
 ODD_LETTERS = 'abcdefghijklm \\"\0\t\n\x1f\x7fäöüß€\u0800\uffff\U00010000\U0010ffff'
 
 draw = random.Random(7)
-
-
-class Struct:
-    """A struct of the compact protocol, its fields in rising order."""
-
-    def __init__(self):
-        self.bytes, self.last = bytearray(), 0
-
-    def head(self, field, kind):
-        self.bytes.append(field - self.last << 4 | kind)
-        self.last = field
-
-    def i32(self, field, n):
-        self.head(field, 5)
-        self.bytes += zigzag(n)
-        return self
-
-    def i64(self, field, n):
-        self.head(field, 6)
-        self.bytes += zigzag(n)
-        return self
-
-    def binary(self, field, text):
-        self.head(field, 8)
-        self.bytes += varint(len(text)) + text
-        return self
-
-    def struct(self, field, inner):
-        self.head(field, 12)
-        self.bytes += inner.end()
-        return self
-
-    def list(self, field, kind, items):
-        self.head(field, 9)
-        count = len(items)
-        self.bytes += bytes([count << 4 | kind]) if count < 15 else bytes([240 | kind]) + varint(count)
-        self.bytes += b"".join(items)
-        return self
-
-    def end(self):
-        return bytes(self.bytes) + b"\0"
-
-
-def word(n):
-    return struct.pack("<i", n)
 
 
 def texts_of(size):

@@ -1,8 +1,9 @@
 //! Cells as text.
-ghost use Rattle.std.specs.Prelude.{◌≡◌, ◌≤◌, ◌++◌, codes, flat_map, length, map, take, IfErr, OnOk};
+ghost use Rattle.std.specs.Prelude.{◌≡◌, ◌<◌, ◌≤◌, ◌++◌, true, codes, flat_map, length, map, take, IfErr, OnOk};
 ghost use Rattle.columns_core.specs.Array.{column_of};
 ghost use Rattle.columns_core.specs.Causes.{IsWantOfMemory};
 ghost use Rattle.columns_core.specs.Column.{cell_of};
+ghost use Rattle.columns_core.specs.Keyed.{named_cells};
 ghost use Rattle.columns_core.specs.declared.cell.Cell.{Bytes, Text};
 ghost use Rattle.pq_common.specs.CellText as spec;
 ghost use Rattle.pq_common.specs.CellText.{cell_text, days_text, hexadecimal, quoted, quoted_byte};
@@ -10,13 +11,48 @@ ghost use Rattle.pq_common.specs.Rows.{cell_at, text_in};
 
 use crate::column::push_number;
 use crate::digits::push_signed;
-use columns_core::{Array, BinaryArray, Cell, Error, Offset, Utf8Array};
+use columns_core::{Array, BinaryArray, Cell, DictionaryArray, Error, Offset, Utf8Array};
 use std::alloc::{AllocError, Global};
 
 const DIGITS: [u8; 16] = *b"0123456789abcdef";
 
+/// How many bytes of a text are compared side by side: in long stretches, and in what is left of one.
+const LONG_BLOCK: usize = 16;
+
+const SHORT_BLOCK: usize = 8;
+
 /// Writes the cell of a column in a row at the end, and nothing where the column has no such row.
 pub fn push_cell(alloc: Global, text: &mut Vec<u8>, array: &Array, row: usize) -> Result<(), Error>
+    ensures cell { OnOk result (text.new.items ≡ text.old.items ++ cell_at row (column_of array.now)) }
+    ensures memory { IfErr result IsWantOfMemory }
+{
+    match array {
+        Array::Dictionary(array) => push_named(alloc, text, array, row),
+        _ => push_value(alloc, text, array, row),
+    }
+}
+
+/// Writes the entry that the key of a row names at the end, where it lies.
+fn push_named(
+    alloc: Global,
+    text: &mut Vec<u8>,
+    array: &DictionaryArray,
+    row: usize,
+) -> Result<(), Error>
+    ensures cell { OnOk result (text.new.items ≡ text.old.items ++ text_in row (named_cells array.now)) }
+    ensures memory { IfErr result IsWantOfMemory }
+{
+    if row >= array.len() {
+        return Ok(());
+    }
+    match array.key(row) {
+        None => Ok(text.extend_from_slice(b"null")?),
+        Some(entry) => push_value(alloc, text, array.values(), entry as usize),
+    }
+}
+
+/// Writes the cell of a row of any array at the end.
+fn push_value(alloc: Global, text: &mut Vec<u8>, array: &Array, row: usize) -> Result<(), Error>
     ensures cell { OnOk result (text.new.items ≡ text.old.items ++ cell_at row (column_of array.now)) }
     ensures memory { IfErr result IsWantOfMemory }
 {
@@ -133,18 +169,45 @@ fn plain_length(bytes: &[u8]) -> usize
     ensures within { result ≤ length bytes.now }
     ensures plain { flat_map quoted_byte (take result bytes.now) ≡ take result bytes.now }
 {
-    let mut count = 0;
+    let long = plain_blocks(bytes, 0, LONG_BLOCK);
+    let mut count = plain_blocks(bytes, long, SHORT_BLOCK);
     while count < bytes.len() && !is_escaped(bytes[count]) {
         count += 1;
     }
     count
 }
 
+/// How many bytes stand for themselves, where the first of them do, and behind them whole blocks.
+fn plain_blocks(bytes: &[u8], plain: usize, block: usize) -> usize
+    requires some { 0 < block }
+    requires held { plain ≤ length bytes.now }
+    requires first { flat_map quoted_byte (take plain bytes.now) ≡ take plain bytes.now }
+    ensures within { result ≤ length bytes.now }
+    ensures plain { flat_map quoted_byte (take result bytes.now) ≡ take result bytes.now }
+{
+    let mut count = plain;
+    while bytes.len() - count >= block && are_plain(&bytes[count..count + block]) {
+        count += block;
+    }
+    count
+}
+
+/// Whether all these bytes stand for themselves. Each is looked at, so that they are compared side by side.
+fn are_plain(bytes: &[u8]) -> bool
+    ensures { result ≡ true → flat_map quoted_byte bytes.now ≡ bytes.now }
+{
+    let mut plain = true;
+    for byte in bytes {
+        plain &= !is_escaped(*byte);
+    }
+    plain
+}
+
 /// Whether a byte of a text is written by its number.
 fn is_escaped(byte: u8) -> bool
     ensures { result ≡ spec.is_escaped byte }
 {
-    byte == b'\\' || byte == b'"' || byte < 32 || byte == 127
+    (byte == b'\\') | (byte == b'"') | (byte < 32) | (byte == 127)
 }
 
 fn push_quoted_byte(text: &mut Vec<u8>, byte: u8) -> Result<(), AllocError>

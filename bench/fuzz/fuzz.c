@@ -1,0 +1,178 @@
+// Runs a program on damaged copies of files: fuzz PROGRAM SEEDS SCRATCH RUNS RANDOM, where SEEDS holds files NAME.parquet with the words of a
+// request in NAME.words, one a line, and SCRATCH is a folder for the damaged file. Each run must end by itself with a status of 0 to 10, within a
+// second, in at most 200 MB, and write nothing unless the status is 0 or 9. What does not is kept in SCRATCH. Prints how often each status came.
+#define _GNU_SOURCE
+#include <dirent.h>
+#include <fcntl.h>
+#include <signal.h>
+#include <spawn.h>
+#include <stdint.h>
+#include <stdio.h>
+#include <stdlib.h>
+#include <string.h>
+#include <sys/resource.h>
+#include <sys/stat.h>
+#include <sys/time.h>
+#include <sys/wait.h>
+#include <unistd.h>
+
+enum { MOST_SEEDS = 256, MOST_WORDS = 16, MOST_BYTES = 1 << 20, MOST_STATUS = 10, MOST_KIB = 200 * 1024, MOST_SECONDS = 1 };
+
+struct seed {
+    char name[256];
+    unsigned char *bytes;
+    size_t length;
+    char *words[MOST_WORDS];
+};
+
+static struct seed seeds[MOST_SEEDS];
+static int seed_count;
+static uint64_t state;
+extern char **environ;
+
+static void fail(const char *what) {
+    perror(what);
+    exit(1);
+}
+
+// xorshift
+static uint64_t draw(uint64_t below) {
+    state ^= state << 13;
+    state ^= state >> 7;
+    state ^= state << 17;
+    return below ? state % below : 0;
+}
+
+static unsigned char *read_all(const char *path, size_t *length) {
+    FILE *file = fopen(path, "rb");
+    if (!file) fail(path);
+    unsigned char *bytes = malloc(MOST_BYTES);
+    *length = fread(bytes, 1, MOST_BYTES, file);
+    fclose(file);
+    return bytes;
+}
+
+static void read_seed(const char *folder, const char *file) {
+    struct seed *seed = &seeds[seed_count++];
+    char path[1024];
+    size_t words;
+    snprintf(seed->name, sizeof seed->name, "%.*s", (int)(strlen(file) - strlen(".parquet")), file);
+    snprintf(path, sizeof path, "%s/%s.parquet", folder, seed->name);
+    seed->bytes = read_all(path, &seed->length);
+    snprintf(path, sizeof path, "%s/%s.words", folder, seed->name);
+    char *text = (char *)read_all(path, &words);
+    text[words] = 0;
+    int count = 2;
+    for (char *word = strtok(text, "\n"); word && count < MOST_WORDS - 1; word = strtok(NULL, "\n")) seed->words[count++] = word;
+}
+
+static int by_name(const void *a, const void *b) { return strcmp(((const struct seed *)a)->name, ((const struct seed *)b)->name); }
+
+// One change: a byte, a bit, a number that is often a border, bytes taken out, put in or exchanged, the end cut off, or the length of the footer.
+static size_t damage(unsigned char *bytes, size_t length) {
+    static const unsigned char borders[] = {0, 1, 2, 0x7e, 0x7f, 0x80, 0x81, 0xfe, 0xff};
+    if (length < 16) return length;
+    size_t at = draw(length), size = 1 + draw(16), other;
+    switch (draw(9)) {
+    case 0: bytes[at] = (unsigned char)draw(256); break;
+    case 1: bytes[at] ^= (unsigned char)(1u << draw(8)); break;
+    case 2: bytes[at] = borders[draw(sizeof borders)]; break;
+    case 3: bytes[at] += draw(2) ? 1 : 255; break;
+    case 4:
+        if (at + size > length) break;
+        memmove(bytes + at, bytes + at + size, length - at - size);
+        return length - size;
+    case 5:
+        if (length + size > MOST_BYTES) break;
+        memmove(bytes + at + size, bytes + at, length - at);
+        for (size_t i = 0; i < size; i++) bytes[at + i] = (unsigned char)draw(256);
+        return length + size;
+    case 6:
+        other = draw(length);
+        if (at + size > length || other + size > length) break;
+        for (size_t i = 0; i < size; i++) {
+            unsigned char kept = bytes[at + i];
+            bytes[at + i] = bytes[other + i];
+            bytes[other + i] = kept;
+        }
+        break;
+    case 7: return draw(8) ? length : at;
+    default: bytes[length - 8 + draw(4)] = (unsigned char)draw(256); break;
+    }
+    return length;
+}
+
+int main(int argc, char **argv) {
+    if (argc != 6) {
+        fprintf(stderr, "usage: fuzz PROGRAM SEEDS SCRATCH RUNS RANDOM\n");
+        return 2;
+    }
+    const char *program = argv[1], *scratch = argv[3];
+    long runs = atol(argv[4]), statuses[MOST_STATUS + 1] = {0}, most_kib = 0, bad = 0;
+    double longest = 0;
+    state = 0x9e3779b97f4a7c15u ^ (uint64_t)atol(argv[5]) * 0xbf58476d1ce4e5b9u;
+    DIR *folder = opendir(argv[2]);
+    if (!folder) fail(argv[2]);
+    for (struct dirent *entry; (entry = readdir(folder)) && seed_count < MOST_SEEDS;)
+        if (strstr(entry->d_name, ".parquet")) read_seed(argv[2], entry->d_name);
+    qsort(seeds, (size_t)seed_count, sizeof *seeds, by_name);
+    char path[1024], output[1024], kept[1024];
+    snprintf(path, sizeof path, "%s/damaged.parquet", scratch);
+    snprintf(output, sizeof output, "%s/output", scratch);
+    // A program that does not end is ended.
+    struct rlimit time = {2, 2};
+    setrlimit(RLIMIT_CPU, &time);
+    unsigned char *bytes = malloc(MOST_BYTES);
+    for (long run = 0; run < runs; run++) {
+        struct seed *seed = &seeds[draw((uint64_t)seed_count)];
+        size_t length = seed->length;
+        memcpy(bytes, seed->bytes, length);
+        // (the first runs are on the files as they are)
+        int changes = run < seed_count ? 0 : 1 + (int)draw(4);
+        if (run < seed_count) {
+            seed = &seeds[run];
+            length = seed->length;
+            memcpy(bytes, seed->bytes, length);
+        }
+        while (changes-- > 0) length = damage(bytes, length);
+        int file = open(path, O_WRONLY | O_CREAT | O_TRUNC, 0644);
+        if (file < 0 || write(file, bytes, length) != (ssize_t)length) fail(path);
+        close(file);
+        seed->words[0] = (char *)program;
+        seed->words[1] = path;
+        posix_spawn_file_actions_t actions;
+        posix_spawn_file_actions_init(&actions);
+        posix_spawn_file_actions_addopen(&actions, 1, output, O_WRONLY | O_CREAT | O_TRUNC, 0644);
+        posix_spawn_file_actions_addopen(&actions, 2, "/dev/null", O_WRONLY, 0644);
+        pid_t child;
+        struct timeval begun, ended;
+        gettimeofday(&begun, NULL);
+        if (posix_spawn(&child, program, &actions, NULL, seed->words, environ)) fail(program);
+        posix_spawn_file_actions_destroy(&actions);
+        int status;
+        struct rusage used;
+        if (wait4(child, &status, 0, &used) != child) fail("wait4");
+        gettimeofday(&ended, NULL);
+        double seconds = (double)(used.ru_utime.tv_sec + used.ru_stime.tv_sec) + (double)(used.ru_utime.tv_usec + used.ru_stime.tv_usec) / 1e6;
+        struct stat written;
+        stat(output, &written);
+        int code = WIFEXITED(status) ? WEXITSTATUS(status) : -1;
+        if (seconds > longest) longest = seconds;
+        if (used.ru_maxrss > most_kib) most_kib = used.ru_maxrss;
+        int is_whole = run >= seed_count || code == 0;
+        int is_silent = code == 0 || code == 9 || written.st_size == 0;
+        if (code < 0 || code > MOST_STATUS || code == 1 || seconds > MOST_SECONDS || used.ru_maxrss > MOST_KIB || !is_silent || !is_whole) {
+            bad++;
+            snprintf(kept, sizeof kept, "%s/bad-%ld-%s.parquet", scratch, run, seed->name);
+            rename(path, kept);
+            printf("run %ld of %s: status %d, %.3f s, %ld KiB, %ld bytes written: %s\n", run, seed->name, code, seconds, used.ru_maxrss, (long)written.st_size, kept);
+            continue;
+        }
+        statuses[code]++;
+    }
+    printf("%ld runs on %d files:", runs, seed_count);
+    for (int code = 0; code <= MOST_STATUS; code++)
+        if (statuses[code]) printf(" status %d %ld,", code, statuses[code]);
+    printf(" at most %.3f s and %ld KiB, %ld not as promised\n", longest, most_kib, bad);
+    return bad != 0;
+}

@@ -1,0 +1,2 @@
+mod PageMapLemmas
+mod RowLemmas
