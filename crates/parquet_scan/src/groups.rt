@@ -92,7 +92,8 @@ fn rule_out(
     counts: &mut [bool],
 ) -> Result<(), Error>
     requires { length counts.old ≡ length groups.now }
-    ensures counts { OnOk result (counts.new ≡ map (counts_by fields.now bound.now) (zip groups.now counts.old)) }
+    ensures counts { OnOk result (counts.new
+        ≡ map (counts_by fields.now bound.now) (zip groups.now counts.old)) }
     ensures length { length counts.new ≡ length groups.now }
     ensures ok { OnOk result (causes_of_bound fields.now groups.now bound.now ≡ []) }
     ensures cause { ComesOf result (causes_of_bound fields.now groups.now bound.now) }
@@ -122,7 +123,8 @@ fn group_keeps(
     ensures keeps { IfOk result (λ keeps. keeps ≡ spec.group_keeps fields.now group.now bound.now) }
     ensures ok { OnOk result (bounded_causes_of_group fields.now bound.now group.now ≡ []) }
     ensures cause { ComesOf result (bounded_causes_of_group fields.now bound.now group.now) }
-    ensures bytes { OnOk result (bytes.new ≡ with_ends bytes.old (bounded_cells fields.now bound.now group.now)) }
+    ensures bytes { OnOk result (bytes.new
+        ≡ with_ends bytes.old (bounded_cells fields.now bound.now group.now)) }
 {
     match bounded_column(group, fields, bound) {
         None => Ok(false),
@@ -142,7 +144,8 @@ pub(crate) fn bounded_column<'a>(
     fields: &'a [Field],
     bound: &Bound,
 ) -> Option<(&'a DataType, &'a ColumnChunkMetaData)>
-    ensures { option_map (λ typed. (typed.0.now, typed.1.now)) result ≡ spec.bounded_column fields.now group.now bound.now }
+    ensures { option_map (λ typed. (typed.0.now, typed.1.now)) result
+        ≡ spec.bounded_column fields.now group.now bound.now }
 {
     let field = field_of(bound, fields)?;
     let column = column_named(group, &bound.field)?;
@@ -192,7 +195,8 @@ fn have_indexes(
     bounds: &[Bound],
 ) -> bool
     requires { length counts.now ≡ length groups.now }
-    ensures { result ≡ list_all (has_indexes_if_counting_by bounds.now fields.now) (zip groups.now counts.now) }
+    ensures { result
+        ≡ list_all (has_indexes_if_counting_by bounds.now fields.now) (zip groups.now counts.now) }
 {
     for i in 0..groups.len() {
         if !has_indexes_if_counting(&groups[i], counts[i], fields, bounds) {

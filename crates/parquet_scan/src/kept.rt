@@ -30,14 +30,20 @@ pub(crate) fn kept_groups<S: Source>(
     requires lengths { length counts.now ≡ length groups.now }
     requires legal { list_all (is_legal_bound_of fields.now) bounds.now ≡ true }
     ensures keeps { Keeps S.Source source.old source.new }
-    ensures ok { OnOk result (IfSome (S.told source.old) (λ bytes. index_causes_of_groups by_pages fields.now bounds.now bytes groups.now counts.now ≡ [])) }
-    ensures fails { IfErr result (FailsBy (S.told source.old) (S.faults source.old) (S.faults source.new) (λ bytes. index_causes_of_groups by_pages fields.now bounds.now bytes groups.now counts.now)) }
-    ensures kept { IfOk result (λ kept. IfSome (S.told source.old) (λ bytes. kept.items ≡ kept_of_groups by_pages fields.now bounds.now bytes groups.now counts.now)) }
+    ensures ok { OnOk result (IfSome (S.told source.old) (λ bytes.
+        index_causes_of_groups by_pages fields.now bounds.now bytes groups.now counts.now ≡ [])) }
+    ensures fails { IfErr result (
+        FailsBy (S.told source.old) (S.faults source.old) (S.faults source.new) (λ bytes.
+        index_causes_of_groups by_pages fields.now bounds.now bytes groups.now counts.now)) }
+    ensures kept { IfOk result (λ kept. IfSome (S.told source.old) (λ bytes.
+        kept.items ≡ kept_of_groups by_pages fields.now bounds.now bytes groups.now counts.now)) }
     ensures rows { IfOk result (λ kept.
         map (λ group. group.rows) kept.items ≡ map (λ (group : RowGroup). group.num_rows) groups.now) }
     ensures apart { IfOk result (λ kept. All IsApart kept.items) }
-    ensures first { IfOk result (λ kept. All (λ (group : Kept). AreFirst by_pages group.intervals) kept.items) }
-    ensures taken { OnOk result (S.taken source.new ≤ S.taken source.old + indexes_taken_of_groups by_pages fields.now bounds.now groups.now counts.now) }
+    ensures first { IfOk result (λ kept.
+        All (λ (group : Kept). AreFirst by_pages group.intervals) kept.items) }
+    ensures taken { OnOk result (S.taken source.new ≤ S.taken source.old
+        + indexes_taken_of_groups by_pages fields.now bounds.now groups.now counts.now) }
 {
     let mut kept = Vec::new(alloc);
     for i in 0..groups.len() {
@@ -59,13 +65,18 @@ fn kept_group<S: Source>(
 ) -> Result<GroupKept, Error>
     requires legal { list_all (is_legal_bound_of fields.now) bounds.now ≡ true }
     ensures keeps { Keeps S.Source source.old source.new }
-    ensures ok { OnOk result (IfSome (S.told source.old) (λ bytes. index_causes_if by_pages fields.now bounds.now bytes (group.now, counts) ≡ [])) }
-    ensures fails { IfErr result (FailsBy (S.told source.old) (S.faults source.old) (S.faults source.new) (λ bytes. index_causes_if by_pages fields.now bounds.now bytes (group.now, counts))) }
-    ensures kept { IfOk result (λ kept. IfSome (S.told source.old) (λ bytes. kept ≡ kept_if by_pages fields.now bounds.now bytes (group.now, counts))) }
+    ensures ok { OnOk result (IfSome (S.told source.old) (λ bytes.
+        index_causes_if by_pages fields.now bounds.now bytes (group.now, counts) ≡ [])) }
+    ensures fails { IfErr result (
+        FailsBy (S.told source.old) (S.faults source.old) (S.faults source.new) (λ bytes.
+        index_causes_if by_pages fields.now bounds.now bytes (group.now, counts))) }
+    ensures kept { IfOk result (λ kept. IfSome (S.told source.old) (λ bytes.
+        kept ≡ kept_if by_pages fields.now bounds.now bytes (group.now, counts))) }
     ensures rows { IfOk result (λ kept. kept.rows ≡ group.now.num_rows) }
     ensures apart { IfOk result IsApart }
     ensures first { IfOk result (λ kept. AreFirst by_pages kept.intervals) }
-    ensures taken { OnOk result (S.taken source.new ≤ S.taken source.old + indexes_taken by_pages fields.now bounds.now (group.now, counts)) }
+    ensures taken { OnOk result (S.taken source.new ≤ S.taken source.old
+        + indexes_taken by_pages fields.now bounds.now (group.now, counts)) }
 {
     let intervals = kept_runs(alloc, source, group, counts, by_pages, fields, bounds)?;
     Ok(GroupKept {
@@ -86,12 +97,18 @@ fn kept_runs<S: Source>(
 ) -> Result<Vec<Interval>, Error>
     requires legal { list_all (is_legal_bound_of fields.now) bounds.now ≡ true }
     ensures keeps { Keeps S.Source source.old source.new }
-    ensures ok { OnOk result (IfSome (S.told source.old) (λ bytes. index_causes_if by_pages fields.now bounds.now bytes (group.now, counts) ≡ [])) }
-    ensures fails { IfErr result (FailsBy (S.told source.old) (S.faults source.old) (S.faults source.new) (λ bytes. index_causes_if by_pages fields.now bounds.now bytes (group.now, counts))) }
-    ensures kept { IfOk result (λ runs. IfSome (S.told source.old) (λ bytes. runs.items ≡ maximal_runs (λ row. counts && pages_keep by_pages fields.now bounds.now bytes group.now row) group.now.num_rows)) }
+    ensures ok { OnOk result (IfSome (S.told source.old) (λ bytes.
+        index_causes_if by_pages fields.now bounds.now bytes (group.now, counts) ≡ [])) }
+    ensures fails { IfErr result (
+        FailsBy (S.told source.old) (S.faults source.old) (S.faults source.new) (λ bytes.
+        index_causes_if by_pages fields.now bounds.now bytes (group.now, counts))) }
+    ensures kept { IfOk result (λ runs. IfSome (S.told source.old) (λ bytes. runs.items
+        ≡ maximal_runs (λ row. counts && pages_keep by_pages fields.now bounds.now bytes group.now row)
+        group.now.num_rows)) }
     ensures apart { IfOk result (λ runs. AreApart 0 runs.items group.now.num_rows) }
     ensures first { IfOk result (λ runs. AreFirst by_pages runs.items) }
-    ensures taken { OnOk result (S.taken source.new ≤ S.taken source.old + indexes_taken by_pages fields.now bounds.now (group.now, counts)) }
+    ensures taken { OnOk result (S.taken source.new ≤ S.taken source.old
+        + indexes_taken by_pages fields.now bounds.now (group.now, counts)) }
 {
     if !counts {
         return Ok(Vec::new(alloc));

@@ -24,8 +24,10 @@ pub(crate) fn read_page_ends<S: Source>(
 ) -> Result<Vec<PageIndex<Cell>>, Error>
     requires named { begins name.now column.now.descriptor ≡ true }
     ensures keeps { Keeps S.Source source.old source.new }
-    ensures ok { OnOk result (IfSome (S.told source.old) (λ bytes. spec.column_index_causes data_type.now count bytes column.now ≡ [])) }
-    ensures fails { IfErr result (FailsBy (S.told source.old) (S.faults source.old) (S.faults source.new) (λ bytes.
+    ensures ok { OnOk result (IfSome (S.told source.old) (λ bytes.
+        spec.column_index_causes data_type.now count bytes column.now ≡ [])) }
+    ensures fails { IfErr result (
+        FailsBy (S.told source.old) (S.faults source.old) (S.faults source.new) (λ bytes.
         spec.column_index_causes data_type.now count bytes column.now)) }
     ensures ends { IfOk result (λ ends. IfSome (S.told source.old) (λ bytes.
         spec.page_ends data_type.now bytes column.now ≡ map spec.ends_of_page ends.items)) }

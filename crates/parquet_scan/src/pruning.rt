@@ -35,11 +35,17 @@ pub(crate) fn kept_by_pages<S: Source>(
 ) -> Result<Vec<Interval>, Error>
     requires legal { list_all (is_legal_bound_of fields.now) bounds.now ≡ true }
     ensures keeps { Keeps S.Source source.old source.new }
-    ensures ok { OnOk result (IfSome (S.told source.old) (λ bytes. index_causes_of_group fields.now bounds.now bytes group.now ≡ [])) }
-    ensures fails { IfErr result (FailsBy (S.told source.old) (S.faults source.old) (S.faults source.new) (λ bytes. index_causes_of_group fields.now bounds.now bytes group.now)) }
-    ensures kept { IfOk result (λ runs. IfSome (S.told source.old) (λ bytes. runs.items ≡ maximal_runs (pages_keep true fields.now bounds.now bytes group.now) group.now.num_rows)) }
+    ensures ok { OnOk result (IfSome (S.told source.old) (λ bytes.
+        index_causes_of_group fields.now bounds.now bytes group.now ≡ [])) }
+    ensures fails { IfErr result (
+        FailsBy (S.told source.old) (S.faults source.old) (S.faults source.new) (λ bytes.
+        index_causes_of_group fields.now bounds.now bytes group.now)) }
+    ensures kept { IfOk result (λ runs. IfSome (S.told source.old) (λ bytes. runs.items
+        ≡ maximal_runs (pages_keep true fields.now bounds.now bytes group.now) group.now.num_rows)) }
     ensures apart { IfOk result (λ runs. AreApart 0 runs.items group.now.num_rows) }
-    ensures taken { OnOk result (S.taken source.new ≤ S.taken source.old + (sum_by (offset_index_of group.now) fields.now + sum_by (column_index_of group.now) bounds.now)) }
+    ensures taken { OnOk result (S.taken source.new
+        ≤ S.taken source.old + (sum_by (offset_index_of group.now) fields.now
+        + sum_by (column_index_of group.now) bounds.now)) }
 {
     let locations = read_all_locations(alloc, source, group, fields)?;
     let runs = read_all_runs(alloc, source, group, fields, bounds, &locations)?;
@@ -58,13 +64,23 @@ fn read_all_runs<S: Source>(
     requires legal { list_all (is_legal_bound_of fields.now) bounds.now ≡ true }
     requires length { length locations.now ≡ length fields.now }
     requires shaped { list_all (λ list. has_shape list.items group.now.num_rows) locations.now ≡ true }
-    requires told { IfSome (S.told source.old) (λ bytes. map (λ field. field_locations bytes group.now field.name) fields.now ≡ map (λ list. list.items) locations.now) }
+    requires told { IfSome (S.told source.old) (λ bytes.
+        map (λ field. field_locations bytes group.now field.name) fields.now
+        ≡ map (λ list. list.items) locations.now) }
     ensures keeps { Keeps S.Source source.old source.new }
-    ensures ok { OnOk result (IfSome (S.told source.old) (λ bytes. flat_map (index_causes_of_bound fields.now bytes group.now) bounds.now ≡ [])) }
-    ensures fails { IfErr result (FailsBy (S.told source.old) (S.faults source.old) (S.faults source.new) (λ bytes. flat_map (index_causes_of_bound fields.now bytes group.now) bounds.now)) }
-    ensures runs { IfOk result (λ lists. IfSome (S.told source.old) (λ bytes. map (λ bound. maximal_runs (λ row. bound_keeps fields.now bytes group.now row bound) group.now.num_rows) bounds.now ≡ map (λ list. list.items) lists.items)) }
-    ensures apart { IfOk result (λ lists. All (λ list. AreApart 0 list.items group.now.num_rows) lists.items) }
-    ensures taken { OnOk result (S.taken source.new ≤ S.taken source.old + sum_by (column_index_of group.now) bounds.now) }
+    ensures ok { OnOk result (IfSome (S.told source.old) (λ bytes.
+        flat_map (index_causes_of_bound fields.now bytes group.now) bounds.now ≡ [])) }
+    ensures fails { IfErr result (
+        FailsBy (S.told source.old) (S.faults source.old) (S.faults source.new) (λ bytes.
+        flat_map (index_causes_of_bound fields.now bytes group.now) bounds.now)) }
+    ensures runs { IfOk result (λ lists. IfSome (S.told source.old) (λ bytes.
+        map (λ bound.
+        maximal_runs (λ row. bound_keeps fields.now bytes group.now row bound) group.now.num_rows) bounds.now
+        ≡ map (λ list. list.items) lists.items)) }
+    ensures apart { IfOk result (λ lists.
+        All (λ list. AreApart 0 list.items group.now.num_rows) lists.items) }
+    ensures taken { OnOk result (S.taken source.new ≤ S.taken source.old
+        + sum_by (column_index_of group.now) bounds.now) }
 {
     let mut lists = Vec::new(alloc);
     for bound in bounds {
@@ -84,11 +100,17 @@ fn read_runs<S: Source>(
     locations: &[PageLocation],
 ) -> Result<Vec<Interval>, Error>
     requires shaped { has_shape locations.now group.now.num_rows ≡ true }
-    requires told { IfSome (S.told source.old) (λ bytes. field_locations bytes group.now bound.now.field ≡ locations.now) }
+    requires told { IfSome (S.told source.old) (λ bytes.
+        field_locations bytes group.now bound.now.field ≡ locations.now) }
     ensures keeps { Keeps S.Source source.old source.new }
-    ensures ok { OnOk result (IfSome (S.told source.old) (λ bytes. index_causes_of_bound fields.now bytes group.now bound.now ≡ [])) }
-    ensures fails { IfErr result (FailsBy (S.told source.old) (S.faults source.old) (S.faults source.new) (λ bytes. index_causes_of_bound fields.now bytes group.now bound.now)) }
-    ensures runs { IfOk result (λ runs. IfSome (S.told source.old) (λ bytes. maximal_runs (λ row. bound_keeps fields.now bytes group.now row bound.now) group.now.num_rows ≡ runs.items)) }
+    ensures ok { OnOk result (IfSome (S.told source.old) (λ bytes.
+        index_causes_of_bound fields.now bytes group.now bound.now ≡ [])) }
+    ensures fails { IfErr result (
+        FailsBy (S.told source.old) (S.faults source.old) (S.faults source.new) (λ bytes.
+        index_causes_of_bound fields.now bytes group.now bound.now)) }
+    ensures runs { IfOk result (λ runs. IfSome (S.told source.old) (λ bytes.
+        maximal_runs (λ row. bound_keeps fields.now bytes group.now row bound.now) group.now.num_rows
+        ≡ runs.items)) }
     ensures apart { IfOk result (λ runs. AreApart 0 runs.items group.now.num_rows) }
     ensures taken { S.taken source.new ≤ S.taken source.old + column_index_of group.now bound.now }
 {
@@ -110,7 +132,9 @@ fn runs_of_pages(
 ) -> Result<Vec<Interval>, Error>
     requires shaped { has_shape locations.now num_rows ≡ true }
     requires length { length ends.now ≡ length locations.now }
-    ensures runs { IfOk result (λ runs. runs.items ≡ maximal_runs (keeps_row (rows_at locations.now num_rows) (map ends_of_page ends.now) bound.now) num_rows) }
+    ensures runs { IfOk result (λ runs. runs.items
+        ≡ maximal_runs (keeps_row (rows_at locations.now num_rows) (map ends_of_page ends.now) bound.now)
+        num_rows) }
     ensures memory { IfErr result IsWantOfMemory }
 {
     let pages = page_row_intervals(alloc, locations, num_rows)?;
@@ -126,7 +150,8 @@ fn kept_pages(
     bound: &Bound,
 ) -> Result<Vec<bool>, AllocError>
     requires { length ends.now ≡ length pages.now }
-    ensures kept { IfOk result (λ keep. map (page_keeps_by bound.now) (zip pages.now (map ends_of_page ends.now)) ≡ keep.items) }
+    ensures kept { IfOk result (λ keep.
+        map (page_keeps_by bound.now) (zip pages.now (map ends_of_page ends.now)) ≡ keep.items) }
     ensures length { IfOk result (λ keep. length keep.items ≡ length pages.now) }
 {
     let mut keep = Vec::new(alloc);
