@@ -1,12 +1,8 @@
 -- What is promised of dictionary columns of each stored type.
-use Rattle.std.proofs.Common.{◌≡◌, ◌∙◌, ℕ, List, Option, Some, None, refl, ap}
+use Rattle.std.proofs.Common.{◌≡◌, ℕ, List, Option, None}
 use Rattle.std.specs.Prelude.{IfSome, Result}
-use Rattle.columns_core.specs.DictionaryType.{entry_type, entry_type_at, key_type, key_type_at}
-use Rattle.columns_core.specs.Types.{Layer}
 use Rattle.columns_core.specs.declared.array.Array.{Array}
-use Rattle.columns_core.specs.declared.data_type.DataType.{DataType, out-DataType}
-use Rattle.columns_core.specs.declared.data_type.DataType.TheOpen.{DataType-F}
-use Rattle.columns_core.specs.declared.data_type.IntegerType.{IntegerType}
+use Rattle.columns_core.specs.declared.data_type.DataType.{DataType}
 use Rattle.columns_core.specs.declared.error.Error.{Error}
 use Rattle.parquet_meta.specs.declared.metadata.PhysicalType.{PhysicalType}
 use Rattle.parquet_meta.specs.declared.metadata.PrimitiveLogicalType.{PrimitiveLogicalType}
