@@ -1,6 +1,6 @@
 -- What is wrong with a file for a request: the causes that the parts have which a scan has to look at. Each
 -- error comes only where its cause is among them, and a file without a cause is valid.
-use Rattle.std.specs.Prelude.{◌≡◌, ℕ, zero, suc, nat_le, nat_lt, Bool, true, false, is_some, Option, None, option_and_then, option_map, if◌then◌else◌, List, [], ◌∷◌, ◌++◌, filter, filter_map, flat_map, length, map, sum_by, Result, Ok, Err}
+use Rattle.std.specs.Prelude.{◌≡◌, ℕ, zero, suc, nat_le, nat_lt, Bool, true, false, is_some, Option, option_and_then, option_map, if◌then◌else◌, List, [], ◌∷◌, ◌++◌, filter, filter_map, flat_map, length, map, sum_by, Result, Ok, Err}
 use Rattle.std.specs.List.{list_any}
 use Rattle.std.specs.Option.{option_map_or}
 use Rattle.columns_core.specs.Causes.{Cause, NotYetImplemented, ExternalFormat, Overflow, unless, and_then}
