@@ -5,10 +5,16 @@
 pub(crate) enum Stored {
     /// Numbers of 32 bits.
     Numbers,
+    /// Numbers of 64 bits.
+    Longs,
     /// Times in milliseconds, of 64 bits each.
     Times,
+    /// Times of 96 bits: nanoseconds, and the day.
+    Words,
     /// Byte strings.
     Strings,
+    /// Byte strings of so many bytes.
+    Fixed(usize),
 }
 
 /// A column of a file.
@@ -74,6 +80,17 @@ pub(crate) enum Indexes<'a> {
     Locations,
     /// These, and the ends of each page, of numbers without a null.
     Ends(&'a [(i64, i64)]),
+    /// These, and what is told of each page.
+    Told(&'a [Told<'a>]),
+}
+
+/// What is told of rows: the least and the greatest value as they are stored, and how many are null. A page without a least value is one of nulls.
+#[derive(Clone, Copy)]
+pub(crate) struct Told<'a> {
+    /// At most 127 bytes each.
+    pub(crate) least: Option<&'a [u8]>,
+    pub(crate) greatest: Option<&'a [u8]>,
+    pub(crate) nulls: Option<usize>,
 }
 
 impl Stored {
@@ -81,8 +98,10 @@ impl Stored {
     pub(crate) fn number(self) -> usize {
         match self {
             Stored::Numbers => 1,
-            Stored::Times => 2,
+            Stored::Longs | Stored::Times => 2,
+            Stored::Words => 3,
             Stored::Strings => 6,
+            Stored::Fixed(_) => 7,
         }
     }
 }

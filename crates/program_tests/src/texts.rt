@@ -434,7 +434,7 @@ const OF_TWO_GROUPS: [(&str, &[u8]); 5] = [
         "s:LargeUtf8 --limit 1",
         b"\x00group 0 2 0+2\ngroup 1 2 0+2\nchunk 1\n\"a\"\n",
     ),
-    ("s:Utf8 s>=a", &[4]),
+    ("s:Utf8 s>=a", &[6]),
 ];
 
 /// Adds a group of two numbers, between these ends, and two strings.

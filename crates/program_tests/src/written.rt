@@ -1,7 +1,7 @@
 //! Files of flat columns: pages, chunks, indexes and the footer, field by field in the compact protocol.
 use crate::compact::Written;
-use crate::parts::{Column, Indexes, Levels, Page, Stored, Values};
-use parquet_thrift::{BINARY, FALSE, I32, STRUCT, TRUE};
+use crate::parts::{Column, Indexes, Levels, Page, Stored, Told, Values};
+use parquet_thrift::{BINARY, FALSE, I32, I64, STRUCT, TRUE};
 use std::alloc::{AllocError, Global};
 
 /// The word that a file begins and ends with.
@@ -87,9 +87,28 @@ impl FileBuilder {
         ends: Option<(i64, i64)>,
         indexes: Indexes<'_>,
     ) -> Result<(), AllocError> {
+        let Some((least, greatest)) = ends else {
+            return self.end_told_chunk(column, None, indexes);
+        };
+        let (least, greatest) = (least.to_le_bytes(), greatest.to_le_bytes());
+        let told = Told {
+            least: Some(&least[..4]),
+            greatest: Some(&greatest[..4]),
+            nulls: Some(0),
+        };
+        self.end_told_chunk(column, Some(told), indexes)
+    }
+
+    /// Ends the chunk, whose statistics tell this.
+    pub(crate) fn end_told_chunk(
+        &mut self,
+        column: Column,
+        told: Option<Told<'_>>,
+        indexes: Indexes<'_>,
+    ) -> Result<(), AllocError> {
         self.chunks.long(2, self.chunk.data)?;
         self.chunks.begin(1)?;
-        write_meta_data(&mut self.chunks, column, self.chunk, ends)?;
+        write_meta_data(&mut self.chunks, column, self.chunk, told)?;
         self.chunks.end()?;
         self.write_indexes(indexes)?;
         self.chunks.end()?;
@@ -110,11 +129,12 @@ impl FileBuilder {
         self.file.raw(self.locations.as_slice())?;
         self.file.end()?;
         self.tell_index(place)?;
-        let Indexes::Ends(ends) = indexes else {
-            return Ok(());
-        };
         let place = self.file.len();
-        write_column_index(&mut self.file, ends)?;
+        match indexes {
+            Indexes::Absent | Indexes::Locations => return Ok(()),
+            Indexes::Ends(ends) => write_column_index(&mut self.file, ends)?,
+            Indexes::Told(pages) => write_told_index(&mut self.file, pages)?,
+        }
         self.tell_index(place)
     }
 
@@ -290,6 +310,29 @@ fn write_column_index(out: &mut Written, ends: &[(i64, i64)]) -> Result<(), Allo
     out.end()
 }
 
+/// A column index of pages of which this is told.
+fn write_told_index(out: &mut Written, pages: &[Told<'_>]) -> Result<(), AllocError> {
+    out.list(1, pages.len(), TRUE)?;
+    for page in pages {
+        out.raw(&[if page.least.is_some() { FALSE } else { TRUE }])?;
+    }
+    out.list(1, pages.len(), BINARY)?;
+    for page in pages {
+        out.counted(page.least.unwrap_or(&[]))?;
+    }
+    out.list(1, pages.len(), BINARY)?;
+    for page in pages {
+        out.counted(page.greatest.unwrap_or(&[]))?;
+    }
+    if pages.iter().all(|page| page.nulls.is_some()) {
+        out.list(2, pages.len(), I64)?;
+        for page in pages {
+            out.number(page.nulls.unwrap_or(0))?;
+        }
+    }
+    out.end()
+}
+
 /// The version, and the schema.
 fn write_schema(out: &mut Written, columns: &[Column]) -> Result<(), AllocError> {
     out.int(1, 1)?;
@@ -298,8 +341,14 @@ fn write_schema(out: &mut Written, columns: &[Column]) -> Result<(), AllocError>
     out.int(1, columns.len())?;
     out.end()?;
     for column in columns {
+        let repetition = if column.is_optional { 1 } else { 0 };
         out.int(1, column.stored.number())?;
-        out.int(2, if column.is_optional { 1 } else { 0 })?;
+        if let Stored::Fixed(size) = column.stored {
+            out.int(1, size)?;
+            out.int(1, repetition)?;
+        } else {
+            out.int(2, repetition)?;
+        }
         out.binary(1, column.name.as_bytes())?;
         if let Stored::Times = column.stored {
             write_milliseconds(out)?;
@@ -327,7 +376,7 @@ fn write_meta_data(
     out: &mut Written,
     column: Column,
     chunk: Chunk,
-    ends: Option<(i64, i64)>,
+    told: Option<Told<'_>>,
 ) -> Result<(), AllocError> {
     let size = chunk.end.saturating_sub(chunk.start);
     out.int(1, column.stored.number())?;
@@ -342,23 +391,28 @@ fn write_meta_data(
     out.long(2, chunk.data)?;
     if chunk.start < chunk.data {
         out.long(2, chunk.start)?;
-        return write_statistics(out, 1, ends);
+        return write_statistics(out, 1, told);
     }
-    write_statistics(out, 3, ends)
+    write_statistics(out, 3, told)
 }
 
-/// Statistics without a null, where the ends are known.
-fn write_statistics(
-    out: &mut Written,
-    step: u8,
-    ends: Option<(i64, i64)>,
-) -> Result<(), AllocError> {
-    let Some((least, greatest)) = ends else {
+/// What is told of a chunk, if anything is.
+fn write_statistics(out: &mut Written, step: u8, told: Option<Told<'_>>) -> Result<(), AllocError> {
+    let Some(told) = told else {
         return Ok(());
     };
     out.begin(step)?;
-    out.long(3, 0)?;
-    out.binary(2, &greatest.to_le_bytes()[..4])?;
-    out.binary(1, &least.to_le_bytes()[..4])?;
+    let mut id = 0u8;
+    if let Some(nulls) = told.nulls {
+        out.long(3, nulls)?;
+        id = 3;
+    }
+    if let Some(greatest) = told.greatest {
+        out.binary(5u8.saturating_sub(id), greatest)?;
+        id = 5;
+    }
+    if let Some(least) = told.least {
+        out.binary(6u8.saturating_sub(id), least)?;
+    }
     out.end()
 }
