@@ -10,6 +10,8 @@ mod files;
 #[cfg(test)]
 mod groups;
 #[cfg(test)]
+mod keyed;
+#[cfg(test)]
 mod limits;
 #[cfg(test)]
 mod parts;

@@ -9,6 +9,8 @@ pub(crate) enum Stored {
     Times,
     /// Byte strings.
     Strings,
+    /// Strings of two bytes each.
+    Pairs,
 }
 
 /// A column of a file.
@@ -83,6 +85,7 @@ impl Stored {
             Stored::Numbers => 1,
             Stored::Times => 2,
             Stored::Strings => 6,
+            Stored::Pairs => 7,
         }
     }
 }

@@ -294,7 +294,7 @@ fn pairs_that_are_not_carried(rt: HostRuntime) -> Result<(), Fail> {
         "name:Int32",
         "name:Decimal(4,0)",
         "name:FixedSizeBinary(1)",
-        "name:Dictionary(Int32,Utf8)",
+        "name:Dictionary(Int32,Int64)",
         "delta:Int64",
         "delta:Binary",
         "fixed:FixedSizeBinary(3)",

@@ -299,7 +299,13 @@ fn write_schema(out: &mut Written, columns: &[Column]) -> Result<(), AllocError>
     out.end()?;
     for column in columns {
         out.int(1, column.stored.number())?;
-        out.int(2, if column.is_optional { 1 } else { 0 })?;
+        let optional = if column.is_optional { 1 } else { 0 };
+        if let Stored::Pairs = column.stored {
+            out.int(1, 2)?;
+            out.int(1, optional)?;
+        } else {
+            out.int(2, optional)?;
+        }
         out.binary(1, column.name.as_bytes())?;
         if let Stored::Times = column.stored {
             write_milliseconds(out)?;
