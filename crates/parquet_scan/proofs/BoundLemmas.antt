@@ -90,10 +90,7 @@ one_counted all ends =
     ∙ (λ i. count_of (sym (map-append low_of all (ends ∷ [])) i) (sym (map-append high_of all (ends ∷ [])) i))
 
 with_one : (all : List (Ends Cell)) (o : Option (Ends Cell)) → with_ends (bytes_of all) o ≡ bytes_of (all ++ cons_option o [])
-with_one all None = ap bytes_of (sym (no_more all)) where
-  no_more : (all : List (Ends Cell)) → all ++ [] ≡ all
-  no_more [] = refl
-  no_more (ends ∷ all) = ap (λ rest. ends ∷ rest) (no_more all)
+with_one all None = ap bytes_of (sym (append-nil all))
 with_one all (Some ends) = one_counted all ends
 
 -- with those of one group more
