@@ -4,15 +4,12 @@
 #define _GNU_SOURCE
 #include <dirent.h>
 #include <fcntl.h>
-#include <signal.h>
-#include <spawn.h>
 #include <stdint.h>
 #include <stdio.h>
 #include <stdlib.h>
 #include <string.h>
 #include <sys/resource.h>
 #include <sys/stat.h>
-#include <sys/time.h>
 #include <sys/wait.h>
 #include <unistd.h>
 
@@ -102,6 +99,16 @@ static size_t damage(unsigned char *bytes, size_t length) {
     return length;
 }
 
+// In the place of this process: the program, which is ended where it does not end by itself.
+static void run_program(const char *program, char **words, const char *output) {
+    struct rlimit time = {MOST_SECONDS + 1, MOST_SECONDS + 1};
+    setrlimit(RLIMIT_CPU, &time);
+    int out = open(output, O_WRONLY | O_CREAT | O_TRUNC, 0644), nowhere = open("/dev/null", O_WRONLY);
+    if (out < 0 || nowhere < 0 || dup2(out, 1) < 0 || dup2(nowhere, 2) < 0) _exit(127);
+    execve(program, words, environ);
+    _exit(127);
+}
+
 int main(int argc, char **argv) {
     if (argc != 6) {
         fprintf(stderr, "usage: fuzz PROGRAM SEEDS SCRATCH RUNS RANDOM\n");
@@ -119,9 +126,6 @@ int main(int argc, char **argv) {
     char path[1024], output[1024], kept[1024];
     snprintf(path, sizeof path, "%s/damaged.parquet", scratch);
     snprintf(output, sizeof output, "%s/output", scratch);
-    // A program that does not end is ended.
-    struct rlimit time = {2, 2};
-    setrlimit(RLIMIT_CPU, &time);
     unsigned char *bytes = malloc(MOST_BYTES);
     for (long run = 0; run < runs; run++) {
         struct seed *seed = &seeds[draw((uint64_t)seed_count)];
@@ -140,19 +144,12 @@ int main(int argc, char **argv) {
         close(file);
         seed->words[0] = (char *)program;
         seed->words[1] = path;
-        posix_spawn_file_actions_t actions;
-        posix_spawn_file_actions_init(&actions);
-        posix_spawn_file_actions_addopen(&actions, 1, output, O_WRONLY | O_CREAT | O_TRUNC, 0644);
-        posix_spawn_file_actions_addopen(&actions, 2, "/dev/null", O_WRONLY, 0644);
-        pid_t child;
-        struct timeval begun, ended;
-        gettimeofday(&begun, NULL);
-        if (posix_spawn(&child, program, &actions, NULL, seed->words, environ)) fail(program);
-        posix_spawn_file_actions_destroy(&actions);
+        pid_t child = fork();
+        if (child < 0) fail("fork");
+        if (child == 0) run_program(program, seed->words, output);
         int status;
         struct rusage used;
         if (wait4(child, &status, 0, &used) != child) fail("wait4");
-        gettimeofday(&ended, NULL);
         double seconds = (double)(used.ru_utime.tv_sec + used.ru_stime.tv_sec) + (double)(used.ru_utime.tv_usec + used.ru_stime.tv_usec) / 1e6;
         struct stat written;
         stat(output, &written);

@@ -18,7 +18,7 @@ number=0
 while [ "$number" -lt "$drivers" ]; do
     number=$((number + 1))
     mkdir -p "$work/$number"
-    ("$work/fuzz" "$program" "$work/seeds" "$work/$number" $((runs / drivers)) "$number" >"$work/$number.txt" 2>&1; echo $? >"$work/$number.status") &
+    (if "$work/fuzz" "$program" "$work/seeds" "$work/$number" $((runs / drivers)) "$number" >"$work/$number.txt" 2>&1; then echo 0; else echo 1; fi >"$work/$number.status") &
 done
 wait
 failed=0

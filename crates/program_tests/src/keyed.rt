@@ -1,5 +1,5 @@
 //! Columns that are read as dictionaries: each type of keys, each type of entries, nulls, whole and by locations, and what is refused.
-use crate::parts::{Column, Indexes, Levels, NUMBERS, Page, STRINGS, Stored, Values};
+use crate::parts::{Column, Indexes, Levels, NUMBERS, Page, STRINGS, Stored, Told, Values};
 use crate::running::{answer_on, has_answers};
 use crate::written::FileBuilder;
 use pq_common::Status;
@@ -366,5 +366,37 @@ fn pages_in_other_encodings(rt: HostRuntime) -> Result<(), Fail> {
     let file = file.finish(&[STRINGS])?;
     let found = answer_on(alloc, "s:Dictionary(Int32,Utf8)", &file)?;
     assert_eq!(rt; found.as_slice(), [Status::NotCarried.number()].as_slice());
+    Ok(())
+}
+
+/// Bounds on a column of the strings `x` and `y`, which are compared as the type of the entries.
+const OF_BOUNDS: [(&str, &[u8]); 4] = [
+    (
+        "s:Dictionary(Int32,Utf8) s>=y",
+        b"\x00group 0 2 0+2\nchunk 2\n\"x\"\n\"y\"\n",
+    ),
+    ("s:Dictionary(Int32,Utf8) s>=z", b"\x00group 0 2 -\n"),
+    ("s:Dictionary(UInt8,Binary) s<=0x77", b"\x00group 0 2 -\n"),
+    (
+        "s:Dictionary(UInt8,Binary) s<=0x78 --limit 1",
+        b"\x00group 0 2 0+2\nchunk 1\n0x78\n",
+    ),
+];
+
+#[test]
+fn bounds_on_entries(rt: HostRuntime) -> Result<(), Fail> {
+    let alloc = rt.alloc();
+    let mut file = FileBuilder::new(alloc)?;
+    file.add_dictionary(Page::of_bytes(2, PLAIN, b"\x01\0\0\0x\x01\0\0\0y"))?;
+    file.add_page(Page::of_keys(&[0, 1]))?;
+    let told = Told {
+        least: Some(b"x".as_slice()),
+        greatest: Some(b"y".as_slice()),
+        nulls: Some(0),
+    };
+    file.end_told_chunk(STRINGS, Some(told), Indexes::Absent)?;
+    file.end_group()?;
+    let file = file.finish(&[STRINGS])?;
+    assert!(rt; has_answers(alloc, &file, &OF_BOUNDS)?);
     Ok(())
 }
