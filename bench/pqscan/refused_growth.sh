@@ -1,6 +1,6 @@
 #!/bin/sh
 # Runs pqscan with each of its allocations refused in turn, on a file of 5 rows, on one of 45,000 in three groups and on the same with page
-# indexes. Each run must end for want of memory and write nothing, or, where a smaller block was enough, write the whole text. Proves and
+# indexes, on keys of 1,000 texts, and on two samples. Each run must end for want of memory and write nothing, or, where a smaller block was enough, write the whole text. Proves and
 # builds pqscan first where that is not done yet. Usage: bench/pqscan/refused_growth.sh [FOLDER]
 set -eu
 here=$(cd "$(dirname "$0")" && pwd)
@@ -11,6 +11,7 @@ pqscan=$top/crates/pqscan/out/pqscan
 five=$top/crates/pqscan/data/f1.parquet
 python3 "$here/inputs.py" "$work/plain.parquet" 45000
 python3 "$here/inputs.py" "$work/indexed.parquet" 45000 indexed
+python3 "$here/inputs.py" "$work/named.parquet" 2000 named
 ${CC:-cc} -O1 -shared -fPIC "$here/refuse.c" -o "$work/refuse.so" -ldl
 "$top/prove"
 
@@ -42,3 +43,6 @@ refuse_each() {
 refuse_each "$five" a:Int32 'a>=12' 'a<=18'
 refuse_each "$work/plain.parquet" a:Int32
 refuse_each "$work/indexed.parquet" a:Int32 'a>=30000' 'a<=33000'
+refuse_each "$work/named.parquet" 'a:Dictionary(Int32,Utf8)' --chunk 700
+refuse_each @sample:6:0 id:Int64 qty:Int32 name:Utf8 --chunk 4
+refuse_each @sample:2000:0 qty:Int32 id:Int64 'id>=1500' --limit 3

@@ -1,4 +1,7 @@
 pub mod StringLemmas
+pub mod EndLemmas
+pub mod JoinedLemmas
+pub mod RowLemmas
 pub mod WalkLemmas
 pub mod StoredLemmas
 pub mod NamedLemmas

@@ -1,4 +1,5 @@
 pub mod Rebased
+pub mod JoinedStrings
 pub mod ByteStrings
 pub mod ByteLeft
 pub mod OwnBytes

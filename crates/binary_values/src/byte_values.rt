@@ -7,11 +7,12 @@ ghost use Rattle.binary_values.specs.OwnBytes.{AreOwnBytes};
 
 use crate::byte_place::{open_lengths, open_plain, skip_values, take_values};
 use crate::string_walk::take_stored;
+use crate::word_rows::{take_marked, take_runs};
 use crate::{BytePlace, Strings};
 use columns_core::{Error, MutableBitmap, Offset, Part};
 use flat_values::{KeyPlace, ValueDecoder, ValueEncoding, Values, mark_nulls, mark_values};
 use page_decoding::DecodedState;
-use parquet_page::DictPage;
+use parquet_page::{DictPage, ValidityWord};
 use std::alloc::Global;
 use std::marker::PhantomData;
 
@@ -97,6 +98,29 @@ impl<O: Offset> Values for ByteValues<O> {
         *place = behind;
         let taken = decoded.strings.len() - held;
         mark_values(&mut decoded.validity, taken)
+    }
+
+    fn take_word(
+        &self,
+        bytes: &[u8],
+        dict: Option<&Strings<O>>,
+        place: &mut BytePlace,
+        decoded: &mut DecodedBytes<O>,
+        word: ValidityWord,
+    ) -> Result<(), Error> {
+        match *place {
+            BytePlace::Plain(walk) => {
+                let behind = take_marked(walk, bytes, self.is_text, decoded, word)?;
+                *place = BytePlace::Plain(behind);
+                Ok(())
+            }
+            BytePlace::Lengths(walk) => {
+                let behind = take_marked(walk, bytes, self.is_text, decoded, word)?;
+                *place = BytePlace::Lengths(behind);
+                Ok(())
+            }
+            BytePlace::Keys(_) => take_runs(self, bytes, dict, place, decoded, word),
+        }
     }
 
     fn skip(&self, bytes: &[u8], place: &mut BytePlace, count: usize) {

@@ -6,8 +6,10 @@ mod byte_place;
 mod byte_values;
 mod into_array;
 mod named;
+mod string_rows;
 mod string_walk;
 mod strings;
+mod word_rows;
 
 pub use byte_place::BytePlace;
 pub use byte_values::{ByteValues, DecodedBytes};

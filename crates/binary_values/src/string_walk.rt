@@ -10,6 +10,9 @@ use crate::Strings;
 use columns_core::{Error, Offset, Part};
 use parquet_encoding::{DeltaLength, PlainBytes};
 
+/// How many lengths are looked at together.
+const CHUNK: usize = 64;
+
 /// Walks byte strings that stand in the bytes which are handed to each call.
 pub trait StringWalk: Copy {
     /// Where the strings that are left stand; none where the bytes are others.
@@ -21,6 +24,26 @@ pub trait StringWalk: Copy {
         ensures value { result ≡ slice_get (unwrap_or (places self.old bytes.now) []) 0 }
         ensures within { IfSome result (λ place. place.0 + place.1 ≤ length bytes.now) }
         ensures rest { places self.new bytes.now ≡ Some (drop 1 (unwrap_or (places self.old bytes.now) [])) };
+
+    /// Appends the next strings as they stand, at most so many: the place behind them.
+    fn take_strings<O: Offset>(
+        self,
+        bytes: &[u8],
+        strings: &mut Strings<O>,
+        count: usize,
+    ) -> Result<Self, Error>
+        requires spelled { IsSome (places self bytes.now) }
+        requires fits { sum_by length strings.old ≤ O.greatest }
+        ensures added { let left = unwrap_or (places self bytes.now) [] in
+            let items = map (bytes_in bytes.now) (take count left) in
+            OnOk result (strings.new ≡ strings.old ++ items) }
+        ensures rest { let left = unwrap_or (places self bytes.now) [] in
+            IfOk result (λ new. places new bytes.now ≡ Some (drop count left)) }
+        ensures fits { OnOk result (sum_by length strings.new ≤ O.greatest) }
+        ensures err { let left = unwrap_or (places self bytes.now) [] in
+            let items = map (bytes_in bytes.now) (take count left) in
+            let sum = sum_by length strings.old + sum_by length items in
+            IfErr result (λ e. IsWantOfMemory e ⊎ ((e ≡ Error.Overflow) × (O.greatest < sum))) };
 }
 
 impl StringWalk for PlainBytes {
@@ -30,6 +53,22 @@ impl StringWalk for PlainBytes {
 
     fn next_string(&mut self, bytes: &[u8]) -> Option<(usize, usize)> {
         self.next(bytes)
+    }
+
+    fn take_strings<O: Offset>(
+        self,
+        bytes: &[u8],
+        strings: &mut Strings<O>,
+        count: usize,
+    ) -> Result<PlainBytes, Error> {
+        let mut walk = self;
+        for _ in 0..count {
+            let Some((start, length)) = walk.next(bytes) else {
+                return Ok(walk);
+            };
+            strings.push(&bytes[start..start + length])?;
+        }
+        Ok(walk)
     }
 }
 
@@ -41,34 +80,27 @@ impl StringWalk for DeltaLength {
     fn next_string(&mut self, bytes: &[u8]) -> Option<(usize, usize)> {
         self.next(bytes)
     }
-}
 
-/// Appends the next strings as they stand, at most so many.
-fn take_strings<W: StringWalk, O: Offset>(
-    walk: W,
-    bytes: &[u8],
-    strings: &mut Strings<O>,
-    count: usize,
-) -> Result<W, Error>
-    requires spelled { IsSome (W.places walk bytes.now) }
-    requires fits { sum_by length strings.old ≤ O.greatest }
-    ensures added { let places = unwrap_or (W.places walk bytes.now) [] in
-        OnOk result (strings.new ≡ strings.old ++ map (bytes_in bytes.now) (take count places)) }
-    ensures rest { let places = unwrap_or (W.places walk bytes.now) [] in
-        IfOk result (λ new. W.places new bytes.now ≡ Some (drop count places)) }
-    ensures fits { OnOk result (sum_by length strings.new ≤ O.greatest) }
-    ensures err { let items = map (bytes_in bytes.now) (take count (unwrap_or (W.places walk bytes.now) [])) in
-        let sum = sum_by length strings.old + sum_by length items in
-        IfErr result (λ e. IsWantOfMemory e ⊎ ((e ≡ Error.Overflow) × (O.greatest < sum))) }
-{
-    let mut walk = walk;
-    for _ in 0..count {
-        let Some((start, length)) = walk.next_string(bytes) else {
-            return Ok(walk);
-        };
-        strings.push(&bytes[start..start + length])?;
+    fn take_strings<O: Offset>(
+        self,
+        bytes: &[u8],
+        strings: &mut Strings<O>,
+        count: usize,
+    ) -> Result<DeltaLength, Error> {
+        let mut walk = self;
+        let mut left = count;
+        let mut lengths = [0; CHUNK];
+        while left > 0 {
+            let room = &mut lengths[..left.min(CHUNK)];
+            let (found, joined) = walk.take(bytes, room);
+            if found == 0 {
+                return Ok(walk);
+            }
+            strings.push_joined(joined, &room[..found])?;
+            left -= found;
+        }
+        Ok(walk)
     }
-    Ok(walk)
 }
 
 fn is_text(bytes: &[u8]) -> bool
@@ -99,7 +131,7 @@ fn are_texts<W: StringWalk>(walk: W, bytes: &[u8], count: usize) -> bool
 }
 
 /// Whether the next strings, at most so many, are texts where they have to be.
-fn are_judged<W: StringWalk>(walk: W, bytes: &[u8], is_text: bool, count: usize) -> bool
+pub(crate) fn are_judged<W: StringWalk>(walk: W, bytes: &[u8], is_text: bool, count: usize) -> bool
     requires { IsSome (W.places walk bytes.now) }
     ensures { let places = unwrap_or (W.places walk bytes.now) [] in
         IsTrue result ↔ AreJudged is_text (map (bytes_in bytes.now) (take count places)) }
@@ -108,7 +140,7 @@ fn are_judged<W: StringWalk>(walk: W, bytes: &[u8], is_text: bool, count: usize)
 }
 
 /// Whether the strings behind the first `from` are texts where they have to be.
-fn are_judged_from<O: Offset>(strings: &Strings<O>, is_text: bool, from: usize) -> bool
+pub(crate) fn are_judged_from<O: Offset>(strings: &Strings<O>, is_text: bool, from: usize) -> bool
     requires { from ≤ length strings.now }
     ensures { IsTrue result ↔ AreJudged is_text (drop from strings.now) }
 {
@@ -139,7 +171,7 @@ pub(crate) fn take_stored<W: StringWalk, O: Offset>(
         IfErr result (λ e. cause_of e ≡ Some Overflow → causes_in rows ≡ []) }
 {
     let held = strings.len();
-    match take_strings(walk, bytes, strings, count) {
+    match walk.take_strings(bytes, strings, count) {
         Ok(behind) => {
             if are_judged_from(strings, is_text, held) {
                 Ok(behind)

@@ -1,8 +1,9 @@
 //! Byte strings one behind another, in vectors that grow.
-ghost use Rattle.std.specs.Prelude.{◌≡◌, ◌⊎◌, ◌↔◌, ◌≤◌, ◌<◌, ◌+◌, ◌-◌, ◌++◌, ◌∷◌, ℕ, IsTrue, IsUtf8, All, [], drop, length, replicate, sum_by, slice_get, slice_index, option_copied, IfOk, IfErr, OnOk};
+ghost use Rattle.std.specs.Prelude.{◌≡◌, ◌⊎◌, ◌↔◌, ◌≤◌, ◌<◌, ◌+◌, ◌-◌, ◌++◌, ◌∷◌, ℕ, IsTrue, IsUtf8, All, [], drop, length, replicate, sum_by, slice_get, slice_index, option_copied, map, nat_abs, IfOk, IfErr, OnOk};
 ghost use Rattle.columns_core.specs.Causes.{IsWantOfMemory};
 ghost use Rattle.columns_core.specs.Joined.{BeginAtCharacters};
 ghost use Rattle.columns_core.specs.Offsets.{AreOffsets, last, parts};
+ghost use Rattle.binary_values.specs.JoinedStrings.{cut_into, ends_behind};
 ghost use Rattle.binary_values.specs.Rebased.{rebased};
 
 use columns_core::{Error, Offset, Offsets};
@@ -84,6 +85,24 @@ impl<O: Offset> Strings<O> {
         }
     }
 
+    /// Strings of these lengths more, whose bytes are joined. After a refusal some of them may be there.
+    pub(crate) fn push_joined(&mut self, joined: &[u8], lengths: &[i64]) -> Result<(), Error>
+        requires { sum_by nat_abs lengths.now ≡ length joined.now }
+        ensures ok { OnOk result (self.new ≡ self.old ++ cut_into (map nat_abs lengths.now) joined.now) }
+        ensures fits { OnOk result (sum_by length self.old + length joined.now ≤ O.greatest) }
+        ensures err { let sum = sum_by length self.old + length joined.now in
+            IfErr result (λ e. IsWantOfMemory e ⊎ ((e ≡ Error.Overflow) × (O.greatest < sum))) }
+    {
+        self.values.extend_from_slice(joined)?;
+        match push_lengths(&mut self.offsets, lengths) {
+            Ok(()) => Ok(()),
+            Err(error) => {
+                self.values.truncate(self.offsets.last());
+                Err(error)
+            }
+        }
+    }
+
     /// So many empty strings more. After a refusal some of them may be there.
     pub(crate) fn push_empty(&mut self, count: usize) -> Result<(), Error>
         ensures ok { OnOk result (self.new ≡ self.old ++ replicate count []) }
@@ -96,7 +115,7 @@ impl<O: Offset> Strings<O> {
     }
 
     /// One empty string more.
-    fn push_end(&mut self) -> Result<(), Error>
+    pub(crate) fn push_end(&mut self) -> Result<(), Error>
         ensures ok { OnOk result (self.new ≡ self.old ++ [] ∷ []) }
         ensures memory { IfErr result IsWantOfMemory }
     {
@@ -125,6 +144,25 @@ impl<O: Offset> Strings<O> {
         let Strings { offsets, values } = self;
         (offsets, values)
     }
+}
+
+/// Items of these lengths more.
+fn push_lengths<O: Offset>(offsets: &mut Offsets<O>, lengths: &[i64]) -> Result<(), Error>
+    requires shape { AreOffsets offsets.old }
+    requires fits { last offsets.old ≤ O.greatest }
+    ensures ok { let ends = ends_behind (last offsets.old) (map nat_abs lengths.now) in
+        OnOk result (offsets.new ≡ offsets.old ++ ends) }
+    ensures last { OnOk result (last offsets.new ≡ last offsets.old + sum_by nat_abs lengths.now) }
+    ensures shape { AreOffsets offsets.new }
+    ensures most { last offsets.new ≤ last offsets.old + sum_by nat_abs lengths.now }
+    ensures fits { last offsets.new ≤ O.greatest }
+    ensures err { let sum = last offsets.old + sum_by nat_abs lengths.now in
+        IfErr result (λ e. IsWantOfMemory e ⊎ ((e ≡ Error.Overflow) × (O.greatest < sum))) }
+{
+    for long in lengths {
+        offsets.try_push(long.unsigned_abs() as usize)?;
+    }
+    Ok(())
 }
 
 /// Where an item begins, or the last ends.

@@ -6,7 +6,7 @@ use Rattle.columns_core.specs.Causes.{Cause, Overflow, unless}
 use Rattle.columns_core.specs.declared.cell.Cell.{Cell}
 use Rattle.columns_core.specs.declared.data_type.DataType.{DataType, out-DataType}
 use Rattle.columns_core.specs.declared.data_type.DataType.TheOpen.{DataType-F}
-use Rattle.columns_core.specs.Types.{Layer}
+use Rattle.columns_core.specs.Types.{Layer, value_type}
 use Rattle.page_decoding.specs.Bytes.{fits_most}
 use Rattle.flat_values.specs.MostBytes.{most_bytes, most_bytes_at}
 use Rattle.column_ends.specs.Converted.{array_causes, end_bytes}
@@ -39,9 +39,12 @@ not_contained : {causes : List Cause} → Contains causes Overflow → causes �
 not_contained {causes = causes} told none = grind (arith, told, none)
 
 module _ (data_type : DataType) (lows highs : List (Option Cell)) where
+  abbrev values : DataType
+  values = value_type data_type
+
   -- The test is that each side fits an array of its own.
-  fit-sides : fit data_type (count_of lows highs) ≡ (fits_most (most_bytes data_type) (sum_by end_bytes lows) && fits_most (most_bytes data_type) (sum_by end_bytes highs))
-  fit-sides = ap₂ (λ low high. low && high) (fits_at (out-DataType data_type) (sum_by end_bytes lows)) (fits_at (out-DataType data_type) (sum_by end_bytes highs))
+  fit-sides : fit data_type (count_of lows highs) ≡ (fits_most (most_bytes values) (sum_by end_bytes lows) && fits_most (most_bytes values) (sum_by end_bytes highs))
+  fit-sides = ap₂ (λ low high. low && high) (fits_at (out-DataType values) (sum_by end_bytes lows)) (fits_at (out-DataType values) (sum_by end_bytes highs))
 
   pub fit-ok : fit data_type (count_of lows highs) ≡ true → array_causes data_type lows ++ array_causes data_type highs ≡ []
   fit-ok e = (sides _ _).0 (sym fit-sides ∙ e)

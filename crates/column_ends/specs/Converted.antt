@@ -4,6 +4,7 @@ use Rattle.std.specs.Option.{option_map_or}
 use Rattle.columns_core.specs.Causes.{Cause, ExternalFormat, NotYetImplemented, OutOfSpec, Overflow, unless}
 use Rattle.columns_core.specs.declared.cell.Cell.{Cell}
 use Rattle.columns_core.specs.declared.data_type.DataType.{DataType}
+use Rattle.columns_core.specs.Types.{value_type}
 use Rattle.parquet_base.specs.Reading.{◌>>=◌}
 use Rattle.parquet_meta.specs.Indexes.{type_of}
 use Rattle.parquet_meta.specs.TypedStatistics.{known_count}
@@ -104,9 +105,9 @@ causes_of_page type rule page =
 abbrev pub end_bytes : Option Cell → ℕ
 end_bytes end = option_map_or cell_bytes end 0
 
--- The ends on one side are an array of their own, whose bytes have to fit the offsets of its type.
+-- The ends on one side are an array of their own, whose bytes have to fit the offsets of its type, of a dictionary type those of its values.
 abbrev pub array_causes : DataType → List (Option Cell) → List Cause
-array_causes data_type ends = unless (fits_most (most_bytes data_type) (sum_by end_bytes ends)) Overflow
+array_causes data_type ends = unless (fits_most (most_bytes (value_type data_type)) (sum_by end_bytes ends)) Overflow
 
 abbrev pub low_of : Ends Cell → Option Cell
 low_of ends = ends.min_value

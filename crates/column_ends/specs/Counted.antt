@@ -2,6 +2,7 @@
 use Rattle.std.specs.Prelude.{ℕ, ◌+◌, ◌-◌, ◌^◌, min, Bool, ◌&&◌, List, sum_by, Option}
 use Rattle.columns_core.specs.declared.cell.Cell.{Cell}
 use Rattle.columns_core.specs.declared.data_type.DataType.{DataType}
+use Rattle.columns_core.specs.Types.{value_type}
 use Rattle.page_decoding.specs.Bytes.{fits_most}
 use Rattle.flat_values.specs.MostBytes.{most_bytes}
 use Rattle.column_ends.specs.Converted.{end_bytes}
@@ -18,6 +19,7 @@ count_of low high = (capped (sum_by end_bytes low), capped (sum_by end_bytes hig
 abbrev pub counted : ℕ × ℕ → Option Cell → Option Cell → ℕ × ℕ
 counted bytes low high = (capped (bytes.0 + end_bytes low), capped (bytes.1 + end_bytes high))
 
--- as many fit an array of a type
+-- as many fit an array of a type, whose values a dictionary type has
 abbrev pub fit : DataType → ℕ × ℕ → Bool
-fit data_type bytes = fits_most (most_bytes data_type) bytes.0 && fits_most (most_bytes data_type) bytes.1
+fit data_type bytes =
+    fits_most (most_bytes (value_type data_type)) bytes.0 && fits_most (most_bytes (value_type data_type)) bytes.1

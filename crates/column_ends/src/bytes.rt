@@ -1,5 +1,6 @@
 //! How many bytes ends have together, and how many fit an array.
 ghost use Rattle.std.specs.Prelude.{◌≡◌, option_copied};
+ghost use Rattle.columns_core.specs.Types.{value_type as value_type_by};
 ghost use Rattle.page_decoding.specs.Bytes.{fits_most};
 ghost use Rattle.flat_values.specs.MostBytes.{most_bytes as most_bytes_by};
 ghost use Rattle.column_ends.specs.Counted.{counted, fit as fit_by};
@@ -52,12 +53,22 @@ impl EndBytes {
         self.high = self.high.saturating_add(bytes_of_end(high));
     }
 
-    /// Whether the low ends fit one array of a type, and the high ones another.
+    /// Whether the low ends fit one array of a type, and the high ones another. Those of a dictionary type are values of its entries' type.
     pub fn fit(&self, data_type: &DataType) -> bool
         ensures { result ≡ fit_by data_type.now self.now }
     {
-        let most = most_bytes(data_type);
+        let most = most_bytes(value_type(data_type));
         fits(most, self.low) && fits(most, self.high)
+    }
+}
+
+/// Of a dictionary type the type of its entries, and of any other the type itself.
+pub fn value_type(data_type: &DataType) -> &DataType
+    ensures { result.now ≡ value_type_by data_type.now }
+{
+    match data_type {
+        DataType::Dictionary(_, values, _) => values.get(),
+        _ => data_type,
     }
 }
 

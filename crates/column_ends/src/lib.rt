@@ -9,7 +9,7 @@ mod pages;
 mod rules;
 mod value;
 
-pub use bytes::{EndBytes, most_bytes};
+pub use bytes::{EndBytes, most_bytes, value_type};
 pub use groups::statistics_ends;
 pub use pages::index_ends;
 pub use rules::{

@@ -1,2 +1,7 @@
+mod CountLemmas
+mod DecimalLemmas
+mod ErrorLemmas
+mod FlatTypes
 mod PageMapLemmas
 mod RowLemmas
+mod SlotLemmas

@@ -1,1 +1,4 @@
 pub mod PageMaps
+pub mod PageStatistics
+pub mod Sides
+pub mod Told

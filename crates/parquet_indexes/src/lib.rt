@@ -1,8 +1,19 @@
-//! What the indexes of a file tell of pages: which rows they hold, and which of them hold rows that are wanted.
+//! What the indexes of a file tell of pages: which rows they hold, which of them hold rows that are wanted, and which values they have.
 #![tactic(auto)]
 
+pub mod binary;
+pub mod boolean;
+mod copied;
+mod counts;
+pub mod fixed_len_binary;
+mod numbers;
+mod page_arrays;
 mod page_maps;
+mod page_statistics;
 mod row_intervals;
+mod told;
 
+pub use numbers::{deserialize_i32, deserialize_i64, deserialize_i96};
 pub use page_maps::{has_indexes, pages_of};
+pub use page_statistics::{ColumnPageStatistics, FieldPageStatistics};
 pub use row_intervals::compute_page_row_intervals;

@@ -31,7 +31,8 @@ pub(crate) fn add_chunks(
         read.new.rows ≡ min (read.old.rows + sum_by chunk_rows given) (2 ^ 64 - 1)) }
     ensures own_rows { read.old.rows ≡ rows_in read.old.chunks.items →
         OnOk result (read.new.rows ≡ rows_in read.new.chunks.items) }
-    ensures even { OnOk result (All AreEqualLengths read.old.chunks.items → All AreEqualLengths read.new.chunks.items) }
+    ensures even { OnOk result (All AreEqualLengths read.old.chunks.items
+        → All AreEqualLengths read.new.chunks.items) }
     ensures pages { read.new.pages ≡ read.old.pages }
     ensures memory { IfErr result IsWantOfMemory }
 {
@@ -56,7 +57,8 @@ fn chunk_count(columns: &[VecDeque<Array>]) -> usize
 
 /// The first arrays of all columns.
 fn take_fronts(alloc: Global, columns: &mut [VecDeque<Array>]) -> Result<Vec<Array>, Error>
-    ensures fronts { IfOk result (λ fronts. fronts.items ≡ flat_map (take 1) (map (λ column. column.items) columns.old)) }
+    ensures fronts { IfOk result (λ fronts.
+        fronts.items ≡ flat_map (take 1) (map (λ column. column.items) columns.old)) }
     ensures rests { OnOk result (
         map (λ column. column.items) columns.new ≡ map (drop 1) (map (λ column. column.items) columns.old)) }
     ensures memory { IfErr result IsWantOfMemory }
@@ -87,7 +89,8 @@ fn add_chunk(read: &mut RowsRead, arrays: Vec<Array>) -> Result<(), Error>
     ensures rows { OnOk result (read.new.rows ≡ min (read.old.rows + chunk_rows arrays.items) (2 ^ 64 - 1)) }
     ensures own_rows { read.old.rows ≡ rows_in read.old.chunks.items →
         OnOk result (read.new.rows ≡ rows_in read.new.chunks.items) }
-    ensures even { OnOk result (All AreEqualLengths read.old.chunks.items → All AreEqualLengths read.new.chunks.items) }
+    ensures even { OnOk result (All AreEqualLengths read.old.chunks.items
+        → All AreEqualLengths read.new.chunks.items) }
     ensures pages { read.new.pages ≡ read.old.pages }
     ensures memory { IfErr result IsWantOfMemory }
 {

@@ -24,11 +24,13 @@ pub(crate) fn read_chunk<S: Source>(
     column: &ColumnChunkMetaData,
 ) -> Result<Vec<u8>, Error>
     ensures keeps { Keeps S.Source source.old source.new }
+    ensures quiet { OnOk result (S.faults source.new ≡ S.faults source.old) }
     ensures readable { OnOk result (chunk_causes column.now ≡ []) }
     ensures counted { OnOk result (column.now.num_values ≡ group.now.num_rows) }
     ensures chunk { IfOk result (λ found. IfSome (S.told source.old) (λ bytes.
         option_map (bytes_at bytes) (chunk_of bytes group.now column.now) ≡ Some found.items)) }
-    ensures fails { IfErr result (FailsBy (S.told source.old) (S.faults source.old) (S.faults source.new) (λ bytes. chunk_read_causes bytes group.now column.now)) }
+    ensures fails { IfErr result (FailsBy (S.told source.old) (S.faults source.old) (S.faults source.new)
+        (λ bytes. chunk_read_causes bytes group.now column.now)) }
     ensures taken { S.taken source.new ≤ S.taken source.old + (chunk_range column.now).length }
 {
     check_chunk(column)?;
@@ -46,9 +48,12 @@ pub(crate) fn place_of_chunk<S: Source>(
     column: &ColumnChunkMetaData,
 ) -> Result<Place, Error>
     ensures keeps { Keeps S.Source source.old source.new }
+    ensures quiet { OnOk result (S.faults source.new ≡ S.faults source.old) }
     ensures readable { OnOk result (chunk_causes column.now ≡ []) }
-    ensures place { IfOk result (λ place. IfSome (S.told source.old) (λ bytes. chunk_of bytes group.now column.now ≡ Some place)) }
-    ensures fails { IfErr result (FailsBy (S.told source.old) (S.faults source.old) (S.faults source.new) (λ bytes. chunk_read_causes bytes group.now column.now)) }
+    ensures place { IfOk result (λ place.
+        IfSome (S.told source.old) (λ bytes. chunk_of bytes group.now column.now ≡ Some place)) }
+    ensures fails { IfErr result (FailsBy (S.told source.old) (S.faults source.old) (S.faults source.new)
+        (λ bytes. chunk_read_causes bytes group.now column.now)) }
     ensures taken { S.taken source.new ≡ S.taken source.old }
 {
     check_chunk(column)?;

@@ -46,9 +46,11 @@ pub(crate) fn read_column<S: Source, L: Ledger>(
     requires first { AreFirst by_pages runs.now }
     requires size { IsChunkSize chunk_size }
     ensures keeps { Keeps S.Source source.old source.new }
+    ensures quiet { OnOk result (S.faults source.new ≡ S.faults source.old) }
     ensures ok { OnOk result (IfSome (S.told source.old) (λ bytes.
         causes_of_read by_pages chunk_size bytes group.now (rows_of runs.now) data_type.now column.now ≡ [])) }
-    ensures fails { IfErr result (FailsBy (S.told source.old) (S.faults source.old) (S.faults source.new) (λ bytes.
+    ensures fails { IfErr result (
+        FailsBy (S.told source.old) (S.faults source.old) (S.faults source.new) (λ bytes.
         causes_of_read by_pages chunk_size bytes group.now (rows_of runs.now) data_type.now column.now)) }
     ensures typed { IfOk result (λ found. All (λ array. data_type_of array ≡ data_type.now) found.0.items) }
     ensures counts { IfOk result (λ found.
@@ -60,7 +62,8 @@ pub(crate) fn read_column<S: Source, L: Ledger>(
     ensures pages { IfOk result (λ found. found.1 ≡ min (steps.new - steps.old) (2 ^ 64 - 1)) }
     ensures lent { OnOk result (RisesJustBy (S.told source.old) steps.old steps.new (λ bytes.
         lent_of_read by_pages bytes group.now (rows_of runs.now) data_type.now column.now)) }
-    ensures taken { OnOk result (RisesBy (S.told source.old) (S.taken source.old) (S.taken source.new) (λ bytes.
+    ensures taken { OnOk result (
+        RisesBy (S.told source.old) (S.taken source.old) (S.taken source.new) (λ bytes.
         (if by_pages then offset_index_length column.now else 0)
         + taken_of_read by_pages bytes group.now (rows_of runs.now) data_type.now column.now)) }
 {
@@ -96,9 +99,11 @@ fn read_first<S: Source, L: Ledger>(
     requires pair { pair_causes column.now.descriptor.primitive_type data_type.now ≡ [] }
     requires not_null { is_null_type_by data_type.now ≡ false }
     ensures keeps { Keeps S.Source source.old source.new }
+    ensures quiet { OnOk result (S.faults source.new ≡ S.faults source.old) }
     ensures ok { OnOk result (IfSome (S.told source.old) (λ bytes.
         causes_of_chunk false chunk_size bytes group.now (rows_of runs.now) data_type.now column.now ≡ [])) }
-    ensures fails { IfErr result (FailsBy (S.told source.old) (S.faults source.old) (S.faults source.new) (λ bytes.
+    ensures fails { IfErr result (
+        FailsBy (S.told source.old) (S.faults source.old) (S.faults source.new) (λ bytes.
         causes_of_chunk false chunk_size bytes group.now (rows_of runs.now) data_type.now column.now)) }
     ensures typed { IfOk result (λ found. All (λ array. data_type_of array ≡ data_type.now) found.0.items) }
     ensures counts { IfOk result (λ found.
@@ -131,8 +136,11 @@ fn read_nulls<S: Source>(
     requires shaped { is_well_shaped runs.now group.now.num_rows ≡ true }
     requires size { IsChunkSize chunk_size }
     ensures keeps { Keeps S.Source source.old source.new }
-    ensures ok { OnOk result (IfSome (S.told source.old) (λ bytes. chunk_read_causes bytes group.now column.now ≡ [])) }
-    ensures fails { IfErr result (FailsBy (S.told source.old) (S.faults source.old) (S.faults source.new) (λ bytes.
+    ensures quiet { OnOk result (S.faults source.new ≡ S.faults source.old) }
+    ensures ok { OnOk result (IfSome (S.told source.old) (λ bytes.
+        chunk_read_causes bytes group.now column.now ≡ [])) }
+    ensures fails { IfErr result (
+        FailsBy (S.told source.old) (S.faults source.old) (S.faults source.new) (λ bytes.
         chunk_read_causes bytes group.now column.now)) }
     ensures nulls { IfOk result (λ found. map column_of found.0.items
         ≡ map (λ nulls. (type.Null, nulls)) (cut chunk_size (replicate (length (rows_of runs.now)) Null))) }

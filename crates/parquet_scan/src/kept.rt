@@ -30,6 +30,7 @@ pub(crate) fn kept_groups<S: Source>(
     requires lengths { length counts.now ≡ length groups.now }
     requires legal { list_all (is_legal_bound_of fields.now) bounds.now ≡ true }
     ensures keeps { Keeps S.Source source.old source.new }
+    ensures quiet { OnOk result (S.faults source.new ≡ S.faults source.old) }
     ensures ok { OnOk result (IfSome (S.told source.old) (λ bytes.
         index_causes_of_groups by_pages fields.now bounds.now bytes groups.now counts.now ≡ [])) }
     ensures fails { IfErr result (
@@ -65,6 +66,7 @@ fn kept_group<S: Source>(
 ) -> Result<GroupKept, Error>
     requires legal { list_all (is_legal_bound_of fields.now) bounds.now ≡ true }
     ensures keeps { Keeps S.Source source.old source.new }
+    ensures quiet { OnOk result (S.faults source.new ≡ S.faults source.old) }
     ensures ok { OnOk result (IfSome (S.told source.old) (λ bytes.
         index_causes_if by_pages fields.now bounds.now bytes (group.now, counts) ≡ [])) }
     ensures fails { IfErr result (
@@ -97,6 +99,7 @@ fn kept_runs<S: Source>(
 ) -> Result<Vec<Interval>, Error>
     requires legal { list_all (is_legal_bound_of fields.now) bounds.now ≡ true }
     ensures keeps { Keeps S.Source source.old source.new }
+    ensures quiet { OnOk result (S.faults source.new ≡ S.faults source.old) }
     ensures ok { OnOk result (IfSome (S.told source.old) (λ bytes.
         index_causes_if by_pages fields.now bounds.now bytes (group.now, counts) ≡ [])) }
     ensures fails { IfErr result (

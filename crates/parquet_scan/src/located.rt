@@ -46,9 +46,11 @@ pub(crate) fn read_located<S: Source, L: Ledger>(
     requires pair { pair_causes column.now.descriptor.primitive_type data_type.now ≡ [] }
     requires not_null { is_null_type data_type.now ≡ false }
     ensures keeps { Keeps S.Source source.old source.new }
+    ensures quiet { OnOk result (S.faults source.new ≡ S.faults source.old) }
     ensures ok { OnOk result (IfSome (S.told source.old) (λ bytes.
         causes_of_chunk true chunk_size bytes group.now (rows_of intervals.now) data_type.now column.now ≡ [])) }
-    ensures fails { IfErr result (FailsBy (S.told source.old) (S.faults source.old) (S.faults source.new) (λ bytes.
+    ensures fails { IfErr result (
+        FailsBy (S.told source.old) (S.faults source.old) (S.faults source.new) (λ bytes.
         causes_of_chunk true chunk_size bytes group.now (rows_of intervals.now) data_type.now column.now)) }
     ensures typed { IfOk result (λ found. All (λ array. data_type_of array ≡ data_type.now) found.0.items) }
     ensures counts { IfOk result (λ found.
@@ -60,7 +62,8 @@ pub(crate) fn read_located<S: Source, L: Ledger>(
     ensures pages { IfOk result (λ found. found.1 ≡ min (steps.new - steps.old) (2 ^ 64 - 1)) }
     ensures lent { OnOk result (RisesJustBy (S.told source.old) steps.old steps.new (λ bytes.
         lent_of_chunk true bytes group.now (rows_of intervals.now) column.now)) }
-    ensures taken { OnOk result (RisesBy (S.told source.old) (S.taken source.old) (S.taken source.new) (λ bytes.
+    ensures taken { OnOk result (
+        RisesBy (S.told source.old) (S.taken source.old) (S.taken source.new) (λ bytes.
         offset_index_length column.now + taken_of_chunk true bytes group.now (rows_of intervals.now) column.now)) }
 {
     let rows = count_of_rows(group, intervals);
@@ -91,11 +94,18 @@ fn read_bodies<S: Source>(
     pages: &[FilteredPage],
 ) -> Result<Vec<Vec<u8>>, Error>
     ensures keeps { Keeps S.Source source.old source.new }
-    ensures ok { OnOk result (IfSome (S.told source.old) (λ bytes. flat_map (entry_causes bytes chunk) (filter is_wanted_by pages.now) ≡ [])) }
-    ensures fails { IfErr result (FailsBy (S.told source.old) (S.faults source.old) (S.faults source.new) (λ bytes. flat_map (entry_causes bytes chunk) (filter is_wanted_by pages.now))) }
-    ensures bodies { IfOk result (λ bodies. IfSome (S.told source.old) (λ bytes. map (entry_part bytes chunk) (filter is_wanted_by pages.now) ≡ map (λ body. Some body.items) bodies.items)) }
+    ensures quiet { OnOk result (S.faults source.new ≡ S.faults source.old) }
+    ensures ok { OnOk result (IfSome (S.told source.old) (λ bytes.
+        flat_map (entry_causes bytes chunk) (filter is_wanted_by pages.now) ≡ [])) }
+    ensures fails { IfErr result (FailsBy (S.told source.old) (S.faults source.old) (S.faults source.new)
+        (λ bytes. flat_map (entry_causes bytes chunk) (filter is_wanted_by pages.now))) }
+    ensures bodies { IfOk result (λ bodies.
+        IfSome (S.told source.old) (λ bytes.
+        map (entry_part bytes chunk) (filter is_wanted_by pages.now)
+        ≡ map (λ body. Some body.items) bodies.items)) }
     ensures length { IfOk result (λ bodies. length bodies.items ≡ length (filter is_wanted_by pages.now)) }
-    ensures taken { OnOk result (S.taken source.new ≤ S.taken source.old + sum_by (λ page. page.length) (filter is_wanted_by pages.now)) }
+    ensures taken { OnOk result (S.taken source.new ≤ S.taken source.old
+        + sum_by (λ page. page.length) (filter is_wanted_by pages.now)) }
 {
     let mut bodies = Vec::new(alloc);
     for page in pages {
@@ -130,10 +140,16 @@ fn read_before<S: Source>(
     wanted: bool,
 ) -> Result<Vec<u8>, Error>
     ensures keeps { Keeps S.Source source.old source.new }
-    ensures ok { OnOk result (IfSome (S.told source.old) (λ bytes. (if wanted then part_causes bytes chunk (place_before_by chunk pages.now) else []) ≡ [])) }
-    ensures fails { IfErr result (FailsBy (S.told source.old) (S.faults source.old) (S.faults source.new) (λ bytes. (if wanted then part_causes bytes chunk (place_before_by chunk pages.now) else []))) }
-    ensures part { IfOk result (λ part. IsTrue wanted → IfSome (S.told source.old) (λ bytes. part_in bytes chunk (place_before_by chunk pages.now) ≡ Some part.items)) }
-    ensures taken { S.taken source.new ≤ S.taken source.old + (if wanted then (place_before_by chunk pages.now).length else 0) }
+    ensures quiet { OnOk result (S.faults source.new ≡ S.faults source.old) }
+    ensures ok { OnOk result (IfSome (S.told source.old) (λ bytes.
+        (if wanted then part_causes bytes chunk (place_before_by chunk pages.now) else []) ≡ [])) }
+    ensures fails { IfErr result (FailsBy (S.told source.old) (S.faults source.old) (S.faults source.new)
+        (λ bytes. (if wanted then part_causes bytes chunk (place_before_by chunk pages.now) else []))) }
+    ensures part { IfOk result (λ part.
+        IsTrue wanted → IfSome (S.told source.old) (λ bytes.
+        part_in bytes chunk (place_before_by chunk pages.now) ≡ Some part.items)) }
+    ensures taken { S.taken source.new ≤ S.taken source.old
+        + (if wanted then (place_before_by chunk pages.now).length else 0) }
 {
     if wanted {
         return read_part(alloc, source, chunk, place_before(chunk, pages));
@@ -167,9 +183,12 @@ fn read_part<S: Source>(
     part: Place,
 ) -> Result<Vec<u8>, Error>
     ensures keeps { Keeps S.Source source.old source.new }
+    ensures quiet { OnOk result (S.faults source.new ≡ S.faults source.old) }
     ensures ok { OnOk result (IfSome (S.told source.old) (λ bytes. part_causes bytes chunk part ≡ [])) }
-    ensures fails { IfErr result (FailsBy (S.told source.old) (S.faults source.old) (S.faults source.new) (λ bytes. part_causes bytes chunk part)) }
-    ensures part { IfOk result (λ found. IfSome (S.told source.old) (λ bytes. part_in bytes chunk part ≡ Some found.items)) }
+    ensures fails { IfErr result (FailsBy (S.told source.old) (S.faults source.old) (S.faults source.new)
+        (λ bytes. part_causes bytes chunk part)) }
+    ensures part { IfOk result (λ found.
+        IfSome (S.told source.old) (λ bytes. part_in bytes chunk part ≡ Some found.items)) }
     ensures taken { S.taken source.new ≤ S.taken source.old + part.length }
 {
     if !lies_in(chunk, part) {

@@ -29,12 +29,20 @@ pub(crate) fn read_all_locations<S: Source>(
     fields: &[Field],
 ) -> Result<Vec<Vec<PageLocation>>, Error>
     ensures keeps { Keeps S.Source source.old source.new }
-    ensures ok { OnOk result (IfSome (S.told source.old) (λ bytes. flat_map (offset_causes_of_field bytes group.now) fields.now ≡ [])) }
-    ensures fails { IfErr result (FailsBy (S.told source.old) (S.faults source.old) (S.faults source.new) (λ bytes. flat_map (offset_causes_of_field bytes group.now) fields.now)) }
-    ensures locations { IfOk result (λ lists. IfSome (S.told source.old) (λ bytes. map (λ field. field_locations bytes group.now field.name) fields.now ≡ map (λ list. list.items) lists.items)) }
+    ensures quiet { OnOk result (S.faults source.new ≡ S.faults source.old) }
+    ensures ok { OnOk result (IfSome (S.told source.old) (λ bytes.
+        flat_map (offset_causes_of_field bytes group.now) fields.now ≡ [])) }
+    ensures fails { IfErr result (FailsBy (S.told source.old) (S.faults source.old) (S.faults source.new)
+        (λ bytes. flat_map (offset_causes_of_field bytes group.now) fields.now)) }
+    ensures locations { IfOk result (λ lists.
+        IfSome (S.told source.old) (λ bytes.
+        map (λ field. field_locations bytes group.now field.name) fields.now
+        ≡ map (λ list. list.items) lists.items)) }
     ensures length { IfOk result (λ lists. length lists.items ≡ length fields.now) }
-    ensures shaped { IfOk result (λ lists. list_all (λ list. has_shape list.items group.now.num_rows) lists.items ≡ true) }
-    ensures taken { OnOk result (S.taken source.new ≤ S.taken source.old + sum_by (offset_index_of group.now) fields.now) }
+    ensures shaped { IfOk result (λ lists.
+        list_all (λ list. has_shape list.items group.now.num_rows) lists.items ≡ true) }
+    ensures taken { OnOk result (S.taken source.new ≤ S.taken source.old
+        + sum_by (offset_index_of group.now) fields.now) }
 {
     let mut lists = Vec::new(alloc);
     for field in fields {
@@ -50,9 +58,13 @@ fn read_field_locations<S: Source>(
     field: &Field,
 ) -> Result<Vec<PageLocation>, Error>
     ensures keeps { Keeps S.Source source.old source.new }
-    ensures ok { OnOk result (IfSome (S.told source.old) (λ bytes. offset_causes_of_field bytes group.now field.now ≡ [])) }
-    ensures fails { IfErr result (FailsBy (S.told source.old) (S.faults source.old) (S.faults source.new) (λ bytes. offset_causes_of_field bytes group.now field.now)) }
-    ensures locations { IfOk result (λ list. IfSome (S.told source.old) (λ bytes. field_locations bytes group.now field.now.name ≡ list.items)) }
+    ensures quiet { OnOk result (S.faults source.new ≡ S.faults source.old) }
+    ensures ok { OnOk result (IfSome (S.told source.old) (λ bytes.
+        offset_causes_of_field bytes group.now field.now ≡ [])) }
+    ensures fails { IfErr result (FailsBy (S.told source.old) (S.faults source.old) (S.faults source.new)
+        (λ bytes. offset_causes_of_field bytes group.now field.now)) }
+    ensures locations { IfOk result (λ list.
+        IfSome (S.told source.old) (λ bytes. field_locations bytes group.now field.now.name ≡ list.items)) }
     ensures shaped { IfOk result (λ list. has_shape list.items group.now.num_rows ≡ true) }
     ensures taken { S.taken source.new ≤ S.taken source.old + offset_index_of group.now field.now }
 {
@@ -70,9 +82,13 @@ pub(crate) fn read_locations<S: Source>(
     column: &ColumnChunkMetaData,
 ) -> Result<Vec<PageLocation>, Error>
     ensures keeps { Keeps S.Source source.old source.new }
-    ensures ok { OnOk result (IfSome (S.told source.old) (λ bytes. locations_causes bytes group.now column.now ≡ [])) }
-    ensures fails { IfErr result (FailsBy (S.told source.old) (S.faults source.old) (S.faults source.new) (λ bytes. locations_causes bytes group.now column.now)) }
-    ensures locations { IfOk result (λ list. IfSome (S.told source.old) (λ bytes. locations_by bytes column.now ≡ list.items)) }
+    ensures quiet { OnOk result (S.faults source.new ≡ S.faults source.old) }
+    ensures ok { OnOk result (IfSome (S.told source.old) (λ bytes.
+        locations_causes bytes group.now column.now ≡ [])) }
+    ensures fails { IfErr result (FailsBy (S.told source.old) (S.faults source.old) (S.faults source.new)
+        (λ bytes. locations_causes bytes group.now column.now)) }
+    ensures locations { IfOk result (λ list.
+        IfSome (S.told source.old) (λ bytes. locations_by bytes column.now ≡ list.items)) }
     ensures shaped { IfOk result (λ list. has_shape list.items group.now.num_rows ≡ true) }
     ensures taken { S.taken source.new ≤ S.taken source.old + offset_index_length column.now }
 {
@@ -97,7 +113,8 @@ fn check_shape(alloc: Global, locations: &[PageLocation], num_rows: usize) -> Re
 }
 
 fn are_shaped(rows: &[Interval], locations: &[PageLocation]) -> bool
-    ensures { result ≡ (begin_with_row_0 (Some rows.now) && list_all (λ location. is_some (part_of location)) locations.now) }
+    ensures { result
+        ≡ (begin_with_row_0 (Some rows.now) && list_all (λ location. is_some (part_of location)) locations.now) }
 {
     begin_at_row_0(rows) && have_parts(locations)
 }

@@ -24,6 +24,7 @@ pub(crate) fn read_page_ends<S: Source>(
 ) -> Result<Vec<PageIndex<Cell>>, Error>
     requires named { begins name.now column.now.descriptor ≡ true }
     ensures keeps { Keeps S.Source source.old source.new }
+    ensures quiet { OnOk result (S.faults source.new ≡ S.faults source.old) }
     ensures ok { OnOk result (IfSome (S.told source.old) (λ bytes.
         spec.column_index_causes data_type.now count bytes column.now ≡ [])) }
     ensures fails { IfErr result (
@@ -55,7 +56,9 @@ fn read_index<S: Source>(
 ) -> Result<Index, Error>
     requires named { begins name.now column.now.descriptor ≡ true }
     ensures keeps { Keeps S.Source source.old source.new }
-    ensures found { FindsIndex column.now (S.told source.old) (S.faults source.old) (S.faults source.new) result }
+    ensures quiet { OnOk result (S.faults source.new ≡ S.faults source.old) }
+    ensures found { FindsIndex column.now (S.told source.old) (S.faults source.old)
+        (S.faults source.new) result }
     ensures taken { S.taken source.new ≤ S.taken source.old + column_index_length column.now }
 {
     let mut indexes = read_raw_indexes(alloc, source, slice::from_ref(column), name.as_str())?;

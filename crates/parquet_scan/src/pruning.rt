@@ -35,6 +35,7 @@ pub(crate) fn kept_by_pages<S: Source>(
 ) -> Result<Vec<Interval>, Error>
     requires legal { list_all (is_legal_bound_of fields.now) bounds.now ≡ true }
     ensures keeps { Keeps S.Source source.old source.new }
+    ensures quiet { OnOk result (S.faults source.new ≡ S.faults source.old) }
     ensures ok { OnOk result (IfSome (S.told source.old) (λ bytes.
         index_causes_of_group fields.now bounds.now bytes group.now ≡ [])) }
     ensures fails { IfErr result (
@@ -68,6 +69,7 @@ fn read_all_runs<S: Source>(
         map (λ field. field_locations bytes group.now field.name) fields.now
         ≡ map (λ list. list.items) locations.now) }
     ensures keeps { Keeps S.Source source.old source.new }
+    ensures quiet { OnOk result (S.faults source.new ≡ S.faults source.old) }
     ensures ok { OnOk result (IfSome (S.told source.old) (λ bytes.
         flat_map (index_causes_of_bound fields.now bytes group.now) bounds.now ≡ [])) }
     ensures fails { IfErr result (
@@ -103,6 +105,7 @@ fn read_runs<S: Source>(
     requires told { IfSome (S.told source.old) (λ bytes.
         field_locations bytes group.now bound.now.field ≡ locations.now) }
     ensures keeps { Keeps S.Source source.old source.new }
+    ensures quiet { OnOk result (S.faults source.new ≡ S.faults source.old) }
     ensures ok { OnOk result (IfSome (S.told source.old) (λ bytes.
         index_causes_of_bound fields.now bytes group.now bound.now ≡ [])) }
     ensures fails { IfErr result (

@@ -40,21 +40,26 @@ pub(crate) fn read_groups<S: Source, L: Ledger>(
     requires size { IsChunkSize chunk_size }
     requires some { 0 < length fields.now }
     ensures keeps { Keeps S.Source source.old source.new }
+    ensures quiet { OnOk result (S.faults source.new ≡ S.faults source.old) }
     ensures ok { OnOk result (IfSome (S.told source.old) (λ bytes.
         causes_of_groups by_pages chunk_size fields.now bytes groups.now given.now ≡ [])) }
-    ensures fails { IfErr result (FailsBy (S.told source.old) (S.faults source.old) (S.faults source.new) (λ bytes.
+    ensures fails { IfErr result (
+        FailsBy (S.told source.old) (S.faults source.old) (S.faults source.new) (λ bytes.
         causes_of_groups by_pages chunk_size fields.now bytes groups.now given.now)) }
     ensures chunks { OnOk result (IfSome (S.told source.old) (λ bytes. shown read.new.chunks.items
         ≡ shown read.old.chunks.items ++ chunks_of_groups by_pages chunk_size fields.now bytes groups.now given.now)) }
     ensures rows { OnOk result (read.new.rows ≡ min (read.old.rows + rows_of_groups given.now) (2 ^ 64 - 1)) }
     ensures own_rows { read.old.rows ≡ rows_in read.old.chunks.items →
         OnOk result (read.new.rows ≡ rows_in read.new.chunks.items) }
-    ensures even { OnOk result (All AreEqualLengths read.old.chunks.items → All AreEqualLengths read.new.chunks.items) }
+    ensures even { OnOk result (All AreEqualLengths read.old.chunks.items
+        → All AreEqualLengths read.new.chunks.items) }
     ensures ticks { steps.old ≤ steps.new }
-    ensures pages { OnOk result (read.new.pages ≡ min (read.old.pages + (steps.new - steps.old)) (2 ^ 64 - 1)) }
+    ensures pages { OnOk result (read.new.pages
+        ≡ min (read.old.pages + (steps.new - steps.old)) (2 ^ 64 - 1)) }
     ensures lent { OnOk result (RisesJustBy (S.told source.old) steps.old steps.new (λ bytes.
         lent_of_groups by_pages fields.now bytes groups.now given.now)) }
-    ensures taken { OnOk result (RisesBy (S.told source.old) (S.taken source.old) (S.taken source.new) (λ bytes.
+    ensures taken { OnOk result (
+        RisesBy (S.told source.old) (S.taken source.old) (S.taken source.new) (λ bytes.
         taken_of_groups by_pages fields.now bytes groups.now given.now)) }
 {
     let _rows = read.rows;
@@ -84,21 +89,26 @@ fn read_if_given<S: Source, L: Ledger>(
     requires size { IsChunkSize chunk_size }
     requires some { 0 < length fields.now }
     ensures keeps { Keeps S.Source source.old source.new }
+    ensures quiet { OnOk result (S.faults source.new ≡ S.faults source.old) }
     ensures ok { OnOk result (IfSome (S.told source.old) (λ bytes.
         causes_if_read by_pages chunk_size fields.now bytes (group.now, runs.now) ≡ [])) }
-    ensures fails { IfErr result (FailsBy (S.told source.old) (S.faults source.old) (S.faults source.new) (λ bytes.
+    ensures fails { IfErr result (
+        FailsBy (S.told source.old) (S.faults source.old) (S.faults source.new) (λ bytes.
         causes_if_read by_pages chunk_size fields.now bytes (group.now, runs.now))) }
     ensures chunks { OnOk result (IfSome (S.told source.old) (λ bytes. shown read.new.chunks.items
         ≡ shown read.old.chunks.items ++ chunks_if_read by_pages chunk_size fields.now bytes (group.now, runs.now))) }
     ensures rows { OnOk result (read.new.rows ≡ min (read.old.rows + row_count runs.now) (2 ^ 64 - 1)) }
     ensures own_rows { read.old.rows ≡ rows_in read.old.chunks.items →
         OnOk result (read.new.rows ≡ rows_in read.new.chunks.items) }
-    ensures even { OnOk result (All AreEqualLengths read.old.chunks.items → All AreEqualLengths read.new.chunks.items) }
+    ensures even { OnOk result (All AreEqualLengths read.old.chunks.items
+        → All AreEqualLengths read.new.chunks.items) }
     ensures ticks { steps.old ≤ steps.new }
-    ensures pages { OnOk result (read.new.pages ≡ min (read.old.pages + (steps.new - steps.old)) (2 ^ 64 - 1)) }
+    ensures pages { OnOk result (read.new.pages
+        ≡ min (read.old.pages + (steps.new - steps.old)) (2 ^ 64 - 1)) }
     ensures lent { OnOk result (RisesJustBy (S.told source.old) steps.old steps.new (λ bytes.
         lent_if_read by_pages fields.now bytes (group.now, runs.now))) }
-    ensures taken { OnOk result (RisesBy (S.told source.old) (S.taken source.old) (S.taken source.new) (λ bytes.
+    ensures taken { OnOk result (
+        RisesBy (S.told source.old) (S.taken source.old) (S.taken source.new) (λ bytes.
         taken_if_read by_pages fields.now bytes (group.now, runs.now))) }
 {
     if !runs.is_empty() {
@@ -128,21 +138,26 @@ fn read_group<S: Source, L: Ledger>(
     requires size { IsChunkSize chunk_size }
     requires some { 0 < length fields.now }
     ensures keeps { Keeps S.Source source.old source.new }
+    ensures quiet { OnOk result (S.faults source.new ≡ S.faults source.old) }
     ensures ok { OnOk result (IfSome (S.told source.old) (λ bytes.
         causes_of_group by_pages chunk_size fields.now bytes (group.now, rows_of runs.now) ≡ [])) }
-    ensures fails { IfErr result (FailsBy (S.told source.old) (S.faults source.old) (S.faults source.new) (λ bytes.
+    ensures fails { IfErr result (
+        FailsBy (S.told source.old) (S.faults source.old) (S.faults source.new) (λ bytes.
         causes_of_group by_pages chunk_size fields.now bytes (group.now, rows_of runs.now))) }
     ensures chunks { OnOk result (IfSome (S.told source.old) (λ bytes. shown read.new.chunks.items
         ≡ shown read.old.chunks.items ++ map (given_chunk by_pages fields.now bytes group.now) (cut chunk_size (rows_of runs.now)))) }
     ensures rows { OnOk result (read.new.rows ≡ min (read.old.rows + row_count runs.now) (2 ^ 64 - 1)) }
     ensures own_rows { read.old.rows ≡ rows_in read.old.chunks.items →
         OnOk result (read.new.rows ≡ rows_in read.new.chunks.items) }
-    ensures even { OnOk result (All AreEqualLengths read.old.chunks.items → All AreEqualLengths read.new.chunks.items) }
+    ensures even { OnOk result (All AreEqualLengths read.old.chunks.items
+        → All AreEqualLengths read.new.chunks.items) }
     ensures ticks { steps.old ≤ steps.new }
-    ensures pages { OnOk result (read.new.pages ≡ min (read.old.pages + (steps.new - steps.old)) (2 ^ 64 - 1)) }
+    ensures pages { OnOk result (read.new.pages
+        ≡ min (read.old.pages + (steps.new - steps.old)) (2 ^ 64 - 1)) }
     ensures lent { OnOk result (RisesJustBy (S.told source.old) steps.old steps.new (λ bytes.
         lent_of_group by_pages fields.now bytes (group.now, rows_of runs.now))) }
-    ensures taken { OnOk result (RisesBy (S.told source.old) (S.taken source.old) (S.taken source.new) (λ bytes.
+    ensures taken { OnOk result (
+        RisesBy (S.told source.old) (S.taken source.old) (S.taken source.new) (λ bytes.
         columns_taken by_pages fields.now bytes (group.now, rows_of runs.now))) }
 {
     let (mut columns, pages) = read_columns(
@@ -168,9 +183,11 @@ fn read_columns<S: Source, L: Ledger>(
     requires first { AreFirst by_pages runs.now }
     requires size { IsChunkSize chunk_size }
     ensures keeps { Keeps S.Source source.old source.new }
+    ensures quiet { OnOk result (S.faults source.new ≡ S.faults source.old) }
     ensures ok { OnOk result (IfSome (S.told source.old) (λ bytes.
         causes_of_group by_pages chunk_size fields.now bytes (group.now, rows_of runs.now) ≡ [])) }
-    ensures fails { IfErr result (FailsBy (S.told source.old) (S.faults source.old) (S.faults source.new) (λ bytes.
+    ensures fails { IfErr result (
+        FailsBy (S.told source.old) (S.faults source.old) (S.faults source.new) (λ bytes.
         causes_of_group by_pages chunk_size fields.now bytes (group.now, rows_of runs.now))) }
     ensures count { IfOk result (λ found. length found.0.items ≡ length fields.now) }
     ensures counts { IfOk result (λ found.
@@ -184,7 +201,8 @@ fn read_columns<S: Source, L: Ledger>(
     ensures pages { IfOk result (λ found. found.1 ≡ min (steps.new - steps.old) (2 ^ 64 - 1)) }
     ensures lent { OnOk result (RisesJustBy (S.told source.old) steps.old steps.new (λ bytes.
         lent_of_group by_pages fields.now bytes (group.now, rows_of runs.now))) }
-    ensures taken { OnOk result (RisesBy (S.told source.old) (S.taken source.old) (S.taken source.new) (λ bytes.
+    ensures taken { OnOk result (
+        RisesBy (S.told source.old) (S.taken source.old) (S.taken source.new) (λ bytes.
         columns_taken by_pages fields.now bytes (group.now, rows_of runs.now))) }
 {
     let mut columns = Vec::new(alloc);
@@ -215,9 +233,11 @@ fn read_field<S: Source, L: Ledger>(
     requires first { AreFirst by_pages runs.now }
     requires size { IsChunkSize chunk_size }
     ensures keeps { Keeps S.Source source.old source.new }
+    ensures quiet { OnOk result (S.faults source.new ≡ S.faults source.old) }
     ensures ok { OnOk result (IfSome (S.told source.old) (λ bytes.
         causes_of_column by_pages chunk_size bytes group.now (rows_of runs.now) field.now ≡ [])) }
-    ensures fails { IfErr result (FailsBy (S.told source.old) (S.faults source.old) (S.faults source.new) (λ bytes.
+    ensures fails { IfErr result (
+        FailsBy (S.told source.old) (S.faults source.old) (S.faults source.new) (λ bytes.
         causes_of_column by_pages chunk_size bytes group.now (rows_of runs.now) field.now)) }
     ensures counts { IfOk result (λ found.
         map (λ array. length (cells array)) found.0.items ≡ map length (cut chunk_size (rows_of runs.now))) }
@@ -228,7 +248,8 @@ fn read_field<S: Source, L: Ledger>(
     ensures pages { IfOk result (λ found. found.1 ≡ min (steps.new - steps.old) (2 ^ 64 - 1)) }
     ensures lent { OnOk result (RisesJustBy (S.told source.old) steps.old steps.new (λ bytes.
         lent_of_column by_pages bytes group.now (rows_of runs.now) field.now)) }
-    ensures taken { OnOk result (RisesBy (S.told source.old) (S.taken source.old) (S.taken source.new) (λ bytes.
+    ensures taken { OnOk result (
+        RisesBy (S.told source.old) (S.taken source.old) (S.taken source.new) (λ bytes.
         column_taken by_pages bytes group.now (rows_of runs.now) field.now)) }
 {
     let Some(column) = column_named(group, &field.name) else {

@@ -9,6 +9,7 @@ ghost use Rattle.parquet_scan.specs.Scan.{request_of};
 ghost use Rattle.columns_core.specs.Types as types;
 
 use crate::{Bound, Scalar};
+use column_ends::value_type;
 use columns_core::{DataType, Field, Name, Schema};
 use parquet_meta::{ColumnDescriptor, FileMetaData};
 
@@ -142,16 +143,6 @@ pub(crate) fn place_of(bound: &Bound, fields: &[Field]) -> usize
         place += 1;
     }
     place
-}
-
-/// Of a dictionary type the type of its entries, and of any other the type itself.
-pub(crate) fn value_type(data_type: &DataType) -> &DataType
-    ensures { result.now ≡ types.value_type data_type.now }
-{
-    match data_type {
-        DataType::Dictionary(_, values, _) => values.get(),
-        _ => data_type,
-    }
 }
 
 fn is_value_of(data_type: &DataType, value: &Scalar) -> bool

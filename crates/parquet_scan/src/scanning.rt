@@ -57,6 +57,7 @@ pub fn scan_where<S: Source, L: Ledger>(
     steps: &mut Steps<L>,
 ) -> Result<Scan, Error>
     ensures keeps { Keeps S.Source source.old source.new }
+    ensures quiet { OnOk result (S.faults source.new ≡ S.faults source.old) }
     ensures answers { let request = request_of schema.now bounds.now chunk_size limit in
         IfOk result (Answers request (S.told source.old)) }
     ensures refuses { let request = request_of schema.now bounds.now chunk_size limit in
@@ -119,6 +120,7 @@ fn scan_groups<S: Source, L: Ledger>(
     requires legal { let request = request_of schema.now bounds.now chunk_size limit in
         spec.is_legal request (Some metadata.now) ≡ true }
     ensures keeps { Keeps S.Source source.old source.new }
+    ensures quiet { OnOk result (S.faults source.new ≡ S.faults source.old) }
     ensures ok { let request = request_of schema.now bounds.now chunk_size limit in
         OnOk result (IfSome (S.told source.old) (λ bytes. let file = file_with bytes metadata.now in
         and_then (index_causes request file) (read_causes request file) ≡ [])) }

@@ -4,23 +4,23 @@
 #[cfg(test)]
 mod bounds;
 #[cfg(test)]
-mod compact;
+mod columns;
 #[cfg(test)]
-mod edges;
+mod endings;
 #[cfg(test)]
-mod files;
+mod failing;
 #[cfg(test)]
 mod groups;
 #[cfg(test)]
 mod keyed;
 #[cfg(test)]
+mod lies;
+#[cfg(test)]
 mod limits;
 #[cfg(test)]
-mod parts;
+mod pairs_file;
 #[cfg(test)]
-mod refused;
-#[cfg(test)]
-mod run_tests;
+mod reports;
 #[cfg(test)]
 mod running;
 #[cfg(test)]
@@ -29,5 +29,3 @@ mod samples;
 mod spelling;
 #[cfg(test)]
 mod texts;
-#[cfg(test)]
-mod written;

@@ -1,24 +1,26 @@
 //! Runs over samples, which the first word names.
-use crate::files::{F1, F1_ROWS};
-use crate::running::{run_on, text_of};
-use parquet_meta::{FailingSource, MemorySource};
+use crate::running::{check, check_answers, check_lines, run_on, words_of};
+use files_for_tests::F1;
+use parquet_meta::FailingSource;
 use pq_common::{MemorySink, Status};
-use std::alloc::Global;
 use std::test::*;
-
-/// The number of the status with which a run ends whose words are these, with one space between each two, and behind it
-/// what the run writes. The source has no bytes.
-fn answer_of(alloc: Global, line: &str) -> Result<Vec<u8>, Fail> {
-    let mut words = Vec::new(alloc);
-    for word in line.split(' ') {
-        words.push(word)?;
-    }
-    text_of(alloc, &words, &[])
-}
 
 /// Words, and what a run answers. The number of a row is in the column `id`; `qty` has it where it is no multiple of 5;
 /// `name` has it behind an r.
-const SAMPLES: [(&str, &[u8]); 16] = [
+const SAMPLES: [(&str, &[u8]); 19] = [
+    // Pages of `id` have 1000 rows.
+    (
+        "@sample:100000:7 id:Int64 qty:Int32 id>=54321 id<=54420 --summary",
+        b"\x00group 0 20000 -\ngroup 1 20000 -\ngroup 2 20000 14000+1000\ngroup 3 20000 -\ngroup 4 20000 -\nrows 1000\npages 3\n",
+    ),
+    (
+        "@sample:2000:0 qty:Int32 id:Int64 id>=1500 --limit 3",
+        b"\x00group 0 2000 1000+1000\nchunk 3\nnull\t1000\n1\t1001\n2\t1002\n",
+    ),
+    (
+        "@sample:2000:0 id:Int64 qty:Int32 id>=1500 qty<=50 --summary",
+        b"\x00group 0 2000 1000+400\nrows 400\npages 2\n",
+    ),
     (
         "@sample:6:0 id:Int64 qty:Int32",
         b"\x00group 0 6 0+6\nchunk 6\n0\tnull\n1\t1\n2\t2\n3\t3\n4\t4\n5\tnull\n",
@@ -82,47 +84,49 @@ const SAMPLES: [(&str, &[u8]); 16] = [
     ),
 ];
 
-#[test]
-fn samples_are_scanned(rt: HostRuntime) -> Result<(), Fail> {
-    for (line, answer) in SAMPLES.iter() {
-        let found = answer_of(rt.alloc(), line)?;
-        assert_eq!(rt; found.as_slice(), *answer, "at {line}");
-    }
-    Ok(())
-}
+/// Samples of too many rows, and requests that do not fit.
+const TOO_GREAT: [&str; 6] = [
+    "@sample:2000001:0 id:Int64",
+    "@sample:4294967295:4294967295 id:Int64",
+    "@sample:2000001:0 none:Int64",
+    "@sample:6:0 none:Int64",
+    "@sample:6:0 --summary",
+    "@sample:6:0 id:Int64 id:Int64",
+];
 
-/// Words over no bytes, and how a run ends: a sample of too many rows, words that spell no request, and names that are
-/// no sample's, so that the source is read.
-const ENDINGS: [(&str, Status); 20] = [
-    ("@sample:2000001:0 id:Int64", Status::Argument),
-    ("@sample:4294967295:4294967295 id:Int64", Status::Argument),
-    ("@sample:2000001:0 none:Int64", Status::Argument),
-    ("@sample:2000001:0 id:Number", Status::Words),
-    ("@sample:2000001:0 --limit", Status::Words),
-    ("@sample:6:0 none:Int64", Status::Argument),
-    ("@sample:6:0 --summary", Status::Argument),
-    ("@sample:6:0 id:Int64 id:Int64", Status::Argument),
-    ("@sample:4294967296:0 id:Int64", Status::Damaged),
-    ("@sample:1:4294967296 id:Int64", Status::Damaged),
-    ("@sample:12345678901:0 id:Int64", Status::Damaged),
-    ("@sample:00000000006:0 id:Int64", Status::Damaged),
-    ("@sample:1: id:Int64", Status::Damaged),
-    ("@sample::1 id:Int64", Status::Damaged),
-    ("@sample:1 id:Int64", Status::Damaged),
-    ("@sample:1:2:3 id:Int64", Status::Damaged),
-    ("@sample:+1:0 id:Int64", Status::Damaged),
-    ("@sample:1:-0 id:Int64", Status::Damaged),
-    ("@Sample:1:0 id:Int64", Status::Damaged),
-    ("./@sample:1:0 id:Int64", Status::Damaged),
+/// Words that spell no request.
+const NO_REQUESTS: [&str; 2] = ["@sample:2000001:0 id:Number", "@sample:2000001:0 --limit"];
+
+/// Names that are no sample's, so that the source is read, which has no bytes.
+const NO_SAMPLES: [&str; 12] = [
+    "@sample:4294967296:0 id:Int64",
+    "@sample:1:4294967296 id:Int64",
+    "@sample:12345678901:0 id:Int64",
+    "@sample:00000000006:0 id:Int64",
+    "@sample:1: id:Int64",
+    "@sample::1 id:Int64",
+    "@sample:1 id:Int64",
+    "@sample:1:2:3 id:Int64",
+    "@sample:+1:0 id:Int64",
+    "@sample:1:-0 id:Int64",
+    "@Sample:1:0 id:Int64",
+    "./@sample:1:0 id:Int64",
 ];
 
 #[test]
-fn samples_that_are_none(rt: HostRuntime) -> Result<(), Fail> {
-    for (line, status) in ENDINGS.iter() {
-        let found = answer_of(rt.alloc(), line)?;
-        assert_eq!(rt; found.as_slice(), [status.number()].as_slice(), "at {line}");
-    }
-    Ok(())
+fn samples_are_scanned(rt: HostRuntime) -> Result<(), Fail> {
+    let alloc = rt.alloc();
+    check_answers(alloc, &[], &SAMPLES)?;
+    check_lines(alloc, &[], &TOO_GREAT, &[3])?;
+    check_lines(alloc, &[], &NO_REQUESTS, &[2])?;
+    check_lines(alloc, &[], &NO_SAMPLES, &[5])?;
+    // A name without a seed is a path.
+    check(
+        alloc,
+        &F1,
+        "@sample:6 a:Int32",
+        b"\x00group 0 5 0+5\nchunk 5\n10\n12\n15\n18\n20\n",
+    )
 }
 
 /// The first call of the source would fail.
@@ -131,22 +135,7 @@ fn the_source_is_not_called_for_a_sample(rt: HostRuntime) -> Result<(), Fail> {
     let alloc = rt.alloc();
     let mut out = MemorySink::new(alloc, 100)?;
     let mut source = FailingSource::new(Vec::new(alloc), vec![in alloc; 1u64]?);
-    let status = run_on(alloc, &["@sample:1:3", "id:Int64"], &mut source, &mut out)?;
-    assert_eq!(rt; status, Status::Done);
-    assert_eq!(rt; out.bytes(), b"group 0 1 0+1\nchunk 1\n3\n".as_slice());
-    let named = run_on(alloc, &["@sample:1:", "id:Int64"], &mut source, &mut out)?;
-    assert_eq!(rt; named, Status::Reading);
-    Ok(())
-}
-
-/// A name that is nearly a sample's is the source's.
-#[test]
-fn a_name_without_a_seed_is_a_path(rt: HostRuntime) -> Result<(), Fail> {
-    let alloc = rt.alloc();
-    let mut out = MemorySink::new(alloc, 100)?;
-    let mut source = MemorySource::new(Vec::from_slice(alloc, &F1)?);
-    let status = run_on(alloc, &["@sample:6", "a:Int32"], &mut source, &mut out)?;
-    assert_eq!(rt; status, Status::Done);
-    assert_eq!(rt; out.bytes(), F1_ROWS);
+    let words = words_of(alloc, "@sample:1:3 id:Int64")?;
+    assert_eq!(rt; run_on(alloc, &words, &mut source, &mut out), Status::Done);
     Ok(())
 }

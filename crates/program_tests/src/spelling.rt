@@ -1,131 +1,111 @@
 //! Options, types, values and names as words spell them, each asked of the first file.
-use crate::files::F1;
-use crate::parts::{self, Column};
-use crate::running::{answer_on, answer_to, text_of};
-use crate::written::FileBuilder;
-use pq_common::Status;
-use std::alloc::{AllocError, Global};
+use crate::running::{File, answer_to, check_answers, check_files, check_lines, words_of};
+use files_for_tests::Levels::Absent;
+use files_for_tests::{CHUNK, Chunk, Column, F1, Page, Told, Values};
+use std::alloc::Global;
 use std::test::*;
-
-/// Whether a run on the first file ends so and writes nothing that is asked by these words.
-fn ends_with(alloc: Global, line: &str, status: Status) -> Result<bool, Fail> {
-    let found = answer_to(alloc, line)?;
-    Ok(found.as_slice() == [status.number()].as_slice())
-}
 
 /// The report on the rows of the first file as numbers, behind the status.
 const NUMBERS: &[u8] = b"\x00group 0 5 0+5\nchunk 5\n10\n12\n15\n18\n20\n";
 
 /// What may be asked of a column of numbers of 32 bits, and gives the numbers themselves.
 const READ: [&str; 13] = [
-    "a:Int8",
-    "a:Int16",
-    "a:Int32",
-    "a:UInt8",
-    "a:UInt16",
-    "a:UInt32",
-    "a:Date32",
-    "a:Time32(s)",
-    "a:Time32(ms)",
-    "a:Time32(us)",
-    "a:Time32(ns)",
-    "a:Decimal(9,2)",
-    "a:Decimal(0,18446744073709551615)",
+    "x a:Int8",
+    "x a:Int16",
+    "x a:Int32",
+    "x a:UInt8",
+    "x a:UInt16",
+    "x a:UInt32",
+    "x a:Date32",
+    "x a:Time32(s)",
+    "x a:Time32(ms)",
+    "x a:Time32(us)",
+    "x a:Time32(ns)",
+    "x a:Decimal(9,2)",
+    "x a:Decimal(0,18446744073709551615)",
 ];
 
-#[test]
-fn types_that_the_column_is_read_as(rt: HostRuntime) -> Result<(), Fail> {
-    for line in READ.iter() {
-        let found = answer_to(rt.alloc(), line)?;
-        assert_eq!(rt; found.as_slice(), NUMBERS, "at {line}");
-    }
-    let nulls = answer_to(rt.alloc(), "a:Null")?;
-    assert_eq!(rt;
-        nulls.as_slice(),
-        b"\x00group 0 5 0+5\nchunk 5\nnull\nnull\nnull\nnull\nnull\n".as_slice()
-    );
-    let days = answer_to(rt.alloc(), "a:Date64")?;
-    assert_eq!(rt;
-        days.as_slice(),
-        b"\x00group 0 5 0+5\nchunk 5\n864000000\n1036800000\n1296000000\n1555200000\n1728000000\n".as_slice()
-    );
-    Ok(())
-}
+/// What gives other values.
+const CONVERTED: [(&str, &[u8]); 2] = [
+    (
+        "x a:Null",
+        b"\x00group 0 5 0+5\nchunk 5\nnull\nnull\nnull\nnull\nnull\n",
+    ),
+    (
+        "x a:Date64",
+        b"\x00group 0 5 0+5\nchunk 5\n864000000\n1036800000\n1296000000\n1555200000\n1728000000\n",
+    ),
+];
 
 /// Types that such a column is not read as.
 const OTHERS: [&str; 29] = [
-    "a:Boolean",
-    "a:Int64",
-    "a:UInt64",
-    "a:Time64(s)",
-    "a:Time64(ms)",
-    "a:Time64(us)",
-    "a:Time64(ns)",
-    "a:Duration(s)",
-    "a:Duration(ms)",
-    "a:Duration(us)",
-    "a:Duration(ns)",
-    "a:Timestamp(s)",
-    "a:Timestamp(ms)",
-    "a:Timestamp(us)",
-    "a:Timestamp(ns)",
-    "a:FixedSizeBinary(4)",
-    "a:FixedSizeBinary(0)",
-    "a:FixedSizeBinary(18446744073709551615)",
-    "a:Interval(YearMonth)",
-    "a:Interval(DayTime)",
-    "a:Utf8",
-    "a:LargeUtf8",
-    "a:Binary",
-    "a:LargeBinary",
-    "a:Dictionary(Int32,Utf8)",
-    "a:Dictionary(UInt8,Int32)",
-    "a:Dictionary(UInt64,Timestamp(us))",
-    "a:Dictionary(Int8,FixedSizeBinary(4))",
-    "a:Dictionary(Int16,Decimal(9,2))",
+    "x a:Boolean",
+    "x a:Int64",
+    "x a:UInt64",
+    "x a:Time64(s)",
+    "x a:Time64(ms)",
+    "x a:Time64(us)",
+    "x a:Time64(ns)",
+    "x a:Duration(s)",
+    "x a:Duration(ms)",
+    "x a:Duration(us)",
+    "x a:Duration(ns)",
+    "x a:Timestamp(s)",
+    "x a:Timestamp(ms)",
+    "x a:Timestamp(us)",
+    "x a:Timestamp(ns)",
+    "x a:FixedSizeBinary(4)",
+    "x a:FixedSizeBinary(0)",
+    "x a:FixedSizeBinary(18446744073709551615)",
+    "x a:Interval(YearMonth)",
+    "x a:Interval(DayTime)",
+    "x a:Utf8",
+    "x a:LargeUtf8",
+    "x a:Binary",
+    "x a:LargeBinary",
+    "x a:Dictionary(Int32,Utf8)",
+    "x a:Dictionary(UInt8,Int32)",
+    "x a:Dictionary(UInt64,Timestamp(us))",
+    "x a:Dictionary(Int8,FixedSizeBinary(4))",
+    "x a:Dictionary(Int16,Decimal(9,2))",
 ];
 
 /// Texts that spell no type.
 const NO_TYPES: [&str; 25] = [
-    "a:",
-    "a:int32",
-    "a:Float32",
-    "a:Decimal256(9,2)",
-    "a:Time32",
-    "a:Time32()",
-    "a:Time32(m)",
-    "a:Time64(S)",
-    "a:Timestamp(s,UTC)",
-    "a:Decimal(9)",
-    "a:Decimal(9,)",
-    "a:Decimal(,2)",
-    "a:Decimal(9,-2)",
-    "a:Decimal(18446744073709551616,0)",
-    "a:FixedSizeBinary",
-    "a:FixedSizeBinary()",
-    "a:FixedSizeBinary(+4)",
-    "a:FixedSizeBinary(4",
-    "a:Interval(MonthDayNano)",
-    "a:Dictionary(Utf8,Int32)",
-    "a:Dictionary(Int32)",
-    "a:Dictionary(Int32,Dictionary(Int32,Int32))",
-    "a:Dictionary(Int32,Float64)",
-    "a:List(Int32)",
-    "a:Int32()",
+    "x a:",
+    "x a:int32",
+    "x a:Float32",
+    "x a:Decimal256(9,2)",
+    "x a:Time32",
+    "x a:Time32()",
+    "x a:Time32(m)",
+    "x a:Time64(S)",
+    "x a:Timestamp(s,UTC)",
+    "x a:Decimal(9)",
+    "x a:Decimal(9,)",
+    "x a:Decimal(,2)",
+    "x a:Decimal(9,-2)",
+    "x a:Decimal(18446744073709551616,0)",
+    "x a:FixedSizeBinary",
+    "x a:FixedSizeBinary()",
+    "x a:FixedSizeBinary(+4)",
+    "x a:FixedSizeBinary(4",
+    "x a:Interval(MonthDayNano)",
+    "x a:Dictionary(Utf8,Int32)",
+    "x a:Dictionary(Int32)",
+    "x a:Dictionary(Int32,Dictionary(Int32,Int32))",
+    "x a:Dictionary(Int32,Float64)",
+    "x a:List(Int32)",
+    "x a:Int32()",
 ];
 
 #[test]
-fn types_that_the_column_is_not_read_as(rt: HostRuntime) -> Result<(), Fail> {
-    for line in OTHERS.iter() {
-        assert!(rt;
-            ends_with(rt.alloc(), line, Status::NotCarried)?,
-            "at {line}"
-        );
-    }
-    for line in NO_TYPES.iter() {
-        assert!(rt; ends_with(rt.alloc(), line, Status::Words)?, "at {line}");
-    }
-    Ok(())
+fn types(rt: HostRuntime) -> Result<(), Fail> {
+    let alloc = rt.alloc();
+    check_lines(alloc, &F1, &READ, NUMBERS)?;
+    check_answers(alloc, &F1, &CONVERTED)?;
+    check_lines(alloc, &F1, &OTHERS, &[4])?;
+    check_lines(alloc, &F1, &NO_TYPES, &[2])
 }
 
 /// Fields of each type of numbers: bounds at the least and the greatest number, and those one past them.
@@ -215,8 +195,9 @@ const RANGES: [(&str, &str, &str, &str, &str); 15] = [
 
 /// Whether words spell a request that ask for a field between two ends.
 fn are_ends(alloc: Global, field: &str, low: &str, high: &str) -> Result<bool, Fail> {
-    let found = text_of(alloc, &["x", field, low, high], &F1)?;
-    Ok(found.as_slice() != [Status::Words.number()].as_slice())
+    let line = format!(in alloc; "x {field} {low} {high}")?;
+    let found = answer_to(alloc, &words_of(alloc, &line)?, &F1)?;
+    Ok(found.as_slice() != [2u8].as_slice())
 }
 
 #[test]
@@ -231,155 +212,179 @@ fn numbers_at_the_ends_of_their_types(rt: HostRuntime) -> Result<(), Fail> {
 }
 
 /// Ends of bounds, and how a run with them ends.
-const VALUES: [(&str, Status); 34] = [
+const VALUES: [(&str, &[u8]); 34] = [
     // At most 39 digits.
     (
-        "a:Decimal(9,2) a>=0000000000000000000000000000000000000001",
-        Status::Words,
+        "x a:Decimal(9,2) a>=0000000000000000000000000000000000000001",
+        &[2],
     ),
     (
-        "a:Decimal(9,2) a>=999999999999999999999999999999999999999",
-        Status::Words,
+        "x a:Decimal(9,2) a>=999999999999999999999999999999999999999",
+        &[2],
     ),
     (
-        "a:Int32 a>=0000000000000000000000000000000000000012",
-        Status::Words,
+        "x a:Int32 a>=0000000000000000000000000000000000000012",
+        &[2],
     ),
-    ("a:Int32 a>=-2147483649", Status::Words),
-    ("a:Int32 a<=2147483648", Status::Words),
-    ("a:Int32 a>=x", Status::Words),
-    ("a:Int32 a>=", Status::Words),
-    ("a:Int32 a>=-", Status::Words),
-    ("a:Int32 a>=+1", Status::Words),
-    ("a:Int32 a>=--1", Status::Words),
-    ("a:Int32 a>=1.0", Status::Words),
-    ("a:Int32 a>=0x1", Status::Words),
-    ("a:Int32 a>=1>=2", Status::Words),
+    ("x a:Int32 a>=-2147483649", &[2]),
+    ("x a:Int32 a<=2147483648", &[2]),
+    ("x a:Int32 a>=x", &[2]),
+    ("x a:Int32 a>=", &[2]),
+    ("x a:Int32 a>=-", &[2]),
+    ("x a:Int32 a>=+1", &[2]),
+    ("x a:Int32 a>=--1", &[2]),
+    ("x a:Int32 a>=1.0", &[2]),
+    ("x a:Int32 a>=0x1", &[2]),
+    ("x a:Int32 a>=1>=2", &[2]),
     // Bytes.
-    ("a:Binary a>=0x", Status::NotCarried),
-    ("a:Binary a>=0x00fF", Status::NotCarried),
-    (
-        "a:LargeBinary a<=0xABCDEFabcdef0123456789",
-        Status::NotCarried,
-    ),
-    ("a:FixedSizeBinary(2) a>=0x0102", Status::NotCarried),
-    ("a:FixedSizeBinary(2) a>=0x010203", Status::Argument),
-    ("a:Dictionary(Int8,Binary) a>=0x01", Status::NotCarried),
-    ("a:Binary a>=", Status::Words),
-    ("a:Binary a>=0x0", Status::Words),
-    ("a:Binary a>=0x0g", Status::Words),
-    ("a:Binary a>=0X00", Status::Words),
-    ("a:Binary a>=00", Status::Words),
+    ("x a:Binary a>=0x", &[4]),
+    ("x a:Binary a>=0x00fF", &[4]),
+    ("x a:LargeBinary a<=0xABCDEFabcdef0123456789", &[4]),
+    ("x a:FixedSizeBinary(2) a>=0x0102", &[4]),
+    ("x a:FixedSizeBinary(2) a>=0x010203", &[3]),
+    ("x a:Dictionary(Int8,Binary) a>=0x01", &[4]),
+    ("x a:Binary a>=", &[2]),
+    ("x a:Binary a>=0x0", &[2]),
+    ("x a:Binary a>=0x0g", &[2]),
+    ("x a:Binary a>=0X00", &[2]),
+    ("x a:Binary a>=00", &[2]),
     // Texts.
-    ("a:Utf8 a>=", Status::NotCarried),
-    ("a:LargeUtf8 a<=x>=y", Status::NotCarried),
-    ("a:Utf8 a>=0x a<=", Status::NotCarried),
-    ("a:Dictionary(Int8,Utf8) a>=x", Status::NotCarried),
+    ("x a:Utf8 a>=", &[4]),
+    ("x a:LargeUtf8 a<=x>=y", &[4]),
+    ("x a:Utf8 a>=0x a<=", &[4]),
+    ("x a:Dictionary(Int8,Utf8) a>=x", &[4]),
     // Types without values.
-    ("a:Null a>=0", Status::Words),
-    ("a:Boolean a>=true", Status::Words),
-    ("a:Boolean a>=0", Status::Words),
-    ("a:Interval(YearMonth) a>=0", Status::Words),
-    ("a:Interval(DayTime) a>=0", Status::Words),
-    ("a:Dictionary(Int8,Boolean) a>=0", Status::Words),
+    ("x a:Null a>=0", &[2]),
+    ("x a:Boolean a>=true", &[2]),
+    ("x a:Boolean a>=0", &[2]),
+    ("x a:Interval(YearMonth) a>=0", &[2]),
+    ("x a:Interval(DayTime) a>=0", &[2]),
+    ("x a:Dictionary(Int8,Boolean) a>=0", &[2]),
 ];
-
-#[test]
-fn values_of_each_kind(rt: HostRuntime) -> Result<(), Fail> {
-    for (line, status) in VALUES.iter() {
-        assert!(rt; ends_with(rt.alloc(), line, *status)?, "at {line}");
-    }
-    Ok(())
-}
 
 /// Options, fields and names of bounds, and how a run with them ends.
-const COMMANDS: [(&str, Status); 25] = [
-    ("a:Int32 --chunk 0", Status::Argument),
-    ("a:Int32 --chunk 00", Status::Argument),
-    ("a:Int32 --chunk", Status::Words),
-    ("a:Int32 --chunk --", Status::Words),
-    ("a:Int32 --chunk=", Status::Words),
-    ("a:Int32 --chunk=+5", Status::Words),
-    ("a:Int32 --chunk 0x2", Status::Words),
-    ("a:Int32 --chunk 18446744073709551616", Status::Words),
-    ("a:Int32 --limit -1", Status::Words),
-    ("a:Int32 --limit 000000000000000000003", Status::Words),
-    ("a:Int32 --limit 5 --limit 6", Status::Words),
-    ("a:Int32 --summary --summary", Status::Words),
-    ("a:Int32 --summary=true", Status::Words),
-    ("a:Int32 -x", Status::Words),
-    ("a:Int32 -", Status::Words),
-    ("--help", Status::Words),
-    ("--summary", Status::Argument),
-    ("b:Int32", Status::Argument),
-    ("a:Int32 a:Int32", Status::Argument),
-    (":Int32", Status::Words),
-    ("a", Status::Words),
-    ("a:Int32 a>=1 a>=2", Status::Words),
-    ("a:Int32 b>=1", Status::Words),
-    ("a:Int32 >=1", Status::Words),
-    ("a>=1", Status::Words),
+const COMMANDS: [(&str, &[u8]); 26] = [
+    ("x", &[3]),
+    ("x a:Int32 --chunk 0", &[3]),
+    ("x a:Int32 --chunk 00", &[3]),
+    ("x a:Int32 --chunk", &[2]),
+    ("x a:Int32 --chunk --", &[2]),
+    ("x a:Int32 --chunk=", &[2]),
+    ("x a:Int32 --chunk=+5", &[2]),
+    ("x a:Int32 --chunk 0x2", &[2]),
+    ("x a:Int32 --chunk 18446744073709551616", &[2]),
+    ("x a:Int32 --limit -1", &[2]),
+    ("x a:Int32 --limit 000000000000000000003", &[2]),
+    ("x a:Int32 --limit 5 --limit 6", &[2]),
+    ("x a:Int32 --summary --summary", &[2]),
+    ("x a:Int32 --summary=true", &[2]),
+    ("x a:Int32 -x", &[2]),
+    ("x a:Int32 -", &[2]),
+    ("x --help", &[2]),
+    ("x --summary", &[3]),
+    ("x b:Int32", &[3]),
+    ("x a:Int32 a:Int32", &[3]),
+    ("x :Int32", &[2]),
+    ("x a", &[2]),
+    ("x a:Int32 a>=1 a>=2", &[2]),
+    ("x a:Int32 b>=1", &[2]),
+    ("x a:Int32 >=1", &[2]),
+    ("x a>=1", &[2]),
+];
+
+/// Words in other places and numbers of other spellings, which give the numbers themselves.
+const PLACES: [&str; 6] = [
+    "x -- a:Int32",
+    "x a>=12 a:Int32 -- a<=18",
+    "x a:Int32 a>=-2147483648 a<=2147483647",
+    "x a:Int32 a>=000000000000000000000000000000000000012",
+    "x a:Decimal(9,2) a>=000000000000000000000000000000000000001",
+    "x a:Decimal(9,2) a>=-000000000000000000000000000000000000001",
 ];
 
 #[test]
-fn options_fields_and_names(rt: HostRuntime) -> Result<(), Fail> {
-    for (line, status) in COMMANDS.iter() {
-        assert!(rt; ends_with(rt.alloc(), line, *status)?, "at {line}");
-    }
-    let no_word = text_of(rt.alloc(), &[], &F1)?;
-    assert_eq!(rt; no_word.as_slice(), [Status::Words.number()].as_slice());
-    let no_item = text_of(rt.alloc(), &["x"], &F1)?;
-    assert_eq!(rt; no_item.as_slice(), [Status::Argument.number()].as_slice());
-    Ok(())
+fn values_and_options(rt: HostRuntime) -> Result<(), Fail> {
+    let alloc = rt.alloc();
+    check_answers(alloc, &F1, &VALUES)?;
+    check_answers(alloc, &F1, &COMMANDS)?;
+    check_lines(alloc, &F1, &PLACES, NUMBERS)
 }
 
 #[test]
-fn words_in_other_places(rt: HostRuntime) -> Result<(), Fail> {
-    for line in [
-        "-- a:Int32",
-        "a>=12 a:Int32 -- a<=18",
-        "a:Int32 a>=-2147483648 a<=2147483647",
-        "a:Int32 a>=000000000000000000000000000000000000012",
-        "a:Decimal(9,2) a>=000000000000000000000000000000000000001",
-        "a:Decimal(9,2) a>=-000000000000000000000000000000000000001",
-    ] {
-        let found = answer_to(rt.alloc(), line)?;
-        assert_eq!(rt; found.as_slice(), NUMBERS, "at {line}");
-    }
+fn no_words(rt: HostRuntime) -> Result<(), Fail> {
+    let found = answer_to(rt.alloc(), &Vec::new(rt.alloc()), &F1)?;
+    assert_eq!(rt; found.as_slice(), [2u8].as_slice());
     Ok(())
 }
 
-/// A file of the numbers 1 and 3 in a column of this name.
-fn named(alloc: Global, name: &'static str) -> Result<Vec<u8>, AllocError> {
-    let column = Column {
-        name,
-        ..parts::NUMBERS
-    };
-    let mut file = FileBuilder::new(alloc)?;
-    file.add_numbers(column, &[&[1, 3]], Some((1, 3)))?;
-    file.finish(&[column])
-}
+/// A group of the numbers 1 and 3 in columns of these names.
+const NAMED: &[&[Chunk<'static>]] = &[&[
+    Chunk {
+        column: Column {
+            name: "x:y",
+            ..files_for_tests::NUMBERS
+        },
+        ..ONE_AND_THREE
+    },
+    Chunk {
+        column: Column {
+            name: "x:Int32",
+            ..files_for_tests::NUMBERS
+        },
+        ..ONE_AND_THREE
+    },
+    Chunk {
+        column: Column {
+            name: ":",
+            ..files_for_tests::NUMBERS
+        },
+        ..ONE_AND_THREE
+    },
+    Chunk {
+        column: Column {
+            name: "=>",
+            ..files_for_tests::NUMBERS
+        },
+        ..ONE_AND_THREE
+    },
+    Chunk {
+        column: Column {
+            name: "a>=b",
+            ..files_for_tests::NUMBERS
+        },
+        ..ONE_AND_THREE
+    },
+    Chunk {
+        column: Column {
+            name: "\u{e4}",
+            ..files_for_tests::NUMBERS
+        },
+        ..ONE_AND_THREE
+    },
+]];
+
+const ONE_AND_THREE: Chunk<'static> = Chunk {
+    pages: &[Page(2, Absent, Values::Numbers(&[1, 3]))],
+    told: Told::Ends(1, 3),
+    ..CHUNK
+};
 
 /// The report on both rows.
 const BOTH: &[u8] = b"\x00group 0 2 0+2\nchunk 2\n1\n3\n";
 
-/// The name of a column, what is asked of it, and the answer.
-const NAMES: [(&str, &str, &[u8]); 7] = [
-    ("x:y", "x:y:Int32 x:y>=2", BOTH),
-    ("x:y", "x:Int32", &[3]),
-    ("x:Int32", "x:Int32:Int32", BOTH),
-    (":", "::Int32 :<=0", b"\x00group 0 2 -\n"),
-    ("=>", "=>:Int32", BOTH),
-    ("a>=b", "a>=b:Int32", &[2]),
-    ("\u{e4}", "\u{e4}:Int32 \u{e4}<=1", BOTH),
+const OF_NAMED: &[(&str, &[u8])] = &[
+    ("x x:y:Int32 x:y>=2", BOTH),
+    ("x x:Int32", &[3]),
+    ("x x:Int32:Int32", BOTH),
+    ("x ::Int32 :<=0", b"\x00group 0 2 -\n"),
+    ("x =>:Int32", BOTH),
+    ("x a>=b:Int32", &[2]),
+    ("x \u{e4}:Int32 \u{e4}<=1", BOTH),
 ];
+
+const FILES: [File<'static>; 1] = [(NAMED, OF_NAMED)];
 
 #[test]
 fn names_with_signs(rt: HostRuntime) -> Result<(), Fail> {
-    for (name, line, report) in NAMES.iter() {
-        let file = named(rt.alloc(), *name)?;
-        let found = answer_on(rt.alloc(), line, &file)?;
-        assert_eq!(rt; found.as_slice(), *report, "at {line}");
-    }
-    Ok(())
+    check_files(rt.alloc(), &FILES)
 }

@@ -1,8 +1,8 @@
 //! Texts and byte strings: plain, joined behind their lengths, and named by keys.
-use crate::parts::{Column, Indexes, Levels, NUMBERS, Page, STRINGS, Values};
-use crate::running::{answer_on, has_answers};
-use crate::written::FileBuilder;
-use pq_common::Status;
+use crate::running::{File, check_files, check_lines};
+use files_for_tests::Levels::{Absent, Entries, First, Second};
+use files_for_tests::Values::{Bytes, Keys, Numbers, Strings};
+use files_for_tests::{CHUNK, Chunk, Column, Indexes, Page, STRINGS, Told, Values, file_of};
 use std::alloc::{AllocError, Global};
 use std::test::*;
 
@@ -11,562 +11,744 @@ const PLAIN: usize = 0;
 
 const DELTA_LENGTH: usize = 6;
 
-const KEYS: usize = 8;
+const BY_KEYS: usize = 8;
 
-/// What a run answers on a file of one group, all of whose rows are given in one chunk: the lines of its cells, or how it ends.
-type Answer = Result<&'static [u8], Status>;
+/// What a run answers on a file of one group, all of whose rows are given in one chunk: the lines of its cells, or the number of its status.
+type Answer = Result<&'static [u8], u8>;
 
 /// The whole answer of a run, of at most 9 rows.
 fn whole_answer(alloc: Global, rows: usize, answer: Answer) -> Result<Vec<u8>, AllocError> {
-    let mut whole = Vec::new(alloc);
     match answer {
-        Ok(lines) => {
-            let digit = b'0' + (rows % 10) as u8;
-            whole.extend_from_slice(b"\x00group 0 ")?;
-            whole.extend_from_slice(&[digit, b' ', b'0', b'+', digit])?;
-            whole.extend_from_slice(b"\nchunk ")?;
-            whole.extend_from_slice(&[digit, b'\n'])?;
-            whole.extend_from_slice(lines)?;
-        }
-        Err(status) => whole.push(status.number())?,
+        Ok(lines) => report_on(alloc, rows, lines),
+        Err(status) => Vec::from_slice(alloc, &[status]),
     }
-    Ok(whole)
 }
 
-/// Whether runs that read the column of a file as each type of texts, and as each of byte strings, have these answers.
-fn reads_as(
-    alloc: Global,
-    file: &[u8],
-    rows: usize,
-    texts: Answer,
-    strings: Answer,
-) -> Result<bool, Fail> {
-    let items = [
-        ("s:Utf8", texts),
-        ("s:LargeUtf8", texts),
-        ("s:Binary", strings),
-        ("s:LargeBinary", strings),
-    ];
-    has_items(alloc, file, rows, &items)
+fn report_on(alloc: Global, rows: usize, lines: &[u8]) -> Result<Vec<u8>, AllocError> {
+    let digit = b'0' + (rows % 10) as u8;
+    let mut report = Vec::from_slice(alloc, b"\x00group 0 ")?;
+    report.extend_from_slice(&[digit, b' ', b'0', b'+', digit])?;
+    report.extend_from_slice(b"\nchunk ")?;
+    report.extend_from_slice(&[digit, b'\n'])?;
+    report.extend_from_slice(lines)?;
+    Ok(report)
 }
 
-/// The same of the dictionary types of each.
-fn reads_keyed(
-    alloc: Global,
-    file: &[u8],
-    rows: usize,
-    texts: Answer,
-    strings: Answer,
-) -> Result<bool, Fail> {
-    let items = [
-        ("s:Dictionary(Int32,Utf8)", texts),
-        ("s:Dictionary(UInt8,LargeUtf8)", texts),
-        ("s:Dictionary(Int8,Binary)", strings),
-        ("s:Dictionary(UInt64,LargeBinary)", strings),
-    ];
-    has_items(alloc, file, rows, &items)
-}
+/// The pages of a column of strings, how many rows they have, and the answers to runs that read them as texts and as byte strings.
+type Read<'a> = (Column, &'a [Page<'a>], usize, Answer, Answer);
 
-/// Whether runs on a file, each asked by an item, have these answers.
-fn has_items(
-    alloc: Global,
-    file: &[u8],
-    rows: usize,
-    items: &[(&str, Answer)],
-) -> Result<bool, Fail> {
-    for (item, answer) in items {
-        let found = answer_on(alloc, item, file)?;
-        let wanted = whole_answer(alloc, rows, *answer)?;
-        if found.as_slice() != wanted.as_slice() {
-            return Ok(false);
-        }
-    }
-    Ok(true)
-}
+/// What asks for the column as texts and as byte strings, and as keys of each.
+const AS_TEXTS: [&str; 2] = ["x s:Utf8", "x s:LargeUtf8"];
 
-/// A file of one page of strings, and of a dictionary where there is one.
-fn one_page(
-    alloc: Global,
-    column: Column,
-    dictionary: Option<Page<'_>>,
-    page: Page<'_>,
-) -> Result<Vec<u8>, AllocError> {
-    let mut file = FileBuilder::new(alloc)?;
-    if let Some(entries) = dictionary {
-        file.add_dictionary(entries)?;
-    }
-    file.add_page(page)?;
-    file.end_chunk(column, None, Indexes::Absent)?;
-    file.end_group()?;
-    file.finish(&[column])
-}
+const AS_STRINGS: [&str; 2] = ["x s:Binary", "x s:LargeBinary"];
 
-/// A file of two plain pages of strings.
-fn two_pages(
-    alloc: Global,
-    rows: (usize, usize),
-    first: &[u8],
-    second: &[u8],
-) -> Result<Vec<u8>, AllocError> {
-    let mut file = FileBuilder::new(alloc)?;
-    file.add_page(Page::of_bytes(rows.0, PLAIN, first))?;
-    file.add_page(Page::of_bytes(rows.1, PLAIN, second))?;
-    file.end_chunk(STRINGS, None, Indexes::Absent)?;
-    file.end_group()?;
-    file.finish(&[STRINGS])
+const AS_KEYS_OF_TEXTS: [&str; 2] = [
+    "x s:Dictionary(Int32,Utf8)",
+    "x s:Dictionary(UInt8,LargeUtf8)",
+];
+
+const AS_KEYS_OF_STRINGS: [&str; 2] = [
+    "x s:Dictionary(Int8,Binary)",
+    "x s:Dictionary(UInt64,LargeBinary)",
+];
+
+/// Fails where a column has another answer to lines that read it as texts or as byte strings.
+fn check_read(alloc: Global, read: Read<'_>, texts: &[&str], strings: &[&str]) -> Result<(), Fail> {
+    let (column, pages, rows, of_texts, of_strings) = read;
+    let file = file_of(
+        alloc,
+        &[&[Chunk {
+            column,
+            pages,
+            ..CHUNK
+        }]],
+    )?;
+    check_lines(alloc, &file, texts, &whole_answer(alloc, rows, of_texts)?)?;
+    check_lines(
+        alloc,
+        &file,
+        strings,
+        &whole_answer(alloc, rows, of_strings)?,
+    )
 }
 
 /// Strings that may be null.
-const OPTIONAL: Column = Column {
+const SPARSE: Column = Column {
     is_optional: true,
     ..STRINGS
 };
 
-const DAMAGED: Answer = Err(Status::Damaged);
+const DAMAGED: Answer = Err(5);
 
-const NOT_VALID: Answer = Err(Status::NotValid);
+const NOT_VALID: Answer = Err(6);
 
-const NOT_CARRIED: Answer = Err(Status::NotCarried);
+const NOT_CARRIED: Answer = Err(4);
 
-/// Pages of no null: the encoding, the number of rows, the bytes, and what runs answer that read texts and byte strings.
-const ONE_PAGE: [(usize, usize, &[u8], Answer, Answer); 24] = [
+/// Pages that are plain or joined.
+const READS: [Read<'static>; 35] = [
     // The lengths 5, 0 and 3.
     (
-        DELTA_LENGTH,
+        STRINGS,
+        &[Page(
+            3,
+            Absent,
+            Bytes(
+                DELTA_LENGTH,
+                b"\x80\x01\x04\x03\x0a\x09\x04\0\0\0\x80\0\0\0\0\0\0\0\0\0\0\0\0\0\0\0Helloabc",
+            ),
+        )],
         3,
-        b"\x80\x01\x04\x03\x0a\x09\x04\0\0\0\x80\0\0\0\0\0\0\0\0\0\0\0\0\0\0\0Helloabc",
         Ok(b"\"Hello\"\n\"\"\n\"abc\"\n"),
         Ok(b"0x48656c6c6f\n0x\n0x616263\n"),
     ),
     (
-        DELTA_LENGTH,
+        STRINGS,
+        &[Page(
+            3,
+            Absent,
+            Bytes(
+                DELTA_LENGTH,
+                b"\x80\x01\x04\x03\x0a\x09\x04\0\0\0\x80\0\0\0\0\0\0\0\0\0\0\0\0\0\0\0Helloab",
+            ),
+        )],
         3,
-        b"\x80\x01\x04\x03\x0a\x09\x04\0\0\0\x80\0\0\0\0\0\0\0\0\0\0\0\0\0\0\0Helloab",
         DAMAGED,
         DAMAGED,
     ),
     // One length: of 1, before one byte more, before no text and where two rows are wanted; and of -1.
     (
-        DELTA_LENGTH,
+        STRINGS,
+        &[Page(1, Absent, Bytes(DELTA_LENGTH, b"\x80\x01\x04\x01\x02ab"))],
         1,
-        b"\x80\x01\x04\x01\x02ab",
         Ok(b"\"a\"\n"),
         Ok(b"0x61\n"),
     ),
     (
-        DELTA_LENGTH,
+        STRINGS,
+        &[Page(1, Absent, Bytes(DELTA_LENGTH, b"\x80\x01\x04\x01\x02\xff"))],
         1,
-        b"\x80\x01\x04\x01\x02\xff",
         NOT_VALID,
         Ok(b"0xff\n"),
     ),
-    (DELTA_LENGTH, 2, b"\x80\x01\x04\x01\x02a", DAMAGED, DAMAGED),
-    (DELTA_LENGTH, 1, b"\x80\x01\x04\x01\x01", DAMAGED, DAMAGED),
-    (PLAIN, 1, b"\x01\0\0\0\xff", NOT_VALID, Ok(b"0xff\n")),
+    (
+        STRINGS,
+        &[Page(2, Absent, Bytes(DELTA_LENGTH, b"\x80\x01\x04\x01\x02a"))],
+        2,
+        DAMAGED,
+        DAMAGED,
+    ),
+    (
+        STRINGS,
+        &[Page(1, Absent, Bytes(DELTA_LENGTH, b"\x80\x01\x04\x01\x01"))],
+        1,
+        DAMAGED,
+        DAMAGED,
+    ),
+    (
+        STRINGS,
+        &[Page(1, Absent, Bytes(PLAIN, b"\x01\0\0\0\xff"))],
+        1,
+        NOT_VALID,
+        Ok(b"0xff\n"),
+    ),
     // A character of two bytes, whole and cut in two, a surrogate and a form that is too long.
     (
-        PLAIN,
+        STRINGS,
+        &[Page(1, Absent, Bytes(PLAIN, b"\x02\0\0\0\xc3\xa9"))],
         1,
-        b"\x02\0\0\0\xc3\xa9",
         Ok(b"\"\xc3\xa9\"\n"),
         Ok(b"0xc3a9\n"),
     ),
     (
-        PLAIN,
+        STRINGS,
+        &[Page(2, Absent, Bytes(PLAIN, b"\x01\0\0\0\xc3\x01\0\0\0\xa9"))],
         2,
-        b"\x01\0\0\0\xc3\x01\0\0\0\xa9",
         NOT_VALID,
         Ok(b"0xc3\n0xa9\n"),
     ),
     (
-        PLAIN,
+        STRINGS,
+        &[Page(1, Absent, Bytes(PLAIN, b"\x03\0\0\0\xed\xa0\x80"))],
         1,
-        b"\x03\0\0\0\xed\xa0\x80",
         NOT_VALID,
         Ok(b"0xeda080\n"),
     ),
-    (PLAIN, 1, b"\x02\0\0\0\xc0\x80", NOT_VALID, Ok(b"0xc080\n")),
+    (
+        STRINGS,
+        &[Page(1, Absent, Bytes(PLAIN, b"\x02\0\0\0\xc0\x80"))],
+        1,
+        NOT_VALID,
+        Ok(b"0xc080\n"),
+    ),
     // Characters that stand for others, and a text that is no null.
     (
-        PLAIN,
+        STRINGS,
+        &[Page(
+            1,
+            Absent,
+            Bytes(PLAIN, b"\x0b\0\0\0\0\t\n\x1f \"\\~\x7f\xc2\x80"),
+        )],
         1,
-        b"\x0b\0\0\0\0\t\n\x1f \"\\~\x7f\xc2\x80",
         Ok(b"\"\\x00\\x09\\x0a\\x1f \\x22\\x5c~\\x7f\xc2\x80\"\n"),
         Ok(b"0x00090a1f20225c7e7fc280\n"),
     ),
     (
-        PLAIN,
+        STRINGS,
+        &[Page(2, Absent, Bytes(PLAIN, b"\x04\0\0\0null\0\0\0\0"))],
         2,
-        b"\x04\0\0\0null\0\0\0\0",
         Ok(b"\"null\"\n\"\"\n"),
         Ok(b"0x6e756c6c\n0x\n"),
     ),
     // Lengths that pass the page or are cut off, a byte too many, and a row too few.
-    (PLAIN, 1, b"\xff\xff\xff\xff", DAMAGED, DAMAGED),
-    (PLAIN, 1, b"\xff\xff\xff\x7f", DAMAGED, DAMAGED),
-    (PLAIN, 1, b"\x02\0\0\0a", DAMAGED, DAMAGED),
-    (PLAIN, 1, b"\x01\0\0", DAMAGED, DAMAGED),
-    (PLAIN, 1, b"\x01\0\0\0ab", DAMAGED, DAMAGED),
-    (PLAIN, 2, b"\x01\0\0\0a", DAMAGED, DAMAGED),
+    (
+        STRINGS,
+        &[Page(1, Absent, Bytes(PLAIN, b"\xff\xff\xff\xff"))],
+        1,
+        DAMAGED,
+        DAMAGED,
+    ),
+    (
+        STRINGS,
+        &[Page(1, Absent, Bytes(PLAIN, b"\xff\xff\xff\x7f"))],
+        1,
+        DAMAGED,
+        DAMAGED,
+    ),
+    (
+        STRINGS,
+        &[Page(1, Absent, Bytes(PLAIN, b"\x02\0\0\0a"))],
+        1,
+        DAMAGED,
+        DAMAGED,
+    ),
+    (
+        STRINGS,
+        &[Page(1, Absent, Bytes(PLAIN, b"\x01\0\0"))],
+        1,
+        DAMAGED,
+        DAMAGED,
+    ),
+    (
+        STRINGS,
+        &[Page(1, Absent, Bytes(PLAIN, b"\x01\0\0\0ab"))],
+        1,
+        DAMAGED,
+        DAMAGED,
+    ),
+    (
+        STRINGS,
+        &[Page(2, Absent, Bytes(PLAIN, b"\x01\0\0\0a"))],
+        2,
+        DAMAGED,
+        DAMAGED,
+    ),
     // Keys without a dictionary, and encodings that are not read.
-    (KEYS, 1, b"\x01\x02\0", NOT_CARRIED, NOT_CARRIED),
-    (3, 1, b"\x01\0\0\0a", NOT_CARRIED, NOT_CARRIED),
-    (5, 1, b"\x80\x01\x04\x01\x02", NOT_CARRIED, NOT_CARRIED),
-    (7, 1, b"\x01\0\0\0a", NOT_CARRIED, NOT_CARRIED),
-    (9, 1, b"\x01\0\0\0a", NOT_CARRIED, NOT_CARRIED),
+    (
+        STRINGS,
+        &[Page(1, Absent, Bytes(BY_KEYS, b"\x01\x02\0"))],
+        1,
+        NOT_CARRIED,
+        NOT_CARRIED,
+    ),
+    (
+        STRINGS,
+        &[Page(1, Absent, Bytes(3, b"\x01\0\0\0a"))],
+        1,
+        NOT_CARRIED,
+        NOT_CARRIED,
+    ),
+    (
+        STRINGS,
+        &[Page(1, Absent, Bytes(5, b"\x80\x01\x04\x01\x02"))],
+        1,
+        NOT_CARRIED,
+        NOT_CARRIED,
+    ),
+    (
+        STRINGS,
+        &[Page(1, Absent, Bytes(7, b"\x01\0\0\0a"))],
+        1,
+        NOT_CARRIED,
+        NOT_CARRIED,
+    ),
+    (
+        STRINGS,
+        &[Page(1, Absent, Bytes(9, b"\x01\0\0\0a"))],
+        1,
+        NOT_CARRIED,
+        NOT_CARRIED,
+    ),
+    // A character that the end of a page cuts in two.
+    (
+        STRINGS,
+        &[
+            Page(1, Absent, Strings(&[b"\xc3"])),
+            Page(1, Absent, Strings(&[b"\xa9"])),
+        ],
+        2,
+        NOT_VALID,
+        Ok(b"0xc3\n0xa9\n"),
+    ),
+    // The strings `a`, none, a tab and a character of two bytes between two nulls, in each encoding and in pages of both forms.
+    (
+        SPARSE,
+        &[Page(6, First(SIX_LEVELS), FOUR_PLAIN)],
+        6,
+        SIX_TEXTS,
+        SIX_STRINGS,
+    ),
+    (
+        SPARSE,
+        &[Page(6, Second(SIX_LEVELS), FOUR_PLAIN)],
+        6,
+        SIX_TEXTS,
+        SIX_STRINGS,
+    ),
+    (
+        SPARSE,
+        &[Page(6, First(SIX_LEVELS), FOUR_JOINED)],
+        6,
+        SIX_TEXTS,
+        SIX_STRINGS,
+    ),
+    (
+        SPARSE,
+        &[Page(6, Second(SIX_LEVELS), FOUR_JOINED)],
+        6,
+        SIX_TEXTS,
+        SIX_STRINGS,
+    ),
+    (
+        SPARSE,
+        &[FOUR_ENTRIES, Page(6, First(SIX_LEVELS), FOUR_KEYS)],
+        6,
+        SIX_TEXTS,
+        SIX_STRINGS,
+    ),
+    (
+        SPARSE,
+        &[FOUR_ENTRIES, Page(6, Second(SIX_LEVELS), FOUR_KEYS)],
+        6,
+        SIX_TEXTS,
+        SIX_STRINGS,
+    ),
+    // A null cuts a character in two; and where all rows are null, no bytes are looked at.
+    (
+        SPARSE,
+        &[Page(3, First(b"\x03\x05"), Strings(&[b"\xc3", b"\xa9"]))],
+        3,
+        NOT_VALID,
+        Ok(b"0xc3\nnull\n0xa9\n"),
+    ),
+    (
+        SPARSE,
+        &[Page(3, Second(b"\x03\x05"), Strings(&[b"\xc3", b"\xa9"]))],
+        3,
+        NOT_VALID,
+        Ok(b"0xc3\nnull\n0xa9\n"),
+    ),
+    (
+        SPARSE,
+        &[Page(2, First(b"\x04\0"), Bytes(PLAIN, b"\xff\xff"))],
+        2,
+        Ok(b"null\nnull\n"),
+        Ok(b"null\nnull\n"),
+    ),
+    (
+        SPARSE,
+        &[Page(2, Second(b"\x04\0"), Bytes(PLAIN, b"\xff\xff"))],
+        2,
+        Ok(b"null\nnull\n"),
+        Ok(b"null\nnull\n"),
+    ),
 ];
 
-#[test]
-fn pages_of_strings(rt: HostRuntime) -> Result<(), Fail> {
-    let alloc = rt.alloc();
-    for (encoding, rows, bytes, texts, strings) in ONE_PAGE {
-        let page = Page::of_bytes(rows, encoding, bytes);
-        let file = one_page(alloc, STRINGS, None, page)?;
-        assert!(rt;
-            reads_as(alloc, &file, rows, texts, strings)?,
-            "at {bytes:?}"
-        );
-    }
-    // A character that the end of a page cuts in two.
-    let file = two_pages(alloc, (1, 1), b"\x01\0\0\0\xc3", b"\x01\0\0\0\xa9")?;
-    assert!(rt; reads_as(alloc, &file, 2, NOT_VALID, Ok(b"0xc3\n0xa9\n"))?);
-    Ok(())
-}
+const SIX_LEVELS: &[u8] = b"\x03\x2d";
 
-/// Dictionaries, by the number and the bytes of their entries and their encoding; the number and the bytes of keys; and the answers.
-const BY_KEYS: [(usize, &[u8], usize, usize, &[u8], Answer, Answer); 11] = [
+const FOUR_ENTRIES: Page<'static> = Page(4, Entries, FOUR_PLAIN);
+
+const FOUR_PLAIN: Values<'static> = Strings(&[b"a", b"", b"\t", b"\xc3\xa9"]);
+
+const FOUR_JOINED: Values<'static> = Bytes(
+    DELTA_LENGTH,
+    b"\x80\x01\x04\x04\x02\x01\x02\0\0\0\x28\0\0\0\0\0\0\0a\t\xc3\xa9",
+);
+
+const FOUR_KEYS: Values<'static> = Keys(&[0, 1, 2, 3]);
+
+const SIX_TEXTS: Answer = Ok(b"\"a\"\nnull\n\"\"\n\"\\x09\"\nnull\n\"\xc3\xa9\"\n");
+
+const SIX_STRINGS: Answer = Ok(b"0x61\nnull\n0x\n0x09\nnull\n0xc3a9\n");
+
+/// Dictionaries and keys.
+const READS_BY_KEYS: [Read<'static>; 11] = [
     (
-        3,
-        b"\x01\0\0\0x\x01\0\0\0y\x01\0\0\0z",
-        PLAIN,
+        STRINGS,
+        &[
+            Page(
+                3,
+                Entries,
+                Bytes(PLAIN, b"\x01\0\0\0x\x01\0\0\0y\x01\0\0\0z"),
+            ),
+            Page(2, Absent, Bytes(BY_KEYS, b"\x02\x04\x02")),
+        ],
         2,
-        b"\x02\x04\x02",
         Ok(b"\"z\"\n\"z\"\n"),
         Ok(b"0x7a\n0x7a\n"),
     ),
     (
-        3,
-        b"\x01\0\0\0x\x01\0\0\0y\x01\0\0\0z",
-        PLAIN,
+        STRINGS,
+        &[
+            Page(
+                3,
+                Entries,
+                Bytes(PLAIN, b"\x01\0\0\0x\x01\0\0\0y\x01\0\0\0z"),
+            ),
+            Page(2, Absent, Bytes(BY_KEYS, b"\x02\x04\x03")),
+        ],
         2,
-        b"\x02\x04\x03",
         NOT_VALID,
         NOT_VALID,
     ),
-    (0, b"", PLAIN, 1, b"\x02\x02\0", NOT_VALID, NOT_VALID),
+    (
+        STRINGS,
+        &[
+            Page(0, Entries, Bytes(PLAIN, b"")),
+            Page(1, Absent, Bytes(BY_KEYS, b"\x02\x02\0")),
+        ],
+        1,
+        NOT_VALID,
+        NOT_VALID,
+    ),
     // An entry that is no text and has no key, and a character that is cut in two.
     (
-        2,
-        b"\x01\0\0\0x\x01\0\0\0\xff",
-        PLAIN,
+        STRINGS,
+        &[
+            Page(2, Entries, Bytes(PLAIN, b"\x01\0\0\0x\x01\0\0\0\xff")),
+            Page(1, Absent, Bytes(BY_KEYS, b"\x02\x02\0")),
+        ],
         1,
-        b"\x02\x02\0",
         NOT_VALID,
         Ok(b"0x78\n"),
     ),
     (
-        2,
-        b"\x01\0\0\0\xc3\x01\0\0\0\xa9",
-        PLAIN,
+        STRINGS,
+        &[
+            Page(2, Entries, Bytes(PLAIN, b"\x01\0\0\0\xc3\x01\0\0\0\xa9")),
+            Page(1, Absent, Bytes(BY_KEYS, b"\x02\x02\x01")),
+        ],
         1,
-        b"\x02\x02\x01",
         NOT_VALID,
         Ok(b"0xa9\n"),
     ),
     // A byte too many, an entry too few, and lengths that pass the page.
     (
+        STRINGS,
+        &[
+            Page(1, Entries, Bytes(PLAIN, b"\x01\0\0\0xy")),
+            Page(1, Absent, Bytes(BY_KEYS, b"\x02\x02\0")),
+        ],
         1,
-        b"\x01\0\0\0xy",
-        PLAIN,
-        1,
-        b"\x02\x02\0",
         DAMAGED,
         DAMAGED,
     ),
-    (2, b"\x01\0\0\0x", PLAIN, 1, b"\x02\x02\0", DAMAGED, DAMAGED),
     (
+        STRINGS,
+        &[
+            Page(2, Entries, Bytes(PLAIN, b"\x01\0\0\0x")),
+            Page(1, Absent, Bytes(BY_KEYS, b"\x02\x02\0")),
+        ],
         1,
-        b"\xff\xff\xff\xff",
-        PLAIN,
-        1,
-        b"\x02\x02\0",
         DAMAGED,
         DAMAGED,
     ),
-    (1, b"\x02\0\0\0x", PLAIN, 1, b"\x02\x02\0", DAMAGED, DAMAGED),
+    (
+        STRINGS,
+        &[
+            Page(1, Entries, Bytes(PLAIN, b"\xff\xff\xff\xff")),
+            Page(1, Absent, Bytes(BY_KEYS, b"\x02\x02\0")),
+        ],
+        1,
+        DAMAGED,
+        DAMAGED,
+    ),
+    (
+        STRINGS,
+        &[
+            Page(1, Entries, Bytes(PLAIN, b"\x02\0\0\0x")),
+            Page(1, Absent, Bytes(BY_KEYS, b"\x02\x02\0")),
+        ],
+        1,
+        DAMAGED,
+        DAMAGED,
+    ),
     // The older number of the encoding, and one that no dictionary has.
     (
+        STRINGS,
+        &[
+            Page(1, Entries, Bytes(2, b"\x01\0\0\0x")),
+            Page(1, Absent, Bytes(BY_KEYS, b"\x02\x02\0")),
+        ],
         1,
-        b"\x01\0\0\0x",
-        2,
-        1,
-        b"\x02\x02\0",
         Ok(b"\"x\"\n"),
         Ok(b"0x78\n"),
     ),
     (
+        STRINGS,
+        &[
+            Page(1, Entries, Bytes(DELTA_LENGTH, b"\x80\x01\x04\x01\x02x")),
+            Page(1, Absent, Bytes(BY_KEYS, b"\x02\x02\0")),
+        ],
         1,
-        b"\x80\x01\x04\x01\x02x",
-        DELTA_LENGTH,
-        1,
-        b"\x02\x02\0",
         NOT_CARRIED,
         NOT_CARRIED,
     ),
 ];
+
+#[test]
+fn strings(rt: HostRuntime) -> Result<(), Fail> {
+    for read in READS {
+        check_read(rt.alloc(), read, &AS_TEXTS, &AS_STRINGS)?;
+    }
+    Ok(())
+}
 
 #[test]
 fn strings_by_keys(rt: HostRuntime) -> Result<(), Fail> {
-    let alloc = rt.alloc();
-    for (count, entries, encoding, rows, keys, texts, strings) in BY_KEYS {
-        let dictionary = Page::of_bytes(count, encoding, entries);
-        let page = Page::of_bytes(rows, KEYS, keys);
-        let file = one_page(alloc, STRINGS, Some(dictionary), page)?;
-        assert!(rt;
-            reads_as(alloc, &file, rows, texts, strings)?,
-            "at {entries:?}"
-        );
-        assert!(rt;
-            reads_keyed(alloc, &file, rows, texts, strings)?,
-            "at {entries:?}"
-        );
-    }
-    Ok(())
-}
-
-/// The strings `a`, none, a tab and a character of two bytes, as each encoding has them.
-const FOUR_STRINGS: [Values<'static>; 3] = [
-    Values::Bytes(PLAIN, b"\x01\0\0\0a\0\0\0\0\x01\0\0\0\t\x02\0\0\0\xc3\xa9"),
-    Values::Bytes(
-        DELTA_LENGTH,
-        b"\x80\x01\x04\x04\x02\x01\x02\0\0\0\x28\0\0\0\0\0\0\0a\t\xc3\xa9",
-    ),
-    Values::Keys(&[0, 1, 2, 3]),
-];
-
-/// The levels of six rows, of which the second and the fifth are null, in pages of both forms.
-const SIX_ROWS: [Levels<'static>; 2] = [Levels::First(b"\x03\x2d"), Levels::Second(b"\x03\x2d")];
-
-#[test]
-fn optional_strings(rt: HostRuntime) -> Result<(), Fail> {
-    let alloc = rt.alloc();
-    let entries = Page::of_bytes(
-        4,
-        PLAIN,
-        b"\x01\0\0\0a\0\0\0\0\x01\0\0\0\t\x02\0\0\0\xc3\xa9",
-    );
-    for levels in SIX_ROWS {
-        for values in FOUR_STRINGS {
-            let page = Page {
-                rows: 6,
-                levels,
-                values,
-            };
-            let file = one_page(alloc, OPTIONAL, Some(entries), page)?;
-            let texts = Ok(b"\"a\"\nnull\n\"\"\n\"\\x09\"\nnull\n\"\xc3\xa9\"\n".as_slice());
-            let strings = Ok(b"0x61\nnull\n0x\n0x09\nnull\n0xc3a9\n".as_slice());
-            assert!(rt; reads_as(alloc, &file, 6, texts, strings)?);
-        }
-    }
-    Ok(())
-}
-
-/// Pages with nulls: the number of rows, the levels, the bytes and the answers. A null cuts a character in two; and where all
-/// rows are null, no bytes are looked at.
-const WITH_NULLS: [(usize, &[u8], &[u8], Answer, Answer); 2] = [
-    (
-        3,
-        b"\x03\x05",
-        b"\x01\0\0\0\xc3\x01\0\0\0\xa9",
-        NOT_VALID,
-        Ok(b"0xc3\nnull\n0xa9\n"),
-    ),
-    (
-        2,
-        b"\x04\0",
-        b"\xff\xff",
-        Ok(b"null\nnull\n"),
-        Ok(b"null\nnull\n"),
-    ),
-];
-
-#[test]
-fn nulls_between_strings(rt: HostRuntime) -> Result<(), Fail> {
-    let alloc = rt.alloc();
-    for (rows, levels, bytes, texts, strings) in WITH_NULLS {
-        let mut page = Page {
-            rows,
-            levels: Levels::First(levels),
-            values: Values::Bytes(PLAIN, bytes),
-        };
-        let file = one_page(alloc, OPTIONAL, None, page)?;
-        assert!(rt; reads_as(alloc, &file, rows, texts, strings)?);
-        page.levels = Levels::Second(levels);
-        let file = one_page(alloc, OPTIONAL, None, page)?;
-        assert!(rt; reads_as(alloc, &file, rows, texts, strings)?);
+    for read in READS_BY_KEYS {
+        check_read(rt.alloc(), read, &AS_TEXTS, &AS_STRINGS)?;
+        check_read(rt.alloc(), read, &AS_KEYS_OF_TEXTS, &AS_KEYS_OF_STRINGS)?;
     }
     Ok(())
 }
 
 /// A text and a string that is none in one page, and a page that is damaged.
-const BEHIND_A_TEXT: [(&str, &[u8]); 6] = [
-    ("s:Utf8 --limit 1", b"\x00group 0 3 0+3\nchunk 1\n\"a\"\n"),
-    ("s:Utf8 --limit 2", &[6]),
+const TEXT_AND_NONE: &[&[Chunk<'static>]] = &[&[Chunk {
+    column: STRINGS,
+    pages: &[
+        Page(2, Absent, Strings(&[b"a", b"\xff"])),
+        Page(1, Absent, Bytes(PLAIN, b"\x02\0\0\0c")),
+    ],
+    ..CHUNK
+}]];
+
+const BEHIND_A_TEXT: &[(&str, &[u8])] = &[
+    ("x s:Utf8 --limit 1", b"\x00group 0 3 0+3\nchunk 1\n\"a\"\n"),
+    ("x s:Utf8 --limit 2", &[6]),
     (
-        "s:Binary --limit 2 --chunk 1",
+        "x s:Binary --limit 2 --chunk 1",
         b"\x00group 0 3 0+3\nchunk 1\n0x61\nchunk 1\n0xff\n",
     ),
-    ("s:Binary --limit 3", &[5]),
-    ("s:Utf8 --limit 0", b"\x00group 0 3 0+3\n"),
-    ("s:Null", b"\x00group 0 3 0+3\nchunk 3\nnull\nnull\nnull\n"),
+    ("x s:Binary --limit 3", &[5]),
+    ("x s:Utf8 --limit 0", b"\x00group 0 3 0+3\n"),
+    (
+        "x s:Null",
+        b"\x00group 0 3 0+3\nchunk 3\nnull\nnull\nnull\n",
+    ),
 ];
 
-/// A page is opened whole: a length that passes it, behind a text.
-const BEFORE_A_LENGTH: [(&str, &[u8]); 2] = [
-    ("s:Utf8 --limit 1", &[5]),
-    ("s:Binary --limit 1", &[5]),
+/// A page is opened whole: a length that passes it, behind a text; and a key past the entries, behind one that is not.
+const LONG_STRING: &[&[Chunk<'static>]] = &[&[Chunk {
+    column: STRINGS,
+    pages: &[Page(2, Absent, Bytes(PLAIN, b"\x01\0\0\0a\x02\0\0\0b"))],
+    ..CHUNK
+}]];
+
+const BEFORE_A_LENGTH: &[(&str, &[u8])] = &[
+    ("x s:Utf8 --limit 1", &[5]),
+    ("x s:Binary --limit 1", &[5]),
 ];
 
-/// So are the keys of a page: one past the entries, behind one that is not.
-const BEFORE_A_KEY: [(&str, &[u8]); 3] = [
-    ("s:Utf8 --limit 1", &[6]),
-    ("s:Binary --limit 1", &[6]),
-    ("s:Utf8 --limit 0", b"\x00group 0 2 0+2\n"),
-];
+const LATE_KEY: &[&[Chunk<'static>]] = &[&[Chunk {
+    column: STRINGS,
+    pages: &[
+        Page(1, Entries, Strings(&[b"x"])),
+        Page(2, Absent, Keys(&[0, 1])),
+    ],
+    ..CHUNK
+}]];
 
-#[test]
-fn strings_behind_the_limit(rt: HostRuntime) -> Result<(), Fail> {
-    let alloc = rt.alloc();
-    let file = two_pages(alloc, (2, 1), b"\x01\0\0\0a\x01\0\0\0\xff", b"\x02\0\0\0c")?;
-    assert!(rt; has_answers(alloc, &file, &BEHIND_A_TEXT)?);
-    let page = Page::of_bytes(2, PLAIN, b"\x01\0\0\0a\x02\0\0\0b");
-    let file = one_page(alloc, STRINGS, None, page)?;
-    assert!(rt; has_answers(alloc, &file, &BEFORE_A_LENGTH)?);
-    let entries = Page::of_bytes(1, PLAIN, b"\x01\0\0\0x");
-    let file = one_page(alloc, STRINGS, Some(entries), Page::of_keys(&[0, 1]))?;
-    assert!(rt; has_answers(alloc, &file, &BEFORE_A_KEY)?);
-    Ok(())
-}
+const BEFORE_A_KEY: &[(&str, &[u8])] = &[
+    ("x s:Utf8 --limit 1", &[6]),
+    ("x s:Binary --limit 1", &[6]),
+    ("x s:Utf8 --limit 0", b"\x00group 0 2 0+2\n"),
+];
 
 /// Groups of the numbers 1, 2 and 5, 6, beside a text, a string that is none, and two texts.
-const OF_TWO_GROUPS: [(&str, &[u8]); 5] = [
+const TWO_GROUPS: &[&[Chunk<'static>]] = &[
+    &[
+        Chunk {
+            pages: &[Page(2, Absent, Numbers(&[1, 2]))],
+            told: Told::Ends(1, 2),
+            ..CHUNK
+        },
+        Chunk {
+            column: STRINGS,
+            pages: &[Page(2, Absent, Strings(&[b"a", b"\xff"]))],
+            ..CHUNK
+        },
+    ],
+    &[
+        Chunk {
+            pages: &[Page(2, Absent, Numbers(&[5, 6]))],
+            told: Told::Ends(5, 6),
+            ..CHUNK
+        },
+        Chunk {
+            column: STRINGS,
+            pages: &[Page(2, Absent, Strings(&[b"c", b""]))],
+            ..CHUNK
+        },
+    ],
+];
+
+const OF_TWO_GROUPS: &[(&str, &[u8])] = &[
     (
-        "s:Utf8 a:Int32 a>=5",
+        "x s:Utf8 a:Int32 a>=5",
         b"\x00group 0 2 -\ngroup 1 2 0+2\nchunk 2\n\"c\"\t5\n\"\"\t6\n",
     ),
-    ("a:Int32 s:Utf8 a<=5", &[6]),
+    ("x a:Int32 s:Utf8 a<=5", &[6]),
     (
-        "a:Int32 s:Binary a<=2",
+        "x a:Int32 s:Binary a<=2",
         b"\x00group 0 2 0+2\ngroup 1 2 -\nchunk 2\n1\t0x61\n2\t0xff\n",
     ),
     (
-        "s:LargeUtf8 --limit 1",
+        "x s:LargeUtf8 --limit 1",
         b"\x00group 0 2 0+2\ngroup 1 2 0+2\nchunk 1\n\"a\"\n",
     ),
-    ("s:Utf8 s>=a", &[6]),
+    ("x s:Utf8 s>=a", &[6]),
 ];
 
-/// Adds a group of two numbers, between these ends, and two strings.
-fn add_two_rows(
-    file: &mut FileBuilder,
-    numbers: &[i64],
-    ends: (i64, i64),
-    strings: &[u8],
-) -> Result<(), AllocError> {
-    file.add_page(Page::of_numbers(numbers))?;
-    file.end_chunk(NUMBERS, Some(ends), Indexes::Absent)?;
-    file.add_page(Page::of_bytes(2, PLAIN, strings))?;
-    file.end_chunk(STRINGS, None, Indexes::Absent)?;
-    file.end_group()
-}
+/// The numbers 1, 2, 3 and 10, 11, 12 in two located pages.
+const SIX_NUMBERS: Chunk<'static> = Chunk {
+    pages: &[
+        Page(3, Absent, Numbers(&[1, 2, 3])),
+        Page(3, Absent, Numbers(&[10, 11, 12])),
+    ],
+    told: Told::Ends(1, 12),
+    indexes: Indexes::Told(&[Told::Ends(1, 3), Told::Ends(10, 12)]),
+    ..CHUNK
+};
 
-#[test]
-fn strings_of_groups(rt: HostRuntime) -> Result<(), Fail> {
-    let alloc = rt.alloc();
-    let mut file = FileBuilder::new(alloc)?;
-    add_two_rows(&mut file, &[1, 2], (1, 2), b"\x01\0\0\0a\x01\0\0\0\xff")?;
-    add_two_rows(&mut file, &[5, 6], (5, 6), b"\x01\0\0\0c\0\0\0\0")?;
-    let file = file.finish(&[NUMBERS, STRINGS])?;
-    assert!(rt; has_answers(alloc, &file, &OF_TWO_GROUPS)?);
-    Ok(())
-}
+/// Strings in three located pages: two by keys, three joined, of which the first is no text, and one plain.
+const LAST_IS_TEXT: &[&[Chunk<'static>]] = &[&[
+    SIX_NUMBERS,
+    Chunk {
+        column: STRINGS,
+        pages: &[
+            TWO_ENTRIES,
+            TWO_KEYS,
+            THREE_JOINED,
+            Page(1, Absent, Bytes(PLAIN, b"\x01\0\0\0u")),
+        ],
+        indexes: Indexes::Locations,
+        ..CHUNK
+    },
+]];
 
-/// The numbers 1, 2, 3 and 10, 11, 12 in two located pages, beside strings in three: two by keys, three joined, of which the
-/// first is no text, and one plain, of these bytes.
-fn located_pages(alloc: Global, last: &[u8]) -> Result<Vec<u8>, AllocError> {
-    let mut file = FileBuilder::new(alloc)?;
-    file.add_page(Page::of_numbers(&[1, 2, 3]))?;
-    file.add_page(Page::of_numbers(&[10, 11, 12]))?;
-    file.end_chunk(NUMBERS, Some((1, 12)), Indexes::Ends(&[(1, 3), (10, 12)]))?;
-    file.add_dictionary(Page::of_bytes(2, PLAIN, b"\x01\0\0\0p\x01\0\0\0q"))?;
-    file.add_page(Page::of_keys(&[0, 1]))?;
-    let joined = b"\x80\x01\x04\x03\x02\0\x01\0\0\0\x02\0\0\0\xffstt";
-    file.add_page(Page::of_bytes(3, DELTA_LENGTH, joined))?;
-    file.add_page(Page::of_bytes(1, PLAIN, last))?;
-    file.end_chunk(STRINGS, None, Indexes::Locations)?;
-    file.end_group()?;
-    file.finish(&[NUMBERS, STRINGS])
-}
+/// The same where the last page is no text, and where it is damaged.
+const LAST_IS_NONE: &[&[Chunk<'static>]] = &[&[
+    SIX_NUMBERS,
+    Chunk {
+        column: STRINGS,
+        pages: &[
+            TWO_ENTRIES,
+            TWO_KEYS,
+            THREE_JOINED,
+            Page(1, Absent, Bytes(PLAIN, b"\x01\0\0\0\xff")),
+        ],
+        indexes: Indexes::Locations,
+        ..CHUNK
+    },
+]];
 
-/// Where the last page holds the text `u`.
-const OF_LOCATED_PAGES: [(&str, &[u8]); 6] = [
+const LAST_IS_DAMAGED: &[&[Chunk<'static>]] = &[&[
+    SIX_NUMBERS,
+    Chunk {
+        column: STRINGS,
+        pages: &[
+            TWO_ENTRIES,
+            TWO_KEYS,
+            THREE_JOINED,
+            Page(1, Absent, Bytes(PLAIN, b"\x02\0\0\0u")),
+        ],
+        indexes: Indexes::Locations,
+        ..CHUNK
+    },
+]];
+
+const TWO_ENTRIES: Page<'static> = Page(2, Entries, Strings(&[b"p", b"q"]));
+
+const TWO_KEYS: Page<'static> = Page(2, Absent, Keys(&[0, 1]));
+
+const THREE_JOINED: Page<'static> = Page(
+    3,
+    Absent,
+    Bytes(
+        DELTA_LENGTH,
+        b"\x80\x01\x04\x03\x02\0\x01\0\0\0\x02\0\0\0\xffstt",
+    ),
+);
+
+const OF_LOCATED_PAGES: &[(&str, &[u8])] = &[
     (
-        "a:Int32 s:Utf8 a>=10",
+        "x a:Int32 s:Utf8 a>=10",
         b"\x00group 0 6 3+3\nchunk 3\n10\t\"s\"\n11\t\"tt\"\n12\t\"u\"\n",
     ),
     (
-        "s:LargeUtf8 a:Int32 a>=10 --chunk 2",
+        "x s:LargeUtf8 a:Int32 a>=10 --chunk 2",
         b"\x00group 0 6 3+3\nchunk 2\n\"s\"\t10\n\"tt\"\t11\nchunk 1\n\"u\"\t12\n",
     ),
     // The dictionary is opened too, though no key is read.
     (
-        "a:Int32 s:Utf8 a>=10 --summary",
+        "x a:Int32 s:Utf8 a>=10 --summary",
         b"\x00group 0 6 3+3\nrows 3\npages 4\n",
     ),
-    ("a:Int32 s:Utf8 a<=3", &[6]),
+    ("x a:Int32 s:Utf8 a<=3", &[6]),
     (
-        "a:Int32 s:Utf8 a<=3 --limit 2",
+        "x a:Int32 s:Utf8 a<=3 --limit 2",
         b"\x00group 0 6 0+3\nchunk 2\n1\t\"p\"\n2\t\"q\"\n",
     ),
     (
-        "s:Binary --chunk 4 --limit 5",
+        "x s:Binary --chunk 4 --limit 5",
         b"\x00group 0 6 0+6\nchunk 4\n0x70\n0x71\n0xff\n0x73\nchunk 1\n0x7474\n",
     ),
 ];
 
 /// What runs answer whatever the last page holds, since it holds no row that is given.
-const BEFORE_THE_LAST_PAGE: [(&str, &[u8]); 3] = [
+const BEFORE_THE_LAST_PAGE: &[(&str, &[u8])] = &[
     (
-        "a:Int32 s:Utf8 a>=10 --limit 2",
+        "x a:Int32 s:Utf8 a>=10 --limit 2",
         b"\x00group 0 6 3+3\nchunk 2\n10\t\"s\"\n11\t\"tt\"\n",
     ),
     (
-        "a:Int32 s:Utf8 a>=10 --limit 2 --summary",
+        "x a:Int32 s:Utf8 a>=10 --limit 2 --summary",
         b"\x00group 0 6 3+3\nrows 2\npages 3\n",
     ),
     (
-        "a:Int32 s:Binary a<=3",
+        "x a:Int32 s:Binary a<=3",
         b"\x00group 0 6 0+3\nchunk 3\n1\t0x70\n2\t0x71\n3\t0xff\n",
     ),
 ];
 
-/// The bytes of a last page that is no text, and of one that is damaged, and how a run ends that opens it.
-const LAST_PAGES: [(&[u8], u8); 2] = [(b"\x01\0\0\0\xff", 6), (b"\x02\0\0\0u", 5)];
+const OF_NO_TEXT: &[(&str, &[u8])] = &[("x a:Int32 s:Utf8 a>=10", &[6])];
+
+const OF_DAMAGE: &[(&str, &[u8])] = &[("x a:Int32 s:Utf8 a>=10", &[5])];
+
+const FILES: [File<'static>; 10] = [
+    (TEXT_AND_NONE, BEHIND_A_TEXT),
+    (LONG_STRING, BEFORE_A_LENGTH),
+    (LATE_KEY, BEFORE_A_KEY),
+    (TWO_GROUPS, OF_TWO_GROUPS),
+    (LAST_IS_TEXT, OF_LOCATED_PAGES),
+    (LAST_IS_TEXT, BEFORE_THE_LAST_PAGE),
+    (LAST_IS_NONE, BEFORE_THE_LAST_PAGE),
+    (LAST_IS_NONE, OF_NO_TEXT),
+    (LAST_IS_DAMAGED, BEFORE_THE_LAST_PAGE),
+    (LAST_IS_DAMAGED, OF_DAMAGE),
+];
 
 #[test]
-fn strings_of_located_pages(rt: HostRuntime) -> Result<(), Fail> {
-    let alloc = rt.alloc();
-    let file = located_pages(alloc, b"\x01\0\0\0u")?;
-    assert!(rt; has_answers(alloc, &file, &OF_LOCATED_PAGES)?);
-    assert!(rt; has_answers(alloc, &file, &BEFORE_THE_LAST_PAGE)?);
-    for (last, status) in LAST_PAGES {
-        let file = located_pages(alloc, last)?;
-        assert!(rt;
-            has_answers(alloc, &file, &BEFORE_THE_LAST_PAGE)?,
-            "at {last:?}"
-        );
-        let ends = answer_on(alloc, "a:Int32 s:Utf8 a>=10", &file)?;
-        assert_eq!(rt; ends.as_slice(), [status].as_slice());
-    }
-    Ok(())
+fn strings_in_parts(rt: HostRuntime) -> Result<(), Fail> {
+    check_files(rt.alloc(), &FILES)
 }

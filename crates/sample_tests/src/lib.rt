@@ -1,8 +1,10 @@
 //! Tests of the sample file: its bytes by their digests, what its footer says, its cells, the most rows that it has, and which of its pages hold
-//! given rows.
+//! given rows. And of what page indexes tell as arrays.
 #![tactic(auto)]
 
 #[cfg(test)]
 mod page_maps;
+#[cfg(test)]
+mod page_statistics;
 #[cfg(test)]
 mod samples;

@@ -143,7 +143,8 @@ fn split_bound(text: &str) -> Option<End<'_>>
 
 /// The place of the first `>=` or `<=`, and whether it is the former.
 fn first_sign(text: &[u8]) -> Option<(usize, bool)>
-    ensures parts { option_map (λ found. split_at found.0 found.1 text.now) result ≡ spec.split_bound text.now }
+    ensures parts { option_map (λ found. split_at found.0 found.1 text.now) result
+        ≡ spec.split_bound text.now }
     ensures sign { IfSome result (λ found. (found.0 + 1 < length text.now)
         × (slice_index text.now found.0 < 128) × (slice_index text.now (found.0 + 1) < 128)) }
 {

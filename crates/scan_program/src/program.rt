@@ -1,5 +1,5 @@
 //! Runs of the program.
-ghost use Rattle.std.specs.Prelude.{◌≡◌, ◌≢◌, ◌⊎◌, ◌+◌, ◌≤◌, IfErr, IfNone, IfOk, IfSome, IsTrue, None};
+ghost use Rattle.std.specs.Prelude.{◌≡◌, ◌≢◌, ◌⊎◌, ◌+◌, ◌≤◌, IfErr, IfNone, IfOk, IfSome, IsTrue, None, OnOk};
 ghost use Rattle.std.specs.Result.{IsErrAnd};
 ghost use Rattle.columns_core.specs.declared.error.Error.TheVariants.{InvalidArgumentError};
 ghost use Rattle.columns_core.specs.declared.error.Part.TheVariants.{Request};
@@ -80,7 +80,8 @@ pub fn run<S: Source, K: Sink, L: Ledger>(
     ensures too_great { IfSome (sample_in words.now) (λ sample. IsTrue (is_too_great sample)
         → IfSome (command_in words.now) (λ _. (result ≡ Status.Argument) ⊎ (result ≡ Status.Memory))) }
 
-    // Nothing is written but where all is read, and writing fails only where the sink may fail.
+    // Nothing is written but where all is read without a failure, and writing fails only where the sink may fail.
+    ensures read { IsTrue (has_scanned result) → S.faults source.new ≡ S.faults source.old }
     ensures nothing { result ≢ Status.Done → result ≢ Status.Writing → K.written out.new ≡ K.written out.old }
     ensures writing { result ≡ Status.Writing → MayFail (K.faults out.old) (K.faults out.new) }
     ensures quiet { result ≢ Status.Writing → K.faults out.new ≡ K.faults out.old }
@@ -102,6 +103,7 @@ fn text_for<S: Source, L: Ledger>(
     steps: &mut Steps<L>,
 ) -> Result<Vec<u8>, Status>
     ensures keeps { Keeps S.Source source.old source.new }
+    ensures quiet { OnOk result (S.faults source.new ≡ S.faults source.old) }
     ensures untouched { IfSome (sample_in words.now) (λ _. source.new ≡ source.old) }
     ensures ticks { steps.old ≤ steps.new }
     ensures ended { IfErr result (λ status. (status ≢ Status.Done) × (status ≢ Status.Writing)) }
@@ -154,6 +156,7 @@ fn scan_text<S: Source, L: Ledger>(
     steps: &mut Steps<L>,
 ) -> Result<Vec<u8>, Error>
     ensures keeps { Keeps S.Source source.old source.new }
+    ensures quiet { OnOk result (S.faults source.new ≡ S.faults source.old) }
     ensures untouched { IfSome (sample_in words.now) (λ _. source.new ≡ source.old) }
     ensures ticks { steps.old ≤ steps.new }
     ensures text { let told = told_by words.now (S.told source.old) in

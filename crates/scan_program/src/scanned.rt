@@ -1,5 +1,5 @@
 //! Scans of the file that the words name.
-ghost use Rattle.std.specs.Prelude.{◌≡◌, ◌+◌, ◌≤◌, IfErr, IfOk, IfSome, IsTrue};
+ghost use Rattle.std.specs.Prelude.{◌≡◌, ◌+◌, ◌≤◌, IfErr, IfOk, IfSome, IsTrue, OnOk};
 ghost use Rattle.std.specs.Result.{IsErrAnd};
 ghost use Rattle.columns_core.specs.declared.error.Error.TheVariants.{InvalidArgumentError};
 ghost use Rattle.columns_core.specs.declared.error.Part.TheVariants.{Request};
@@ -29,6 +29,7 @@ pub(crate) fn scan_file<S: Source, L: Ledger>(
     steps: &mut Steps<L>,
 ) -> Result<Scan, Error>
     ensures keeps { Keeps S.Source source.old source.new }
+    ensures quiet { OnOk result (S.faults source.new ≡ S.faults source.old) }
     ensures untouched { IfSome (sample_in words.now) (λ _. source.new ≡ source.old) }
     ensures ticks { steps.old ≤ steps.new }
     ensures answers { let told = told_by words.now (S.told source.old) in
@@ -87,6 +88,7 @@ fn scan_source<S: Source, L: Ledger>(
     steps: &mut Steps<L>,
 ) -> Result<Scan, Error>
     ensures keeps { Keeps S.Source source.old source.new }
+    ensures quiet { OnOk result (S.faults source.new ≡ S.faults source.old) }
     ensures ticks { steps.old ≤ steps.new }
     ensures answers { IfOk result (Answers (command_of asked.now).request (S.told source.old)) }
     ensures pages { IfOk result (λ scan. scan.pages ≡ lent_between steps.old steps.new) }

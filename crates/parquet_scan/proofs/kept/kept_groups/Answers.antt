@@ -1,5 +1,5 @@
 use Rattle.std.specs.Prelude.{IfSome}
-use Rattle.std.proofs.Common.{rules, ◌≡◌, All, ◌++◌, ◌+◌, sym, drop, map, arith, subst, List, [], ℕ, Option, Bool, false, get_or, refl}
+use Rattle.std.proofs.Common.{rules, ◌≡◌, All, ◌++◌, ◌+◌, sym, drop, map, arith, subst, List, [], ℕ, Option, Bool, false, get_or, refl, ◌∙◌}
 use Rattle.parquet_meta.specs.declared.metadata.RowGroupMetaData.{RowGroupMetaData}
 use Rattle.std.proofs.lemmas.List.Elements.{All-nil, All-push}
 use Rattle.std.proofs.lemmas.Result.{err_from_is_err_and}
@@ -32,6 +32,7 @@ returns-in_err-kept_group-clause-fails g c =
 pub loop-i-init : goal.loop-i-init
 loop-i-init g c = record {
   keeps = search rules;
+  quiet = refl;
   none = search rules;
   kept = search rules;
   taken = search rules;
@@ -55,6 +56,7 @@ loop-i-preserved g c =
     let is = subst (λ (told : Option (List ℕ)). IfSome told (λ bytes. kept ≡ kept_if by_pages c.args.fields.now bounds bytes (group, count))) c.loop-i.invariant.keeps.same c.in_ok-kept_group.ensures.kept in
     record {
       keeps = search rules;
+      quiet = c.in_ok-kept_group.ensures.quiet ∙ c.loop-i.invariant.quiet;
       none = none_pair told (index_causes_if by_pages c.args.fields.now bounds) groups counts i group count false c.loop-i-test.true (omega arith) c.index-groups-i.is refl c.loop-i.invariant.none own;
       kept = subst (λ (items : List GroupKept). IfSome told (λ bytes. kept_of_groups by_pages c.args.fields.now bounds bytes groups counts ≡ items ++ kept_of_groups by_pages c.args.fields.now bounds bytes (drop (i + 1) groups) (drop (i + 1) counts)))
           (sym c.in_ok-push.ensures.items)

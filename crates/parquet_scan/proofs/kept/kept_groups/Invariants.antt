@@ -11,6 +11,7 @@ invariant-loop-i g l =
     let source = g.S.Source in
     record {
       keeps : Keeps source l.fn.source l.source;
+      quiet : source.faults l.source ≡ source.faults l.fn.source;
       none : IfSome (source.told l.fn.source) (λ bytes.
           index_causes_of_groups l.by_pages l.fields l.bounds bytes l.groups l.counts ≡ index_causes_of_groups l.by_pages l.fields l.bounds bytes (drop l.i l.groups) (drop l.i l.counts));
       kept : IfSome (source.told l.fn.source) (λ bytes.

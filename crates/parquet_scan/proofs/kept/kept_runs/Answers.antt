@@ -1,5 +1,5 @@
 use Rattle.std.proofs.Common.{◌≡◌, ◌∙◌, ap, subst, sym, true, false, List, ℕ, Bool, []}
-use Rattle.std.specs.Prelude.{Option, ◌&&◌, IfSome, Some, None}
+use Rattle.std.specs.Prelude.{Option, ◌&&◌, IfOk, IfSome, Some, None}
 use Rattle.columns_core.specs.declared.data_type.Field.{Field}
 use Rattle.parquet_base.specs.Intervals.{AreApart, maximal_runs}
 use Rattle.parquet_base.proofs.SegmentLemmas.{runs_apart}
@@ -26,6 +26,14 @@ all_kept (Some bytes) fields bounds group by_pages counts runs e counting whole 
 
 pub returns-then-not-counts-clause-kept : goal.returns-then-not-counts-clause-kept
 returns-then-not-counts-clause-kept g c = none_kept (g.S.Source.told c.args.source.now) c.args.by_pages c.args.fields.now c.args.bounds.now c.args.group.now c.args.counts c.new.result.items c.new.ensures.items c.if-not-counts.true
+
+pub returns-then-by_pages-clause-kept : goal.returns-then-by_pages-clause-kept
+returns-then-by_pages-clause-kept g c =
+    let told = g.S.Source.told c.args.source.now in
+    let group = c.args.group.now in
+    let Kept : Bool → Bool → Type 0 = λ counts by_pages.
+    IfOk c.kept_by_pages.result (λ runs. IfSome told (λ bytes. runs.items ≡ maximal_runs (λ row. counts && pages_keep by_pages c.args.fields.now c.args.bounds.now bytes group row) group.num_rows)) in
+    subst (λ counts. Kept counts c.args.by_pages) (sym c.if-not-counts.false) (subst (Kept true) (sym c.if-by_pages.true) c.kept_by_pages.ensures.kept)
 
 pub returns-clause-kept : goal.returns-clause-kept
 returns-clause-kept g c =

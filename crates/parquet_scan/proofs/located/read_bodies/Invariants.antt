@@ -12,6 +12,7 @@ invariant-loop-page g l =
     let source = g.S.Source in
     record {
       keeps : Keeps source l.fn.source l.source;
+      quiet : source.faults l.source ≡ source.faults l.fn.source;
       none : IfSome (source.told l.fn.source) (λ bytes.
           flat_map (entry_causes bytes l.chunk) (filter is_wanted l.pages) ≡ flat_map (entry_causes bytes l.chunk) (filter is_wanted (drop l.page-index l.pages)));
       bodies : IfSome (source.told l.fn.source) (λ bytes.

@@ -41,6 +41,7 @@ loop-field-preserved g c =
     let are = subst (λ (told : Option (List ℕ)). IfSome told (λ bytes. field_locations bytes group field.name ≡ list.items)) c.loop-field.invariant.keeps.same c.in_ok-read_field_locations.ensures.locations in
     record {
       keeps = search rules;
+      quiet = c.in_ok-read_field_locations.ensures.quiet ∙ c.loop-field.invariant.quiet;
       none = none_more told (λ bytes. offset_causes_of_field bytes group) fields i field c.loop-field-test.true c.field-item.is c.loop-field.invariant.none own;
       locations = subst (λ (lists : List (List PageLocation)). IfSome told (λ bytes. map (λ field. field_locations bytes group field.name) fields ≡ lists ++ map (λ field. field_locations bytes group field.name) (drop (i + 1) fields)))
           (sym (ap (map items) c.in_ok-push.ensures.items ∙ map-append items c.loop-field.lists.items (list ∷ [])))

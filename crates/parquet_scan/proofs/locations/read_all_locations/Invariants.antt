@@ -14,6 +14,7 @@ invariant-loop-field g l =
     let source = g.S.Source in
     record {
       keeps : Keeps source l.fn.source l.source;
+      quiet : source.faults l.source ≡ source.faults l.fn.source;
       none : IfSome (source.told l.fn.source) (λ bytes. flat_map (offset_causes_of_field bytes l.group) l.fields ≡ flat_map (offset_causes_of_field bytes l.group) (drop l.field-index l.fields));
       locations : IfSome (source.told l.fn.source) (λ bytes.
           map (λ field. field_locations bytes l.group field.name) l.fields ≡ map (λ list. list.items) l.lists.items ++ map (λ field. field_locations bytes l.group field.name) (drop l.field-index l.fields));

@@ -42,6 +42,7 @@ loop-bound-preserved g c =
     let are = subst (λ (told : Option (List ℕ)). IfSome told (λ bytes. maximal_runs (λ row. bound_keeps c.args.fields.now bytes group row bound) group.num_rows ≡ list.items)) c.loop-bound.invariant.keeps.same c.in_ok-read_runs.ensures.runs in
     record {
       keeps = search rules;
+      quiet = c.in_ok-read_runs.ensures.quiet ∙ c.loop-bound.invariant.quiet;
       none = none_more told (λ bytes. index_causes_of_bound c.args.fields.now bytes group) bounds i bound c.loop-bound-test.true c.bound-item.is c.loop-bound.invariant.none own;
       runs = subst (λ (lists : List (List Interval)). IfSome told (λ bytes. map (λ bound. maximal_runs (λ row. bound_keeps c.args.fields.now bytes group row bound) group.num_rows) bounds
           ≡ lists ++ map (λ bound. maximal_runs (λ row. bound_keeps c.args.fields.now bytes group row bound) group.num_rows) (drop (i + 1) bounds)))

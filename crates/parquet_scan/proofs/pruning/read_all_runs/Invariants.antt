@@ -13,6 +13,7 @@ invariant-loop-bound g l =
     let source = g.S.Source in
     record {
       keeps : Keeps source l.fn.source l.source;
+      quiet : source.faults l.source ≡ source.faults l.fn.source;
       none : IfSome (source.told l.fn.source) (λ bytes. flat_map (index_causes_of_bound l.fields bytes l.group) l.bounds ≡ flat_map (index_causes_of_bound l.fields bytes l.group) (drop l.bound-index l.bounds));
       runs : IfSome (source.told l.fn.source) (λ bytes.
           map (λ bound. maximal_runs (λ row. bound_keeps l.fields bytes l.group row bound) l.group.num_rows) l.bounds

@@ -56,6 +56,7 @@ loop-field-preserved g c =
     = ap (map (λ column. map (λ array. Some (column_of array)) column.items)) c.in_ok-push.ensures.items ∙ map-append (λ column. map (λ array. Some (column_of array)) column.items) c.loop-field.columns.items (arrays ∷ []) in
     record {
       keeps = search rules;
+      quiet = c.in_ok-arrays.ensures.quiet ∙ c.loop-field.invariant.quiet;
       none = none_more told (λ bytes. causes_of_column by_pages c.args.chunk_size bytes group rows) fields i field c.loop-field-test.true c.field-item.is c.loop-field.invariant.none own;
       columns = subst (λ (made : List (List (Option (DataType × List Cell)))). IfSome told (λ bytes. map (column bytes) fields ≡ made ++ map (column bytes) (drop (i + 1) fields))) (sym more)
           (made_more told column fields i field made (map (λ array. Some (column_of array)) arrays.items) c.loop-field-test.true c.field-item.is c.loop-field.invariant.columns is);

@@ -18,6 +18,7 @@ invariant-loop-field g l =
     let pieces = cut l.chunk_size rows in
     record {
       keeps : Keeps source l.fn.source l.source;
+      quiet : source.faults l.source ≡ source.faults l.fn.source;
       none : IfSome (source.told l.fn.source) (λ bytes. causes_of_group l.by_pages l.chunk_size l.fields bytes (l.group, rows) ≡ causes_of_group l.by_pages l.chunk_size (drop l.field-index l.fields) bytes (l.group, rows));
       columns : IfSome (source.told l.fn.source) (λ bytes.
           map (λ field. map (λ rows. given_column l.by_pages bytes l.group rows field) pieces) l.fields

@@ -33,6 +33,7 @@ loop-i-preserved g c =
     let taken = subst (λ (told : Option (List ℕ)). RisesBy told (g.S.Source.taken c.loop-i.source) (g.S.Source.taken c.read_if_given.new.source) (λ bytes. taken_if_read by_pages fields bytes (group, runs))) same c.in_ok-read_if_given.ensures.taken in
     record {
       keeps = search rules;
+      quiet = c.in_ok-read_if_given.ensures.quiet ∙ c.loop-i.invariant.quiet;
       none = none_pair told (causes_if_read by_pages size fields) groups given i group runs runs c.loop-i-test.true below c.index-groups-i.is beside c.loop-i.invariant.none none;
       chunks = flat_pair told (chunks_if_read by_pages size fields) groups given i group runs (shown c.args.read.now.chunks.items) (shown c.loop-i.read.chunks.items) (shown c.read_if_given.new.read.chunks.items)
           c.loop-i-test.true below c.index-groups-i.is beside c.loop-i.invariant.chunks chunks;

@@ -12,6 +12,7 @@ invariant-loop-i g l =
     let source = g.S.Source in
     record {
       keeps : Keeps source l.fn.source l.source;
+      quiet : source.faults l.source ≡ source.faults l.fn.source;
       none : IfSome (source.told l.fn.source) (λ bytes.
           causes_of_groups l.by_pages l.chunk_size l.fields bytes l.groups l.given ≡ causes_of_groups l.by_pages l.chunk_size l.fields bytes (drop l.i l.groups) (drop l.i l.given));
       chunks : IfSome (source.told l.fn.source) (λ bytes.

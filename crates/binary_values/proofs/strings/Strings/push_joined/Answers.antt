@@ -1,0 +1,37 @@
+use Rattle.std.proofs.Common.{◌∙◌, ◌++◌, ap, ap₂, arith, inl, inr, length, map}
+use Rattle.std.specs.Prelude.{nat_abs, sum_by}
+use Rattle.std.proofs.lemmas.List.{length-append}
+use Rattle.columns_core.specs.Offsets.{parts}
+use Rattle.binary_values.specs.JoinedStrings.{cut_into}
+use Rattle.binary_values.proofs.EndLemmas.{parts-joined}
+use Rattle.binary_values.proofs.StringLemmas.{sum-parts}
+use Rattle.binary_values.proofs.strings.Strings.push_joined.Goals as goal
+
+pub invariant_of-self-in-Ok : goal.invariant_of-self-in-Ok
+invariant_of-self-in-Ok g c =
+    let values = c.self.inside.values.items in
+    let joined = c.args.joined.now in
+    (c.push_lengths.ensures.shape, omega (arith, c.in-Ok.ensures.last, c.self.invariant.1, c.requires, ap length c.in_ok-extend_from_slice.ensures.items, length-append values joined), c.push_lengths.ensures.fits)
+
+pub returns-in-Ok-clause-ok : goal.returns-in-Ok-clause-ok
+returns-in-Ok-clause-ok g c =
+    let offsets = c.self.inside.offsets in
+    let values = c.self.inside.values.items in
+    let joined = c.args.joined.now in
+    ap₂ parts c.in-Ok.ensures.ok c.in_ok-extend_from_slice.ensures.items ∙ parts-joined c.args.lengths.now offsets values joined c.self.invariant.0 c.self.invariant.1 c.requires
+    ∙ ap (λ xs. xs ++ cut_into (map nat_abs c.args.lengths.now) joined) c.self.view_is
+
+pub returns-in-Ok-clause-fits : goal.returns-in-Ok-clause-fits
+returns-in-Ok-clause-fits g c =
+    let sum = sum-parts c.self.inside.offsets c.self.inside.values.items c.self.invariant.0 c.self.invariant.1 in
+    omega (arith, c.in-Ok.ensures.last, c.push_lengths.ensures.fits, c.requires, sum, c.self.invariant.1, ap (sum_by length) c.self.view_is)
+
+pub returns-in-Err-clause-err : goal.returns-in-Err-clause-err
+returns-in-Err-clause-err g c =
+    let offsets = c.self.inside.offsets in
+    let values = c.self.inside.values.items in
+    let sum = sum-parts offsets values c.self.invariant.0 c.self.invariant.1 in
+    elim c.in-Err.ensures.err [
+      | inl memory ↦ inl memory
+      | inr past ↦ inr (past.0, omega (arith, past.1, c.requires, sum, c.self.invariant.1, ap (sum_by length) c.self.view_is))
+    ]

@@ -1,0 +1,44 @@
+-- What is left of a column at first, as its iterator has it.
+use Rattle.std.proofs.Common.{◌≡◌, ℕ, false, Option, Some, None, ap, refl, sym, subst}
+use Rattle.std.specs.Prelude.{IfSome, Result}
+use Rattle.columns_core.specs.DictionaryType.{key_type, key_type_at}
+use Rattle.columns_core.specs.Types.{Layer}
+use Rattle.columns_core.specs.declared.data_type.DataType.{DataType, out-DataType}
+use Rattle.columns_core.specs.declared.data_type.DataType.TheOpen.{DataType-F}
+use Rattle.columns_core.specs.declared.error.Error.{Error}
+use Rattle.parquet_meta.specs.declared.metadata.PhysicalType.{PhysicalType}
+use Rattle.parquet_meta.specs.declared.metadata.PrimitiveLogicalType.{PrimitiveLogicalType}
+use Rattle.parquet_meta.specs.declared.metadata.PrimitiveType.{PrimitiveType}
+use Rattle.flat_values.specs.ColumnLeft.{ColumnLeft}
+use Rattle.flat_values.specs.Conversion.{Conversion}
+use Rattle.flat_values.specs.Pairs.{from_physical, is_repeated}
+use Rattle.flat_binary.specs.Left.{Supply, converted_left}
+use Rattle.flat_binary.specs.Paged.{is_null_at, is_null_type}
+use Rattle.column_arrays.specs.Begun.{BeginsColumn, begun_conversion, begun_conversion_at, column_left}
+
+-- A type that is no dictionary's and not that of nulls has the conversion of values.
+pub values_rule : (physical : PhysicalType) (logical : Option PrimitiveLogicalType) (data_type : DataType) → is_null_type data_type ≡ false → key_type data_type ≡ None → begun_conversion_at physical logical (out-DataType data_type) ≡ from_physical physical logical (out-DataType data_type)
+values_rule physical logical data_type some flat = by (out-DataType data_type) some flat where
+  by : (layer : Layer) → is_null_at layer ≡ false → key_type_at layer ≡ None → begun_conversion_at physical logical layer ≡ from_physical physical logical layer
+  by DataType-F.Null some flat = absurd cc
+  by (DataType-F.Dictionary key value ordered) some flat = absurd cc
+  by layer some flat = refl
+
+-- The conversion of a column that is not repeated.
+pub one_rule : (stored : PrimitiveType) (unit : Option PrimitiveLogicalType) (data_type : DataType) → is_repeated stored.repetition ≡ false → unit ≡ stored.logical_type
+    → begun_conversion stored data_type ≡ begun_conversion_at stored.physical_type unit (out-DataType data_type)
+one_rule stored unit data_type once is = rw once (ap (λ (unit : Option PrimitiveLogicalType). begun_conversion_at stored.physical_type unit (out-DataType data_type)) (sym is))
+
+-- Its pages are read.
+pub values_left : (physical : PhysicalType) (data_type : DataType) (size : Option ℕ) (num_rows : ℕ) (supply : Supply) (rule : Conversion) → is_null_type data_type ≡ false
+    → converted_left physical data_type size num_rows supply rule ≡ column_left physical data_type size num_rows supply rule
+values_left physical data_type size num_rows supply rule some = rw some refl
+
+-- The same may be said in other words.
+pub renamed : {X : Type 0} (left_of : X → ColumnLeft) (fresh own : Conversion → ColumnLeft) → ((rule : Conversion) → fresh rule ≡ own rule) → (result : Result X Error) (found other : Option Conversion) → other ≡ found
+    → IfSome found (λ rule. BeginsColumn left_of (fresh rule) result) → IfSome other (λ rule. BeginsColumn left_of (own rule) result)
+renamed left_of fresh own same result found other is begins =
+    subst (λ (o : Option Conversion). IfSome o (λ rule. BeginsColumn left_of (own rule) result)) (sym is) (by found begins) where
+      by : (found : Option Conversion) → IfSome found (λ rule. BeginsColumn left_of (fresh rule) result) → IfSome found (λ rule. BeginsColumn left_of (own rule) result)
+      by None begins = tt
+      by (Some rule) begins = subst (λ (left : ColumnLeft). BeginsColumn left_of left result) (same rule) begins

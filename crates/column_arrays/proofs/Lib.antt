@@ -1,0 +1,4 @@
+mod BeginLemmas
+mod CellLemmas
+mod JoinedLemmas
+mod PageTypes

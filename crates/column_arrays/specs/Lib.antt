@@ -1,0 +1,4 @@
+pub mod Layers
+pub mod Begun
+pub mod Cuts
+pub mod JoinedStrings

@@ -1,0 +1,248 @@
+//! Columns of each stored type as iterators of arrays, from the bytes of their chunks.
+ghost use Rattle.std.specs.Prelude.{◌≡◌, IfOk};
+ghost use Rattle.parquet_page.specs.Lending.{DataPagesAre};
+ghost use Rattle.parquet_page.specs.Reader.{reader_pages};
+
+use crate::arrays::{column, page};
+use column_arrays::binary::{Delta, FilteredDelta};
+use column_arrays::page_iter_to_arrays;
+use columns_core::{Array, Cell, DataType, Error, Part, TimeUnit};
+use parquet_meta::{PhysicalType, PrimitiveType, Repetition};
+use parquet_page::{DataPage, DataPageHeader, PageReader, Pages};
+use std::alloc::Global;
+use std::iter::Iterator;
+use std::test::*;
+
+/// The last digit of a number.
+fn digit(number: i128) -> u8 {
+    b'0' + (number.unsigned_abs() % 10) as u8
+}
+
+/// The cells of an array: a truth value as a letter, a number as its last digit, bytes as they are, and a null as a dash.
+fn push_cells(alloc: Global, all: &mut Vec<u8>, array: &Array) -> Result<(), Error> {
+    for i in 0..array.len() {
+        let cell = array.item(alloc, i)?;
+        match &cell {
+            Cell::Null => all.push(b'-')?,
+            Cell::Bool(truth) => all.push(if *truth { b't' } else { b'f' })?,
+            Cell::Int(number) => all.push(digit(*number))?,
+            Cell::Text(text) => all.extend_from_slice(text.as_str().as_bytes())?,
+            Cell::Bytes(bytes) => all.extend_from_slice(bytes.as_slice())?,
+            Cell::DaysMs(_, _) | Cell::Cells(_) => all.push(b'?')?,
+        }
+    }
+    all.push(b';')?;
+    Ok(())
+}
+
+/// A type that has no unit.
+fn stored(physical_type: PhysicalType, repetition: Repetition) -> PrimitiveType
+    ensures { result.physical_type ≡ physical_type }
+{
+    PrimitiveType {
+        physical_type,
+        logical_type: None,
+        repetition,
+    }
+}
+
+/// The first rows of pages, at most four, in arrays of so many rows.
+fn rows_of<I: Pages>(
+    alloc: Global,
+    pages: I,
+    type_: PrimitiveType,
+    data_type: DataType,
+    chunk_size: Option<usize>,
+) -> Result<Vec<u8>, Error>
+    requires { let physical = type_.physical_type in
+        DataPagesAre (λ page. page.type.physical_type ≡ physical) (I.to_come pages) }
+{
+    let mut all = Vec::new(alloc);
+    for array in page_iter_to_arrays(alloc, pages, &type_, data_type, chunk_size, 4)? {
+        push_cells(alloc, &mut all, &array?)?;
+    }
+    Ok(all)
+}
+
+/// The pages of a chunk of four required values.
+fn pages_of(alloc: Global, physical: PhysicalType, chunk: Vec<u8>) -> Result<PageReader, Error>
+    ensures { IfOk result (λ reader.
+        DataPagesAre (λ page. page.type.physical_type ≡ physical) (reader_pages reader)) }
+{
+    PageReader::new(
+        alloc,
+        chunk,
+        &column(alloc, physical, Repetition::Required, 4),
+    )
+}
+
+/// The rows of such a chunk.
+fn rows_in(
+    alloc: Global,
+    physical: PhysicalType,
+    chunk: Vec<u8>,
+    data_type: DataType,
+    chunk_size: Option<usize>,
+) -> Result<Vec<u8>, Error> {
+    let pages = pages_of(alloc, physical, chunk)?;
+    let type_ = stored(physical, Repetition::Required);
+    rows_of(alloc, pages, type_, data_type, chunk_size)
+}
+
+/// Whether the rows of a plain page are these, in one array and in arrays of three rows.
+fn reads(
+    alloc: Global,
+    physical: PhysicalType,
+    values: &[u8],
+    data_type: DataType,
+    whole: &[u8],
+    chunked: &[u8],
+) -> Result<bool, Error> {
+    let values = &values[..values.len().min(47)];
+    let own_type = data_type.try_clone(alloc)?;
+    let one = rows_in(
+        alloc,
+        physical,
+        page(alloc, 4, 0, &[], values)?,
+        own_type,
+        None,
+    )?;
+    let chunk = page(alloc, 4, 0, &[], values)?;
+    let more = rows_in(alloc, physical, chunk, data_type, Some(3))?;
+    Ok(one.as_slice() == whole && more.as_slice() == chunked)
+}
+
+#[test]
+fn columns_of_truth_values_and_numbers(rt: HostRuntime) -> Result<(), Fail> {
+    let alloc = rt.alloc();
+    let truths = PhysicalType::Boolean;
+    assert!(rt;
+        reads(
+            alloc,
+            truths,
+            &[0b1101],
+            DataType::Boolean,
+            b"tftt;",
+            b"tft;t;"
+        )?
+    );
+    let numbers = [1, 0, 0, 0, 2, 0, 0, 0, 3, 1, 0, 0, 4, 0, 0, 0];
+    let stored = PhysicalType::Int32;
+    assert!(rt;
+        reads(
+            alloc,
+            stored,
+            &numbers,
+            DataType::Int32,
+            b"1294;",
+            b"129;4;"
+        )?
+    );
+    assert!(rt;
+        reads(
+            alloc,
+            stored,
+            &numbers,
+            DataType::UInt8,
+            b"1234;",
+            b"123;4;"
+        )?
+    );
+    let mut numbers = [0; 32];
+    numbers[0] = 5;
+    numbers[8] = 6;
+    numbers[16] = 7;
+    numbers[24] = 8;
+    let stored = PhysicalType::Int64;
+    let seconds = DataType::Timestamp(TimeUnit::Second, None);
+    assert!(rt; reads(alloc, stored, &numbers, seconds, b"5678;", b"567;8;")?);
+    Ok(())
+}
+
+#[test]
+fn columns_of_byte_strings(rt: HostRuntime) -> Result<(), Fail> {
+    let alloc = rt.alloc();
+    let fixed = PhysicalType::FixedLenByteArray(2);
+    let two = DataType::FixedSizeBinary(2);
+    assert!(rt; reads(alloc, fixed, b"abcdefgh", two, b"abcdefgh;", b"abcdef;gh;")?);
+    let strings = b"\x01\0\0\0a\0\0\0\0\x02\0\0\0bc\x01\0\0\0d";
+    let own = PhysicalType::ByteArray;
+    assert!(rt; reads(alloc, own, strings, DataType::Utf8, b"abcd;", b"abc;d;")?);
+    assert!(rt;
+        reads(
+            alloc,
+            own,
+            strings,
+            DataType::LargeBinary,
+            b"abcd;",
+            b"abc;d;"
+        )?
+    );
+    Ok(())
+}
+
+#[test]
+fn columns_of_nulls(rt: HostRuntime) -> Result<(), Fail> {
+    let alloc = rt.alloc();
+    // No page of theirs is looked at.
+    let read = rows_in(
+        alloc,
+        PhysicalType::Double,
+        Vec::new(alloc),
+        DataType::Null,
+        Some(3),
+    )?;
+    assert_eq!(rt; read.as_slice(), b"---;-;".as_slice());
+    Ok(())
+}
+
+#[test]
+fn columns_that_are_not_begun(rt: HostRuntime) -> Result<(), Fail> {
+    let alloc = rt.alloc();
+    let truths = page(alloc, 4, 0, &[], &[0b1101])?;
+    let refused = rows_in(alloc, PhysicalType::Boolean, truths, DataType::Int32, None).err();
+    assert_eq!(rt; refused, Some(Error::NotYetImplemented(Part::Schema)));
+    let truths = page(alloc, 4, 0, &[], &[0b1101])?;
+    let refused = rows_in(
+        alloc,
+        PhysicalType::Boolean,
+        truths,
+        DataType::Boolean,
+        Some(0),
+    )
+    .err();
+    assert_eq!(rt; refused, Some(Error::InvalidArgumentError(Part::Request)));
+    let pages = pages_of(alloc, PhysicalType::Boolean, Vec::new(alloc))?;
+    let repeated = stored(PhysicalType::Boolean, Repetition::Repeated);
+    let refused = rows_of(alloc, pages, repeated, DataType::Boolean, None).err();
+    assert_eq!(rt; refused, Some(Error::NotYetImplemented(Part::Schema)));
+    Ok(())
+}
+
+#[test]
+fn places_of_joined_strings(rt: HostRuntime) -> Result<(), Fail> {
+    // The lengths 5, 0 and 3, and the strings behind them.
+    let mut values = [0; 34];
+    let lengths = [0x80, 0x01, 0x04, 0x03, 0x0A, 0x09, 0x04, 0, 0, 0, 0x80];
+    values[..11].copy_from_slice(&lengths);
+    values[26..].copy_from_slice(b"Helloabc");
+    let type_ = stored(PhysicalType::ByteArray, Repetition::Required);
+    let page = DataPage {
+        header: DataPageHeader::V1 {
+            num_values: 3,
+            encoding: 6,
+            definition_encoding: 3,
+        },
+        buffer: &values,
+        type_: &type_,
+        selected_rows: None,
+    };
+    let mut strings = Delta::try_new(&page)?;
+    assert_eq!(rt; strings.len(), 3);
+    assert_eq!(rt; strings.next(&page), Some((26, 5)));
+    assert_eq!(rt; strings.next(&page), Some((31, 0)));
+    assert_eq!(rt; strings.next(&page), Some((31, 3)));
+    assert_eq!(rt; strings.next(&page), None);
+    assert_eq!(rt; FilteredDelta::try_new(&page)?.len(), 3);
+    Ok(())
+}

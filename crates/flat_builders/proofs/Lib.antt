@@ -1,0 +1,5 @@
+pub mod MarkLemmas
+pub mod KeptLemmas
+pub mod TypeLemmas
+pub mod ShownLemmas
+pub mod JoinedLemmas

@@ -1,0 +1,92 @@
+-- Ends that are appended one after another.
+use Rattle.std.proofs.Common.{◌≡◌, refl, sym, ◌∙◌, ap, subst, ℕ, zero, suc, ◌+◌, ◌<◌, ◌≤◌, Bool, true, false, List, [], ◌∷◌, ◌++◌, length, map, take, get_or, le_trans, arith}
+use Rattle.std.specs.Prelude.{Option, Some, None, sum_by}
+use Rattle.std.specs.List.{AllByRecursion}
+use Rattle.std.proofs.lemmas.Bool.{leb-true, le-leb}
+use Rattle.std.proofs.lemmas.List.{map_more, map_push, take-map}
+use Rattle.std.proofs.lemmas.List.Sums.{sum_by-cons, sum_by-take-le}
+use Rattle.columns_core.specs.Causes.{Overflow, unless}
+use Rattle.columns_core.specs.declared.cell.Cell.{Cell}
+use Rattle.columns_core.specs.declared.data_type.DataType.{DataType}
+use Rattle.parquet_meta.specs.declared.metadata.PageIndex.{PageIndex}
+use Rattle.page_decoding.specs.Bytes.{cell_bytes, fits_most}
+use Rattle.flat_values.specs.CellTypes.{is_cell_of}
+use Rattle.flat_values.specs.MostBytes.{most_bytes}
+use Rattle.flat_builders.specs.Flat.{Flat, flatness}
+use Rattle.flat_builders.specs.Kept.{cells_fit}
+use Rattle.column_ends.specs.Converted.{array_causes, end_bytes, page_array_causes}
+use Rattle.column_ends.specs.Laws.{AreEndsOf, IsEndOf}
+use Rattle.parquet_indexes.specs.PageStatistics.{end_slot}
+use Rattle.parquet_indexes.specs.Sides.{end_on, ends_on}
+use Rattle.parquet_indexes.specs.declared.page_arrays.Side.{Side}
+use Rattle.parquet_indexes.specs.declared.page_arrays.Side.TheVariants.{Low, High}
+use Rattle.parquet_indexes.proofs.FlatTypes.{both_empty, own_value_type}
+
+all_at : {X : Type 0} (P : X → Type 0) (xs : List X) (i : ℕ) (d : X) → AllByRecursion P xs → i < length xs → P (get_or xs i d)
+all_at P [] i d all h = absurd (omega arith)
+all_at P (x ∷ xs) zero d all h = all.0
+all_at P (x ∷ xs) (suc i) d all h = all_at P xs i d all.1 (omega arith)
+
+slot_typed : (data_type : DataType) (end : Option Cell) → IsEndOf data_type end → is_cell_of data_type (end_slot end) ≡ true
+slot_typed data_type None typed = refl
+slot_typed data_type (Some cell) typed = typed
+
+on_side : (data_type : DataType) (side : Side) (page : PageIndex Cell) → AreEndsOf data_type page → IsEndOf data_type (end_on side page)
+on_side data_type Low page typed = typed.0
+on_side data_type High page typed = typed.1
+
+-- ---- bytes
+
+slot_bytes : (end : Option Cell) → cell_bytes (end_slot end) ≡ end_bytes end
+slot_bytes None = refl
+slot_bytes (Some cell) = refl
+
+bytes_of_slots : (ends : List (Option Cell)) → sum_by cell_bytes (map end_slot ends) ≡ sum_by end_bytes ends
+bytes_of_slots [] = refl
+bytes_of_slots (end ∷ ends) =
+    sum_by-cons cell_bytes (end_slot end) (map end_slot ends) ∙ ap (λ n. n + sum_by cell_bytes (map end_slot ends)) (slot_bytes end) ∙ ap (λ n. end_bytes end + n) (bytes_of_slots ends)
+    ∙ sym (sum_by-cons end_bytes end ends)
+
+fewer_fit : (most : Option ℕ) (fewer all : ℕ) → fewer ≤ all → fits_most most all ≡ true → fits_most most fewer ≡ true
+fewer_fit None fewer all h e = refl
+fewer_fit (Some most) fewer all h e = le-leb fewer most (le_trans h (leb-true all most e))
+
+no_cause : (test : Bool) → unless test Overflow ≡ [] → test ≡ true
+no_cause true e = refl
+no_cause false e = absurd cc
+
+module _ (data_type : DataType) (pages : List (PageIndex Cell)) (flat : flatness data_type ≡ Flat) (fit : page_array_causes data_type pages ≡ []) where
+  side_fits : (side : Side) → array_causes data_type (ends_on side pages) ≡ []
+  side_fits Low = (both_empty (array_causes data_type (ends_on Low pages)) (array_causes data_type (ends_on High pages)) fit).0
+  side_fits High = (both_empty (array_causes data_type (ends_on Low pages)) (array_causes data_type (ends_on High pages)) fit).1
+
+  -- The bytes of the first ends fit, since those of all do.
+  module _ (side : Side) where
+    all_fit : cells_fit data_type (map end_slot (ends_on side pages)) ≡ true
+    all_fit =
+        ap (λ n. fits_most (most_bytes data_type) n) (bytes_of_slots (ends_on side pages))
+        ∙ ap (λ (type : DataType). fits_most (most_bytes type) (sum_by end_bytes (ends_on side pages))) (sym (own_value_type data_type flat))
+        ∙ no_cause _ (side_fits side)
+
+    first_slots : (k : ℕ) → map end_slot (ends_on side (take k pages)) ≡ take k (map end_slot (ends_on side pages))
+    first_slots k = sym (take-map end_slot k (ends_on side pages) ∙ ap (map end_slot) (take-map (end_on side) k pages))
+
+    first_fit : (k : ℕ) → cells_fit data_type (map end_slot (ends_on side (take k pages))) ≡ true
+    first_fit k =
+        ap (cells_fit data_type) (first_slots k)
+        ∙ fewer_fit (most_bytes data_type) _ _ (sum_by-take-le cell_bytes (map end_slot (ends_on side pages)) k) all_fit
+
+-- ---- one page more
+
+module _ (pages : List (PageIndex Cell)) (side : Side) (i : ℕ) (page : PageIndex Cell) (within : i < length pages) (here : page ≡ get_or pages i page) where
+  pub slots-more : map end_slot (ends_on side (take i pages)) ++ end_slot (end_on side page) ∷ [] ≡ map end_slot (ends_on side (take (i + 1) pages))
+  slots-more =
+      ap (λ (item : PageIndex Cell). map end_slot (ends_on side (take i pages)) ++ end_slot (end_on side item) ∷ []) here
+      ∙ sym (ap (map end_slot) (map_more (end_on side) pages i page within) ∙ map_push end_slot (ends_on side (take i pages)) (end_on side (get_or pages i page)))
+
+  module _ (data_type : DataType) where
+    pub slot_is_typed : AllByRecursion (AreEndsOf data_type) pages → is_cell_of data_type (end_slot (end_on side page)) ≡ true
+    slot_is_typed typed = slot_typed data_type (end_on side page) (on_side data_type side page (subst (AreEndsOf data_type) (sym here) (all_at (AreEndsOf data_type) pages i page typed within)))
+
+    pub slot_fits : flatness data_type ≡ Flat → page_array_causes data_type pages ≡ [] → cells_fit data_type (map end_slot (ends_on side (take i pages)) ++ end_slot (end_on side page) ∷ []) ≡ true
+    slot_fits flat fit = ap (cells_fit data_type) slots-more ∙ first_fit data_type pages flat fit side (i + 1)

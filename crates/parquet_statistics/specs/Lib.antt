@@ -1,0 +1,2 @@
+pub mod CountType
+pub mod Times
