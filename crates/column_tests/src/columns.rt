@@ -219,22 +219,26 @@ fn columns_that_are_not_begun(rt: HostRuntime) -> Result<(), Fail> {
     Ok(())
 }
 
+const STRINGS: PrimitiveType = PrimitiveType {
+    physical_type: PhysicalType::ByteArray,
+    logical_type: None,
+    repetition: Repetition::Required,
+};
+
+/// The lengths 5, 0 and 3, packed with as many bits as a block has, and the strings behind them.
+const JOINED: &[u8] =
+    b"\x80\x01\x04\x03\x0A\x09\x04\0\0\0\x80\0\0\0\0\0\0\0\0\0\0\0\0\0\0\0Helloabc";
+
 #[test]
 fn places_of_joined_strings(rt: HostRuntime) -> Result<(), Fail> {
-    // The lengths 5, 0 and 3, and the strings behind them.
-    let mut values = [0; 34];
-    let lengths = [0x80, 0x01, 0x04, 0x03, 0x0A, 0x09, 0x04, 0, 0, 0, 0x80];
-    values[..11].copy_from_slice(&lengths);
-    values[26..].copy_from_slice(b"Helloabc");
-    let type_ = stored(PhysicalType::ByteArray, Repetition::Required);
     let page = DataPage {
         header: DataPageHeader::V1 {
             num_values: 3,
             encoding: 6,
             definition_encoding: 3,
         },
-        buffer: &values,
-        type_: &type_,
+        buffer: JOINED,
+        type_: &STRINGS,
         selected_rows: None,
     };
     let mut strings = Delta::try_new(&page)?;

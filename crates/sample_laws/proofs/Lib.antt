@@ -19,3 +19,4 @@ pub mod SampleItems
 pub mod SampleFits
 pub mod SampleLaws
 pub mod SampleCells
+pub mod CommandLaws

@@ -3,7 +3,10 @@ ghost use Rattle.parquet_sample.specs.Sample.{most_rows, sample};
 ghost use Rattle.parquet_scan.specs.Rows.{file_of};
 ghost use Rattle.parquet_scan.specs.Scan.{request_of};
 ghost use Rattle.sample_laws.specs.Laws.{AsksOfSample, HasCells, IsGoodFor, IsTrueOfField};
-ghost use Rattle.std.specs.Prelude.{◌≡◌, ◌≤◌, IsSomeAnd};
+ghost use Rattle.sample_laws.specs.Commands.{IsAlwaysGoodFor};
+ghost use Rattle.scan_program.specs.Program.{command_in};
+ghost use Rattle.scan_program.specs.Sampled.{sample_in};
+ghost use Rattle.std.specs.Prelude.{◌≡◌, ◌≤◌, IfSome, IsSomeAnd};
 
 use columns_core::{Field, Schema};
 use parquet_scan::Bound;
@@ -38,4 +41,11 @@ pub fn sample_has_its_cells(_bytes: &[u8], _rows: u32, _seed: u32, _field: &Fiel
     requires few { _rows ≤ most_rows }
     requires bytes { _bytes.now ≡ sample _rows _seed }
     ensures { IsSomeAnd (file_of _bytes.now) (HasCells _rows _seed _field.now) }
+{}
+
+/// Words that name a sample of at most 2,000,000 rows, and ask for its three columns what is legal, ask it of a valid file, whatever the
+/// source tells. So `run` answers them with the report, unless memory runs out or the sink fails.
+pub fn sample_commands_are_valid(_words: &[String])
+    ensures { IfSome (command_in _words.now) (λ command. IfSome (sample_in _words.now) (λ asked.
+        AsksOfSample command.request → asked.0 ≤ most_rows → IsAlwaysGoodFor command.request _words.now)) }
 {}
