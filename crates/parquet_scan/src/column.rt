@@ -2,8 +2,9 @@
 ghost use Rattle.std.specs.Prelude.{◌≡◌, ◌+◌, ◌≤◌, [], Some, IfOk, IfErr, OnOk, IfSome, option_map};
 ghost use Rattle.columns_core.specs.Causes.{ComesOf};
 ghost use Rattle.parquet_meta.specs.Chunks.{chunk_causes, chunk_range};
-ghost use Rattle.parquet_meta.specs.Places.{bytes_at};
+ghost use Rattle.parquet_meta.specs.Places.{bytes_at, part_at};
 ghost use Rattle.parquet_meta.specs.Keeps.{Keeps};
+ghost use Rattle.parquet_meta.specs.Source.{Finds};
 ghost use Rattle.parquet_scan.specs.Causes.{chunk_read_causes};
 ghost use Rattle.parquet_scan.specs.Cells.{chunk_of};
 ghost use Rattle.parquet_scan.specs.Column.{has_values};
@@ -38,7 +39,21 @@ pub(crate) fn read_chunk<S: Source>(
         return Err(Error::ExternalFormat(Part::Group));
     }
     let (offset, length) = column.byte_range();
-    read_exact_at(alloc, source, Place { offset, length })
+    read_range(alloc, source, Place { offset, length })
+}
+
+/// The bytes of the range that a group tells of a chunk.
+fn read_range<S: Source>(alloc: Global, source: &mut S, range: Place) -> Result<Vec<u8>, Error>
+    ensures keeps { Keeps S.Source source.old source.new }
+    ensures quiet { OnOk result (S.faults source.new ≡ S.faults source.old) }
+    ensures part { Finds (λ bytes. bytes.items) (λ file. part_at file range)
+        (S.told source.old) (S.faults source.old) (S.faults source.new) result }
+    ensures taken { S.taken source.new ≤ S.taken source.old + range.length }
+{
+    match read_exact_at(alloc, source, range) {
+        Err(Error::ExternalFormat(_)) => Err(Error::ExternalFormat(Part::Group)),
+        found => found,
+    }
 }
 
 /// Where a column's chunk stands in a group, of which nothing is read.
