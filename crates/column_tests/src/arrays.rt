@@ -131,7 +131,8 @@ pub(crate) fn pages_with(
     num_values: u64,
     chunk: Vec<u8>,
 ) -> Result<PageReader, Error>
-    ensures { IfOk result (λ reader. DataPagesAre (λ page. page.type.physical_type ≡ physical) (reader_pages reader)) }
+    ensures { IfOk result (λ reader.
+        DataPagesAre (λ page. page.type.physical_type ≡ physical) (reader_pages reader)) }
 {
     PageReader::new(
         alloc,
@@ -147,7 +148,8 @@ fn pages_of(
     repetition: Repetition,
     chunk: Vec<u8>,
 ) -> Result<PageReader, Error>
-    ensures { IfOk result (λ reader. DataPagesAre (λ page. page.type.physical_type ≡ physical) (reader_pages reader)) }
+    ensures { IfOk result (λ reader.
+        DataPagesAre (λ page. page.type.physical_type ≡ physical) (reader_pages reader)) }
 {
     pages_with(alloc, physical, repetition, 4, chunk)
 }
@@ -174,7 +176,8 @@ pub(crate) fn located_pages(
     locations: &[PageLocation],
     rows: Interval,
 ) -> Result<IndexedPageReader, Error>
-    ensures { IfOk result (λ reader. DataPagesAre (λ page. page.type.physical_type ≡ physical) (indexed_pages reader)) }
+    ensures { IfOk result (λ reader.
+        DataPagesAre (λ page. page.type.physical_type ≡ physical) (indexed_pages reader)) }
 {
     let pages = select_pages(alloc, &[rows], locations, 4)?;
     let column = column(alloc, physical, repetition, 4);
@@ -665,7 +668,8 @@ const INTERVALS: PhysicalType = PhysicalType::FixedLenByteArray(12);
 
 /// Two intervals, and a null behind each of them.
 fn intervals(alloc: Global) -> Result<PageReader, Error>
-    ensures { IfOk result (λ reader. DataPagesAre (λ page. page.type.physical_type ≡ FixedLenByteArray 12) (reader_pages reader)) }
+    ensures { IfOk result (λ reader.
+        DataPagesAre (λ page. page.type.physical_type ≡ FixedLenByteArray 12) (reader_pages reader)) }
 {
     let values = [
         0, 0, 0, 0, 3, 0, 0, 0, 0xE8, 3, 0, 0, 7, 0, 0, 0, 0xFF, 0xFF, 0xFF, 0xFF, 0, 0, 0, 0,

@@ -45,7 +45,8 @@ fn mixed_page<'a>(
     selected_rows: Option<&'a [Interval]>,
 ) -> DataPage<'a>
     ensures typed { (data_content result).type ≡ type_.now }
-    ensures shaped { is_shaped (DataOf (data_content result)) ≡ fit_in 40 (option_map (λ rows. rows.now) selected_rows.entry) }
+    ensures shaped { let rows = option_map (λ rows. rows.now) selected_rows.entry in
+        is_shaped (DataOf (data_content result)) ≡ fit_in 40 rows }
 {
     DataPage {
         header: DataPageHeader::V1 {
