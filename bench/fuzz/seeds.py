@@ -1,4 +1,5 @@
-"""Writes small files of every kind of column that is read, each NAME.parquet with the words of a request in NAME.words. Usage: seeds.py FOLDER
+"""Writes small files of every kind of column that is read, each NAME.parquet with the words of a request in NAME.words and the place and length of each
+page, header and body, in NAME.pages, a page a line. Usage: seeds.py FOLDER
 Each file has two row groups of twelve rows in pages of five, four and three, with statistics and both page indexes, and a column `z` whose pages end at
 other rows, so that a request prunes by groups and by pages."""
 import os
@@ -129,16 +130,19 @@ def chunk_of(column, start, place, size, locations, behind):
 
 
 def write(path, columns):
-    out, chunks = bytearray(b"PAR1"), []
+    """Writes a file, and returns the place and length of each of its pages."""
+    out, chunks, pages = bytearray(b"PAR1"), [], []
     for start in range(0, GROUPS * ROWS, ROWS):
         for column in columns:
             place, locations = len(out), []
             if column.encoding == DICTIONARY:
                 out += column.dictionary()
+                pages.append((place, len(out) - place))
             for first, rows in pages_of(column, start):
                 page = column.page(rows)
                 locations.append((len(out), len(page), first))
                 out += page
+            pages += [(at, size) for at, size, _ in locations]
             chunks.append((column, start, place, len(out) - place, locations))
     stored = []
     for column, start, place, size, locations in chunks:
@@ -156,6 +160,7 @@ def write(path, columns):
     out += footer + struct.pack("<I", len(footer)) + b"PAR1"
     with open(path, "wb") as file:
         file.write(out)
+    return pages
 
 
 def text(row):
@@ -189,12 +194,18 @@ SEEDS = {
 }
 
 
+def write_lines(path, lines):
+    with open(path, "w", encoding="utf-8") as file:
+        file.writelines(line + "\n" for line in lines)
+
+
 def main(folder):
     os.makedirs(folder, exist_ok=True)
     for name, (columns, words) in SEEDS.items():
-        write(os.path.join(folder, name + ".parquet"), columns)
-        with open(os.path.join(folder, name + ".words"), "w", encoding="utf-8") as file:
-            file.write("\n".join(words) + "\n")
+        path = os.path.join(folder, name)
+        pages = write(path + ".parquet", columns)
+        write_lines(path + ".words", words)
+        write_lines(path + ".pages", ("%d %d" % page for page in pages))
 
 
 main(sys.argv[1])

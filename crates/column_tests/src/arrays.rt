@@ -500,6 +500,20 @@ fn plain_numbers(rt: HostRuntime) -> Result<(), Fail> {
     Ok(())
 }
 
+#[test]
+fn numbers_by_their_differences(rt: HostRuntime) -> Result<(), Fail> {
+    let alloc = rt.alloc();
+    // The numbers from 1 to 5, of which four are read.
+    let values = [0x80, 1, 4, 5, 2, 2, 0, 0, 0, 0];
+    let chunk = page(alloc, 5, 5, &[], &values)?;
+    let pages = pages_with(alloc, PhysicalType::Int32, Repetition::Required, 5, chunk)?;
+    assert_eq!(rt;
+        numbers_read(alloc, pages)?.as_slice(),
+        [Some(1), Some(2), Some(3), Some(4)].as_slice()
+    );
+    Ok(())
+}
+
 /// What a chunk of INT32 is refused by.
 fn refusal_of(alloc: Global, repetition: Repetition, chunk: Vec<u8>) -> Option<Error> {
     numbers_of(alloc, repetition, chunk).err()

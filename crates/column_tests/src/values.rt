@@ -84,7 +84,7 @@ fn fixed_bytes(rt: HostRuntime) -> Result<(), Fail> {
     let interval = [0, 0, 0, 0, 3, 0, 0, 0, 0xE8, 3, 0, 0];
     assert_eq!(rt; convert_days_ms(&interval), days_ms(3, 1000));
     assert_eq!(rt; convert_year_month(&interval), 0);
-    let mut items = FixedSizeBinary::with_capacity(rt.alloc(), 3, 2)?;
+    let mut items = FixedSizeBinary::with_capacity(rt.alloc(), 4, 2)?;
     items.push(&[1, 2])?;
     items.extend_constant(2)?;
     assert_eq!(rt; items.values(), [1, 2, 0, 0, 0, 0].as_slice());

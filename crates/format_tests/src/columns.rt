@@ -363,7 +363,9 @@ fn chunks_are_arrays_of_one_length(rt: HostRuntime) -> Result<(), Fail> {
             arrays.push(Array::Null(NullArray::new(length)))?;
         }
         match Chunk::try_new(arrays) {
-            Err(e) => assert!(rt; rows.is_none() && e.number() == 1),
+            Err(e) => {
+                assert!(rt; rows.is_none() && e == Error::InvalidArgumentError(Part::Chunk));
+            }
             Ok(chunk) => assert!(rt; rows == Some(chunk.len()) && chunk.arrays().len() == 2),
         }
     }

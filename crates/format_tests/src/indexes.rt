@@ -216,3 +216,16 @@ fn finds_the_columns_of_a_field(rt: HostRuntime) -> Result<(), Fail> {
     assert_eq!(rt; pages.as_slice(), [&10, &30].as_slice());
     Ok(())
 }
+
+#[test]
+fn items_stand_beside_columns(rt: HostRuntime) -> Result<(), Fail> {
+    let alloc = rt.alloc();
+    let mut columns = Vec::new(alloc);
+    columns.push(column(alloc, "a", PhysicalType::Int32, None)?)?;
+    columns.push(column(alloc, "b", PhysicalType::Int32, None)?)?;
+    // The column `a` has an item, and `b` has none.
+    let of_a = get_field_pages(alloc, columns.as_slice(), &[7], "a")?;
+    assert_eq!(rt; of_a.as_slice(), [&7].as_slice());
+    assert!(rt; get_field_pages(alloc, columns.as_slice(), &[7], "b")?.is_empty());
+    Ok(())
+}

@@ -168,6 +168,23 @@ fn check_front(
 }
 
 #[test]
+fn a_sink_that_fails_at_one_call(rt: HostRuntime) -> Result<(), Fail> {
+    let alloc = rt.alloc();
+    let words = words_of(alloc, "x a:Int32 a>=12 a<=18")?;
+    // The text is written in one call.
+    for (call, status, text) in [
+        (1, Status::Writing, b"".as_slice()),
+        (2, Status::Done, F1_ROWS),
+    ] {
+        let mut source = MemorySource::new(Vec::from_slice(alloc, &F1)?);
+        let mut out = FailingSink::new(alloc, 200, vec![in alloc; call]?)?;
+        assert_eq!(rt; run_on(alloc, &words, &mut source, &mut out), status);
+        assert_eq!(rt; out.bytes(), text);
+    }
+    Ok(())
+}
+
+#[test]
 fn writes_that_fail(rt: HostRuntime) -> Result<(), Fail> {
     let alloc = rt.alloc();
     for (rows, line, text) in REQUESTS {
