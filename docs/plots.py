@@ -11,6 +11,9 @@ HERE = os.path.dirname(os.path.abspath(__file__))
 PLOTS = [
     ("decoders", "BENCHMARKS.md", "Decoders", ("bars", "ratio", "time of the proved decoder, in times of the Rust's")),
     ("footers", "BENCHMARKS.md", "Large footers", ("lines", "bytes", [("ms", "proved"), ("Rust ms", "Rust")], "bytes of the footer", "ms")),
+    ("rows", "BENCHMARKS.md", "Time over rows", ("lines", "rows", [
+        ("numbers ms", "numbers, proved"), ("Rust numbers ms", "numbers, Rust"), ("texts ms", "texts, proved"), ("Rust texts ms", "texts, Rust"),
+    ], "rows", "ms")),
     ("scans", "BENCHMARKS.md", "Whole scans", ("bars", "ratio", "processor time of the proved program, in times of the Rust's")),
 ]
 INKS = ["#2f6db3", "#c2703d", "#4b8b3b", "#7a55a3"]
