@@ -1,2 +1,4 @@
 pub mod ColumnPages
 pub mod Columns
+pub mod RowGroup
+pub mod Rows

@@ -3,6 +3,9 @@
 
 mod column_pages;
 mod columns;
+mod row_group;
+mod rows;
 
 pub use column_pages::ColumnPages;
 pub use columns::read_columns;
+pub use row_group::RowGroupDeserializer;

@@ -1,4 +1,4 @@
-use Rattle.std.proofs.Common.{◌≡◌, ◌∙◌, ◌+◌, ◌∷◌, List, Vec, Global, ℕ, Bor, drop, map, rules}
+use Rattle.std.proofs.Common.{◌∙◌, ◌+◌, List, Vec, Global, ℕ, Bor, drop, map, rules}
 use Rattle.std.proofs.lemmas.List.{drop_all, map_push}
 use Rattle.std.proofs.lemmas.Result.{err_from_is_err_and}
 use Rattle.parquet_meta.specs.declared.metadata.ColumnChunkMetaData.{ColumnChunkMetaData}

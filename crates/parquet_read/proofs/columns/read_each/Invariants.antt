@@ -1,6 +1,5 @@
 use Rattle.std.proofs.Common.{◌≡◌, drop, map}
 use Rattle.parquet_meta.specs.Keeps.{Keeps}
-use Rattle.parquet_meta.specs.declared.metadata.ColumnChunkMetaData.{ColumnChunkMetaData}
 use Rattle.parquet_meta.proofs.EachLemmas.{IsReadingEach}
 use Rattle.parquet_read.specs.Columns.{range_length, chunk_of_column}
 use Rattle.parquet_read.proofs.columns.read_each.Given as goal
