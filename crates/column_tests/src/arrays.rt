@@ -1,5 +1,5 @@
 //! Arrays of columns, from the bytes of their chunks.
-ghost use Rattle.std.specs.Prelude.{◌≡◌, ◌<◌, IfOk, length};
+ghost use Rattle.std.specs.Prelude.{◌≡◌, ◌<◌, IfOk};
 ghost use Rattle.page_decoding.specs.Column.{DataPagesAre};
 ghost use Rattle.parquet_meta.specs.declared.metadata.PhysicalType.TheVariants.{Boolean, FixedLenByteArray, Int32};
 ghost use Rattle.parquet_page.specs.Indexed.{indexed_pages};
@@ -7,16 +7,15 @@ ghost use Rattle.parquet_page.specs.Reader.{reader_pages};
 
 use columns_core::{
     BooleanArray, DataType, Error, FixedSizeBinaryArray, IntervalUnit, MutablePrimitiveArray,
-    NativeType, Part, Seq, days_ms,
+    NativeType, Part, days_ms,
 };
 use flat_values::{
     DaysAndMillis, DaysToMillis, Decimals, FixedNumbers, FixedValues, FlatIter, IntoArray, Keep,
     Months, NumberValues, TruthValues, Values, boolean, fixed_size_binary, null, primitive,
 };
+use pages_for_tests::{column, dictionary, page, page_v2};
 use parquet_base::Steps;
-use parquet_meta::{
-    ColumnChunkMetaData, ColumnDescriptor, PageLocation, PhysicalType, PrimitiveType, Repetition,
-};
+use parquet_meta::{PageLocation, PhysicalType, Repetition};
 use parquet_page::{IndexedPageReader, Interval, PageReader, Pages, select_pages};
 use std::alloc::{AllocError, Global};
 use std::iter::Iterator;
@@ -32,96 +31,6 @@ const LONG_LEVELS: [u8; 6] = [2, 0, 0, 0, 0x03, 0x0D];
 
 /// Definition levels of four nulls, behind their length.
 const NO_LEVELS: [u8; 6] = [2, 0, 0, 0, 0x08, 0x00];
-
-/// A data page of the first form: its header of 17 bytes, and its body.
-pub(crate) fn page(
-    alloc: Global,
-    count: u8,
-    encoding: u8,
-    levels: &[u8],
-    values: &[u8],
-) -> Result<Vec<u8>, AllocError>
-    requires count { count < 64 }
-    requires encoding { encoding < 64 }
-    requires levels { length levels.now < 16 }
-    requires values { length values.now < 48 }
-{
-    let size = 2 * (levels.len() + values.len()) as u8;
-    let mut page = Vec::new(alloc);
-    page.extend_from_slice(&[0x15, 0x00, 0x15, size, 0x15, size, 0x2C])?;
-    page.extend_from_slice(&[0x15, 2 * count, 0x15, 2 * encoding])?;
-    page.extend_from_slice(&[0x15, 0x06, 0x15, 0x06, 0x00, 0x00])?;
-    page.extend_from_slice(levels)?;
-    page.extend_from_slice(values)?;
-    Ok(page)
-}
-
-/// A data page of the second form.
-pub(crate) fn page_v2(
-    alloc: Global,
-    count: u8,
-    levels: &[u8],
-    values: &[u8],
-) -> Result<Vec<u8>, AllocError>
-    requires count { count < 64 }
-    requires levels { length levels.now < 16 }
-    requires values { length values.now < 48 }
-{
-    let size = 2 * (levels.len() + values.len()) as u8;
-    let mut page = Vec::new(alloc);
-    page.extend_from_slice(&[0x15, 0x06, 0x15, size, 0x15, size, 0x5C])?;
-    page.extend_from_slice(&[0x15, 2 * count, 0x15, 0x00, 0x15, 2 * count, 0x15, 0x00])?;
-    page.extend_from_slice(&[0x15, 2 * levels.len() as u8, 0x15, 0x00, 0x00, 0x00])?;
-    page.extend_from_slice(levels)?;
-    page.extend_from_slice(values)?;
-    Ok(page)
-}
-
-/// A dictionary page: its header of 13 bytes, and its entries.
-pub(crate) fn dictionary(alloc: Global, count: u8, entries: &[u8]) -> Result<Vec<u8>, AllocError>
-    requires count { count < 64 }
-    requires entries { length entries.now < 64 }
-{
-    let size = 2 * entries.len() as u8;
-    let mut page = Vec::new(alloc);
-    page.extend_from_slice(&[0x15, 0x04, 0x15, size, 0x15, size, 0x4C])?;
-    page.extend_from_slice(&[0x15, 2 * count, 0x15, 0x00, 0x00, 0x00])?;
-    page.extend_from_slice(entries)?;
-    Ok(page)
-}
-
-/// A column of so many values.
-pub(crate) fn column(
-    alloc: Global,
-    physical_type: PhysicalType,
-    repetition: Repetition,
-    num_values: u64,
-) -> ColumnChunkMetaData
-    ensures { result.descriptor.primitive_type.physical_type ≡ physical_type }
-{
-    ColumnChunkMetaData {
-        descriptor: ColumnDescriptor {
-            path_in_schema: Seq::new(Vec::new(alloc)),
-            primitive_type: PrimitiveType {
-                physical_type,
-                logical_type: None,
-                repetition,
-            },
-            flat: true,
-        },
-        codec: 0,
-        num_values,
-        total_compressed_size: 18,
-        data_page_offset: 0,
-        dictionary_page_offset: None,
-        statistics_bytes: None,
-        offset_index: None,
-        column_index: None,
-        column_index_offset: None,
-        foreign: false,
-        encrypted: false,
-    }
-}
 
 /// The pages of a chunk of so many values.
 pub(crate) fn pages_with(

@@ -3,12 +3,12 @@ ghost use Rattle.std.specs.Prelude.{◌≡◌, ◌<◌, true, length, IfOk};
 ghost use Rattle.parquet_page.specs.Lending.{has_data_behind};
 ghost use Rattle.parquet_page.specs.Reader.{reader_pages};
 
-use crate::arrays::{column, dictionary, page};
 use crate::texts::push_cells;
 use binary_values::ByteValues;
 use columns_core::{Boxed, DataType, DictionaryArray, Error, IntegerType, Part};
 use dictionary_values::{StoredKey, binary, fixed_size_binary};
 use flat_values::FixedValues;
+use pages_for_tests::{column, dictionary, page};
 use parquet_meta::{PhysicalType, Repetition};
 use parquet_page::{PageReader, Pages};
 use std::alloc::Global;

@@ -4,8 +4,6 @@
 #[cfg(test)]
 mod arrays;
 #[cfg(test)]
-mod columns;
-#[cfg(test)]
 mod keys;
 #[cfg(test)]
 mod pages;

@@ -4,9 +4,10 @@ ghost use Rattle.page_decoding.specs.Column.{DataPagesAre};
 ghost use Rattle.parquet_meta.specs.declared.metadata.PhysicalType.TheVariants.{ByteArray};
 ghost use Rattle.parquet_page.specs.Reader.{reader_pages};
 
-use crate::arrays::{LEVELS, dictionary, located, located_pages, page, page_v2, pages_with};
+use crate::arrays::{LEVELS, located, located_pages, pages_with};
 use binary_values::binary;
 use columns_core::{Array, Cell, DataType, Error, Part};
+use pages_for_tests::{dictionary, page, page_v2};
 use parquet_meta::{PhysicalType, Repetition};
 use parquet_page::{Interval, PageReader, Pages};
 use std::alloc::Global;

@@ -3,10 +3,10 @@ ghost use Rattle.std.specs.Prelude.{◌≡◌, IfOk};
 ghost use Rattle.parquet_page.specs.Lending.{DataPagesAre};
 ghost use Rattle.parquet_page.specs.Reader.{reader_pages};
 
-use crate::arrays::{column, page};
 use column_arrays::binary::{Delta, FilteredDelta};
 use column_arrays::page_iter_to_arrays;
 use columns_core::{Array, Cell, DataType, Error, Part, TimeUnit};
+use pages_for_tests::{column, page};
 use parquet_meta::{PhysicalType, PrimitiveType, Repetition};
 use parquet_page::{DataPage, DataPageHeader, PageReader, Pages};
 use std::alloc::Global;
