@@ -35,28 +35,22 @@ fn push_cells(alloc: Global, all: &mut Vec<u8>, array: &Array) -> Result<(), Err
     Ok(())
 }
 
-/// A type that has no unit.
-fn stored(physical_type: PhysicalType, repetition: Repetition) -> PrimitiveType
-    ensures { result.physical_type ≡ physical_type }
-{
-    PrimitiveType {
-        physical_type,
-        logical_type: None,
-        repetition,
-    }
-}
-
 /// The first rows of pages, at most four, in arrays of so many rows.
 fn rows_of<I: Pages>(
     alloc: Global,
     pages: I,
-    type_: PrimitiveType,
+    physical_type: PhysicalType,
+    repetition: Repetition,
     data_type: DataType,
     chunk_size: Option<usize>,
 ) -> Result<Vec<u8>, Error>
-    requires { let physical = type_.physical_type in
-        DataPagesAre (λ page. page.type.physical_type ≡ physical) (I.to_come pages) }
+    requires { DataPagesAre (λ page. page.type.physical_type ≡ physical_type) (I.to_come pages) }
 {
+    let type_ = PrimitiveType {
+        physical_type,
+        logical_type: None,
+        repetition,
+    };
     let mut all = Vec::new(alloc);
     for array in page_iter_to_arrays(alloc, pages, &type_, data_type, chunk_size, 4)? {
         push_cells(alloc, &mut all, &array?)?;
@@ -85,8 +79,8 @@ fn rows_in(
     chunk_size: Option<usize>,
 ) -> Result<Vec<u8>, Error> {
     let pages = pages_of(alloc, physical, chunk)?;
-    let type_ = stored(physical, Repetition::Required);
-    rows_of(alloc, pages, type_, data_type, chunk_size)
+    let required = Repetition::Required;
+    rows_of(alloc, pages, physical, required, data_type, chunk_size)
 }
 
 /// Whether the rows of a plain page are these, in one array and in arrays of three rows.
@@ -212,9 +206,10 @@ fn columns_that_are_not_begun(rt: HostRuntime) -> Result<(), Fail> {
     )
     .err();
     assert_eq!(rt; refused, Some(Error::InvalidArgumentError(Part::Request)));
-    let pages = pages_of(alloc, PhysicalType::Boolean, Vec::new(alloc))?;
-    let repeated = stored(PhysicalType::Boolean, Repetition::Repeated);
-    let refused = rows_of(alloc, pages, repeated, DataType::Boolean, None).err();
+    let truths = PhysicalType::Boolean;
+    let pages = pages_of(alloc, truths, Vec::new(alloc))?;
+    let repeated = Repetition::Repeated;
+    let refused = rows_of(alloc, pages, truths, repeated, DataType::Boolean, None).err();
     assert_eq!(rt; refused, Some(Error::NotYetImplemented(Part::Schema)));
     Ok(())
 }
