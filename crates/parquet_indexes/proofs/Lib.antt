@@ -1,7 +1,13 @@
+mod AnswerLemmas
 mod CountLemmas
 mod DecimalLemmas
 mod ErrorLemmas
+mod FieldLemmas
+mod FieldTypeLemmas
 mod FlatTypes
-mod PageMapLemmas
+mod LocationLemmas
+mod MadeLemmas
 mod RowLemmas
 mod SlotLemmas
+mod TellingLemmas
+mod TypedLemmas

@@ -1,3 +1,7 @@
+pub mod Answered
+pub mod Failures
+pub mod FieldStatistics
+pub mod FieldTypes
 pub mod PageMaps
 pub mod PageStatistics
 pub mod Sides

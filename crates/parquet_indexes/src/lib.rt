@@ -3,9 +3,14 @@
 
 pub mod binary;
 pub mod boolean;
+mod columns_indexes;
 mod copied;
 mod counts;
+mod field_types;
+mod fields;
+mod filtered_pages;
 pub mod fixed_len_binary;
+mod locations;
 mod numbers;
 mod page_arrays;
 mod page_maps;
@@ -13,6 +18,8 @@ mod page_statistics;
 mod row_intervals;
 mod told;
 
+pub use columns_indexes::read_columns_indexes;
+pub use filtered_pages::read_filtered_pages;
 pub use numbers::{deserialize_i32, deserialize_i64, deserialize_i96};
 pub use page_maps::{has_indexes, pages_of};
 pub use page_statistics::{ColumnPageStatistics, FieldPageStatistics};

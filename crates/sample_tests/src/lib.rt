@@ -1,7 +1,9 @@
 //! Tests of the sample file: its bytes by their digests, what its footer says, its cells, the most rows that it has, and which of its pages hold
-//! given rows. And of what page indexes tell as arrays.
+//! given rows, also such as a closure chooses. And of what page indexes tell as arrays.
 #![tactic(auto)]
 
+#[cfg(test)]
+mod filtered_pages;
 #[cfg(test)]
 mod page_maps;
 #[cfg(test)]

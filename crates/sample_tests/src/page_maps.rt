@@ -9,7 +9,7 @@ use parquet_page::FilteredPage;
 use parquet_sample::sample_file;
 use std::test::Fail;
 
-fn field(rt: &HostRuntime, name: &str, data_type: DataType) -> Result<Field, Error> {
+pub(crate) fn field(rt: &HostRuntime, name: &str, data_type: DataType) -> Result<Field, Error> {
     Ok(Field {
         name: Name::new(String::from_str(rt.alloc(), name)?),
         data_type,
@@ -36,7 +36,7 @@ fn pages_with(
 }
 
 /// Whether these rows of a page of a field's one column are selected.
-fn are_selected(pages: &[Vec<FilteredPage>], place: usize, rows: &[Interval]) -> bool {
+pub(crate) fn are_selected(pages: &[Vec<FilteredPage>], place: usize, rows: &[Interval]) -> bool {
     match pages {
         [column] => match column.get(place) {
             Some(page) => page.selected_rows.as_slice() == rows,
@@ -46,7 +46,7 @@ fn are_selected(pages: &[Vec<FilteredPage>], place: usize, rows: &[Interval]) ->
     }
 }
 
-fn number_of_pages(pages: &[Vec<FilteredPage>]) -> usize {
+pub(crate) fn number_of_pages(pages: &[Vec<FilteredPage>]) -> usize {
     match pages.first() {
         Some(column) => column.len(),
         None => 0,

@@ -32,7 +32,7 @@ fn bytes(rt: &HostRuntime, text: &str) -> Result<Seq<u8>, Error> {
     Ok(Seq::new(Vec::from_slice(rt.alloc(), text.as_bytes())?))
 }
 
-fn has_cells(rt: &HostRuntime, array: &Array, cells: &[Cell]) -> bool {
+pub(crate) fn has_cells(rt: &HostRuntime, array: &Array, cells: &[Cell]) -> bool {
     if array.len() != cells.len() {
         return false;
     }
@@ -47,7 +47,7 @@ fn has_cells(rt: &HostRuntime, array: &Array, cells: &[Cell]) -> bool {
     true
 }
 
-fn has_counts(array: &PrimitiveArray<u64>, counts: &[Option<u64>]) -> bool {
+pub(crate) fn has_counts(array: &PrimitiveArray<u64>, counts: &[Option<u64>]) -> bool {
     if array.len() != counts.len() {
         return false;
     }

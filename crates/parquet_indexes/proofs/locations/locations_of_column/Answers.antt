@@ -1,15 +1,12 @@
 use Rattle.std.proofs.Common.{◌≡◌, List, Some, [], ◌∷◌, map, subst, arith, Vec, Global}
-use Rattle.std.specs.Prelude.{IfErr, IfSome, Err}
+use Rattle.std.specs.Prelude.{IfSome, Err}
 use Rattle.std.proofs.lemmas.Result.{err_from_is_err_and}
-use Rattle.columns_core.specs.Refusals.{Refuses}
 use Rattle.parquet_meta.specs.Indexes.{locations_of}
 use Rattle.parquet_meta.specs.Lists.{all_of}
 use Rattle.parquet_meta.specs.Source.{Finds}
 use Rattle.parquet_meta.specs.declared.metadata.PageLocation.{PageLocation}
-use Rattle.parquet_page.specs.Locations.{selected_pages}
-use Rattle.parquet_page.specs.declared.page.FilteredPage.{FilteredPage}
-use Rattle.parquet_indexes.proofs.PageMapLemmas.{index_refused, none_there, pages_found, some_list}
-use Rattle.parquet_indexes.proofs.page_maps.pages_of_column.Goals as goal
+use Rattle.parquet_indexes.proofs.LocationLemmas.{none_there, one_list, one_refused, some_list}
+use Rattle.parquet_indexes.proofs.locations.locations_of_column.Goals as goal
 
 pub returns-in_err-lists-clause-found : goal.returns-in_err-lists-clause-found
 returns-in_err-lists-clause-found g c =
@@ -18,8 +15,8 @@ returns-in_err-lists-clause-found g c =
     let start = g.S.Source.faults c.args.source.now in
     let now = g.S.Source.faults c.read_pages_locations.new.source in
     let view : Vec (Vec PageLocation Global) Global → List (List PageLocation) = λ lists. map {A = Vec PageLocation Global} {B = List PageLocation} (λ list. list.items) lists.items in
-    let views : Vec FilteredPage Global → List FilteredPage = λ list. list.items in
-    rw (p.1, p.2) (index_refused c.args.row_group.now c.args.intervals.now c.args.column.now view views told start now c.in_err-lists.field-0.0
+    let views : Vec PageLocation Global → List PageLocation = λ list. list.items in
+    rw (p.1, p.2) (one_refused c.args.column.now view views told start now c.in_err-lists.field-0.0
     (subst (λ columns. Finds view (λ file. all_of (locations_of file) columns) told start now (Err c.in_err-lists.field-0.0)) c.from_ref.ensures.value c.in_err-lists.ensures.found))
 
 pub returns-in_default-clause-found : goal.returns-in_default-clause-found
@@ -27,17 +24,12 @@ returns-in_default-clause-found g c =
     let told = g.S.Source.told c.args.source.now in
     let list : Vec PageLocation Global → List PageLocation = λ list. list.items in
     let found = subst (λ columns. IfSome told (λ file. all_of (locations_of file) columns ≡ Some (map list c.in_ok-lists.lists.items))) c.from_ref.ensures.value c.in_ok-lists.ensures.found in
-    some_list c.args.row_group.now c.args.intervals.now c.args.column.now list told c.in_ok-lists.lists.items (none_there c.in_ok-lists.lists.items (omega (arith, c.in_default.ensures.cases.0))) found
+    some_list c.args.column.now list told c.in_ok-lists.lists.items (none_there c.in_ok-lists.lists.items (omega (arith, c.in_default.ensures.cases.0))) found
 
 pub returns-clause-found : goal.returns-clause-found
 returns-clause-found g c =
     let told = g.S.Source.told c.args.source.now in
-    let start = g.S.Source.faults c.args.source.now in
-    let now = g.S.Source.faults c.read_pages_locations.new.source in
     let list : Vec PageLocation Global → List PageLocation = λ list. list.items in
-    let view : Vec FilteredPage Global → List FilteredPage = λ pages. pages.items in
     let found = subst (λ columns. IfSome told (λ file. all_of (locations_of file) columns ≡ Some (map list c.in_ok-lists.lists.items))) c.from_ref.ensures.value c.in_ok-lists.ensures.found in
-    let one = subst (λ lists. IfSome told (λ file. all_of (locations_of file) (c.args.column.now ∷ []) ≡ Some (map list lists))) c.in-Some.ensures.items found in
-    pages_found c.args.row_group.now c.args.intervals.now c.args.column.now list view told start now c.pop.new.self.items c.in-Some.locations c.deref.result.now c.select_pages.result c.deref.ensures.value one
-    c.select_pages.ensures.pages
-    (subst (λ shaped. IfErr c.select_pages.result (Refuses shaped (selected_pages c.args.intervals.now c.deref.result.now c.args.row_group.now.num_rows))) c.requires.shaped c.select_pages.ensures.refusal)
+    one_list c.args.column.now list told c.pop.new.self.items c.in-Some.locations
+    (subst (λ lists. IfSome told (λ file. all_of (locations_of file) (c.args.column.now ∷ []) ≡ Some (map list lists))) c.in-Some.ensures.items found)
