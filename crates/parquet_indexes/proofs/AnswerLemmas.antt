@@ -14,7 +14,7 @@ use Rattle.parquet_meta.specs.Source.{Finds}
 use Rattle.parquet_meta.specs.declared.metadata.PageLocation.{PageLocation}
 use Rattle.parquet_meta.specs.declared.metadata.RowGroupMetaData.{RowGroupMetaData}
 use Rattle.parquet_page.specs.declared.page.FilteredPage.{FilteredPage}
-use Rattle.parquet_indexes.specs.Answered.{Answer, AnswersAt, AreAsked, AreChosen, IsAnswer, Question, RefusesToChoose, RowsOfPages, SelectNothing, causes_of_question}
+use Rattle.parquet_indexes.specs.Answered.{AnswersAt, AreChosen, AreShown, ChosenRows, IsAnswer, Question, RefusesToChoose, RowsOfPages, SelectNothing, causes_of_question}
 use Rattle.parquet_indexes.specs.Failures.{IsReadFailure}
 use Rattle.parquet_indexes.specs.FieldStatistics.{AreOfFields, causes_of_fields}
 use Rattle.parquet_indexes.specs.PageMaps.{InFields, field_maps, in_fields, locations_of_fields, pages_at_places, rows_at_places, rows_of_fields}
@@ -92,19 +92,21 @@ module _ (group : RowGroupMetaData) (fields : List Field) where
   none_wrong None places rows none is are = tt
   none_wrong (Some file) places rows none is are = λ i. none i ++ unless (is_some (rows_are file places rows is are i)) ExternalFormat
 
-  module _ {F : Type 0} (g : Shared F Question Answer) (f : F) (told : Option (List ℕ)) (statistics : List FieldPageStatistics) (places : InFields PageLocation) (told_of : IfSome told (λ file. AreOfFields file group.columns fields statistics))
-      (is : IfSome told (λ file. Found file ≡ Some places)) where
-    asked : (told : Option (List ℕ)) (rows : RowsOfPages) → IfSome told (λ file. AreOfFields file group.columns fields statistics) → IfSome told (λ file. Found file ≡ Some places)
-        → rows_at_places group.num_rows places ≡ Some (in_fields rows) → IfSome told (λ file. AreAsked group fields file statistics rows)
-    asked None rows of is are = tt
-    asked (Some file) rows of is are = record { statistics_told = of; rows_told = rows_are file places (in_fields rows) is are }
+  module _ {F : Type 0} (g : Shared F Question ChosenRows) (f : F) (told : Option (List ℕ)) (statistics : List FieldPageStatistics) (places : InFields PageLocation) (told_of : IfSome told (λ file. AreOfFields file group.columns fields statistics))
+      (none : IfSome told (λ file. causes_of_fields group.columns fields file ≡ [])) (is : IfSome told (λ file. Found file ≡ Some places)) where
+    asked : (told : Option (List ℕ)) (rows : RowsOfPages) → IfSome told (λ file. AreOfFields file group.columns fields statistics)
+        → IfSome told (λ file. causes_of_fields group.columns fields file ≡ []) → IfSome told (λ file. Found file ≡ Some places)
+        → rows_at_places group.num_rows places ≡ Some (in_fields rows) → IfSome told (λ file. AreShown group fields file statistics rows)
+    asked None rows of none is are = tt
+    asked (Some file) rows of none is are =
+        record { statistics_told = of; rows_told = rows_are file places (in_fields rows) is are; clean = none_wrong (Some file) places (in_fields rows) none is are }
 
     module _ (rows : RowsOfPages) (are : rows_at_places group.num_rows places ≡ Some (in_fields rows)) where
-      pub answered : (answer : Answer) → AnswersAt g f statistics rows answer → IsAnswer g f group fields told answer
+      pub answered : (answer : ChosenRows) → AnswersAt g f statistics rows answer → IsAnswer g f group fields told answer
       answered answer at = record {
         statistics = statistics;
         rows = rows;
-        asked = asked told rows told_of is are;
+        asked = asked told rows told_of none is are;
         says = at;
       }
 

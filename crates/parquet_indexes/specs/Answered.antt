@@ -1,5 +1,5 @@
 -- A closure that chooses the rows of a group by what its indexes tell of the pages of fields.
-use Rattle.std.specs.Prelude.{◌≡◌, ◌⊎◌, ℕ, true, false, List, ◌++◌, is_some, Option, Some, None, IfSome, Result, Ok, Err, Vec}
+use Rattle.std.specs.Prelude.{◌≡◌, ◌⊎◌, ℕ, true, false, List, [], ◌++◌, is_some, Option, Some, None, IfSome, Result, Ok, Err, Vec}
 use Rattle.std.specs.Borrow.{Bor}
 use Rattle.std.specs.Fn.{Shared, FnReturns}
 use Rattle.std.specs.declared.alloc.Global.{Global}
@@ -32,24 +32,25 @@ abbrev pub Question : Type 0
 Question = Bor (List FieldPageStatistics) × (Bor RowsOfPages × Unit {0})
 
 -- intervals of a group's rows, or an error
-abbrev pub Answer : Type 0
-Answer = Result (Vec Interval Global) Error
+abbrev pub ChosenRows : Type 0
+ChosenRows = Result (Vec Interval Global) Error
 
 -- What is wrong with the indexes that tell what the closure is asked on: the column indexes, and the rows of the offset indexes.
 abbrev pub causes_of_question : RowGroupMetaData → List Field → List ℕ → List Cause
 causes_of_question group fields file = causes_of_fields group.columns fields file ++ unless (is_some (rows_of_fields group fields file)) ExternalFormat
 
--- It is asked on the statistics of each field, and on the rows of the pages of each column of each field.
-pub record AreAsked (group : RowGroupMetaData) (fields : List Field) (file : List ℕ) (statistics : List FieldPageStatistics) (rows : RowsOfPages) : Type 0 where
+-- The closure is shown the statistics of each field, and the rows of the pages of each column of each field, of indexes with which nothing is wrong.
+pub record AreShown (group : RowGroupMetaData) (fields : List Field) (file : List ℕ) (statistics : List FieldPageStatistics) (rows : RowsOfPages) : Type 0 where
   pub statistics_told : AreOfFields file group.columns fields statistics
   pub rows_told : rows_of_fields group fields file ≡ Some (in_fields rows)
+  pub clean : causes_of_question group fields file ≡ []
 
-module _ {F : Type 0} (g : Shared F Question Answer) (f : F) (group : RowGroupMetaData) (fields : List Field) (told : Option (List ℕ)) where
+module _ {F : Type 0} (g : Shared F Question ChosenRows) (f : F) (group : RowGroupMetaData) (fields : List Field) (told : Option (List ℕ)) where
   -- The closure may answer this, asked on what the file tells.
-  pub record IsAnswer (answer : Answer) : Type 0 where
+  pub record IsAnswer (answer : ChosenRows) : Type 0 where
     pub statistics : List FieldPageStatistics
     pub rows : RowsOfPages
-    pub asked : IfSome told (λ file. AreAsked group fields file statistics rows)
+    pub asked : IfSome told (λ file. AreShown group fields file statistics rows)
     pub says : AnswersAt g f statistics rows answer
 
   -- The maps are what the intervals of an answer select in each column of each field.

@@ -75,6 +75,7 @@ returns-in_err-answer-clause-fails g c = λ all.
     let places = view c.in_ok-locations.locations in
     let slice = c.as_slice-columns.ensures in
     let of : IfSome told (λ file. AreOfFields file group.columns fields statistics) = subst (λ columns. IfSome told (λ file. AreOfFields file columns fields statistics)) slice c.in_ok-statistics.ensures.told in
+    let none : IfSome told (λ file. causes_of_fields group.columns fields file ≡ []) = subst (λ columns. IfSome told (λ file. causes_of_fields columns fields file ≡ [])) slice c.in_ok-statistics.ensures.ok in
     let is : IfSome told (λ file. locations_of_fields group.columns fields file ≡ Some places) = subst (λ (o : Option (List ℕ)). IfSome o (λ file. locations_of_fields group.columns fields file ≡ Some places)) c.in_ok-statistics.ensures.keeps.same
     (subst (λ columns. IfSome here (λ file. locations_of_fields columns fields file ≡ Some places)) slice c.in_ok-locations.ensures.found) in
     let are : rows_at_places group.num_rows places ≡ Some (in_fields c.in_ok-rows.rows.items) = subst (λ (lists : List (Vec (Vec PageLocation Global) Global)). rows_at_places group.num_rows (in_fields lists) ≡ Some (in_fields c.in_ok-rows.rows.items)) c.deref.ensures.value c.in_ok-rows.ensures.rows in
@@ -82,7 +83,7 @@ returns-in_err-answer-clause-fails g c = λ all.
     let at : AnswersAt g.F.Fn c.args.predicate statistics c.in_ok-rows.rows.items (Err e) = subst (λ (list : List FieldPageStatistics). AnswersAt g.F.Fn c.args.predicate list c.in_ok-rows.rows.items (Err e)) c.deref-2.ensures.value
     (subst (λ (rows : RowsOfPages). AnswersAt g.F.Fn c.args.predicate c.deref-2.result.now rows (Err e)) c.deref-3.ensures.value
     (subst (λ answer. AnswersAt g.F.Fn c.args.predicate c.deref-2.result.now c.deref-3.result.now answer) c.in_err-answer.was c.ask.ensures)) in
-    rw (p.1, p.2) (passed_on group fields g.F.Fn c.args.predicate told statistics places of is c.in_ok-rows.rows.items are before now e at)
+    rw (p.1, p.2) (passed_on group fields g.F.Fn c.args.predicate told statistics places of none is c.in_ok-rows.rows.items are before now e at)
 
 pub returns-then-not-is_well_shaped-clause-fails : goal.returns-then-not-is_well_shaped-clause-fails
 returns-then-not-is_well_shaped-clause-fails g c = λ all.
@@ -96,13 +97,14 @@ returns-then-not-is_well_shaped-clause-fails g c = λ all.
     let places = view c.in_ok-locations.locations in
     let slice = c.as_slice-columns.ensures in
     let of : IfSome told (λ file. AreOfFields file group.columns fields statistics) = subst (λ columns. IfSome told (λ file. AreOfFields file columns fields statistics)) slice c.in_ok-statistics.ensures.told in
+    let none : IfSome told (λ file. causes_of_fields group.columns fields file ≡ []) = subst (λ columns. IfSome told (λ file. causes_of_fields columns fields file ≡ [])) slice c.in_ok-statistics.ensures.ok in
     let is : IfSome told (λ file. locations_of_fields group.columns fields file ≡ Some places) = subst (λ (o : Option (List ℕ)). IfSome o (λ file. locations_of_fields group.columns fields file ≡ Some places)) c.in_ok-statistics.ensures.keeps.same
     (subst (λ columns. IfSome here (λ file. locations_of_fields columns fields file ≡ Some places)) slice c.in_ok-locations.ensures.found) in
     let are : rows_at_places group.num_rows places ≡ Some (in_fields c.in_ok-rows.rows.items) = subst (λ (lists : List (Vec (Vec PageLocation Global) Global)). rows_at_places group.num_rows (in_fields lists) ≡ Some (in_fields c.in_ok-rows.rows.items)) c.deref.ensures.value c.in_ok-rows.ensures.rows in
     let at : AnswersAt g.F.Fn c.args.predicate statistics c.in_ok-rows.rows.items (Ok c.in_ok-answer.answer) = subst (λ (list : List FieldPageStatistics). AnswersAt g.F.Fn c.args.predicate list c.in_ok-rows.rows.items (Ok c.in_ok-answer.answer)) c.deref-2.ensures.value
     (subst (λ (rows : RowsOfPages). AnswersAt g.F.Fn c.args.predicate c.deref-2.result.now rows (Ok c.in_ok-answer.answer)) c.deref-3.ensures.value
     (subst (λ answer. AnswersAt g.F.Fn c.args.predicate c.deref-2.result.now c.deref-3.result.now answer) c.in_ok-answer.was c.ask.ensures)) in
-    ill_shaped group fields g.F.Fn c.args.predicate told statistics places of is c.in_ok-rows.rows.items are c.in_ok-answer.answer at before now _
+    ill_shaped group fields g.F.Fn c.args.predicate told statistics places of none is c.in_ok-rows.rows.items are c.in_ok-answer.answer at before now _
     (ap (λ (intervals : List Interval). is_well_shaped intervals group.num_rows) (sym c.deref-4.ensures.value) ∙ sym c.is_well_shaped.ensures ∙ c.if-not-is_well_shaped.true) refl
 
 pub returns-clause-chosen : goal.returns-clause-chosen
@@ -117,6 +119,7 @@ returns-clause-chosen g c =
     let places = view c.in_ok-locations.locations in
     let slice = c.as_slice-columns.ensures in
     let of : IfSome told (λ file. AreOfFields file group.columns fields statistics) = subst (λ columns. IfSome told (λ file. AreOfFields file columns fields statistics)) slice c.in_ok-statistics.ensures.told in
+    let none : IfSome told (λ file. causes_of_fields group.columns fields file ≡ []) = subst (λ columns. IfSome told (λ file. causes_of_fields columns fields file ≡ [])) slice c.in_ok-statistics.ensures.ok in
     let is : IfSome told (λ file. locations_of_fields group.columns fields file ≡ Some places) = subst (λ (o : Option (List ℕ)). IfSome o (λ file. locations_of_fields group.columns fields file ≡ Some places)) c.in_ok-statistics.ensures.keeps.same
     (subst (λ columns. IfSome here (λ file. locations_of_fields columns fields file ≡ Some places)) slice c.in_ok-locations.ensures.found) in
     let are : rows_at_places group.num_rows places ≡ Some (in_fields c.in_ok-rows.rows.items) = subst (λ (lists : List (Vec (Vec PageLocation Global) Global)). rows_at_places group.num_rows (in_fields lists) ≡ Some (in_fields c.in_ok-rows.rows.items)) c.deref.ensures.value c.in_ok-rows.ensures.rows in
@@ -125,7 +128,7 @@ returns-clause-chosen g c =
     (subst (λ answer. AnswersAt g.F.Fn c.args.predicate c.deref-2.result.now c.deref-3.result.now answer) c.in_ok-answer.was c.ask.ensures)) in
     let shaped : is_well_shaped c.in_ok-answer.answer.items group.num_rows ≡ true = ap (λ (intervals : List Interval). is_well_shaped intervals group.num_rows) (sym c.deref-4.ensures.value) ∙ sym c.is_well_shaped.ensures ∙ c.if-not-is_well_shaped.false in
     IfOk-weaker c.select_of_fields.result _ _
-    (λ maps selected. chosen group fields g.F.Fn c.args.predicate told statistics places of is c.in_ok-rows.rows.items are c.in_ok-answer.answer at (in_fields maps.items) shaped
+    (λ maps selected. chosen group fields g.F.Fn c.args.predicate told statistics places of none is c.in_ok-rows.rows.items are c.in_ok-answer.answer at (in_fields maps.items) shaped
     (subst (λ (intervals : List Interval). pages_at_places intervals group.num_rows places ≡ Some (in_fields maps.items)) c.deref-5.ensures.value
     (subst (λ (lists : List (Vec (Vec PageLocation Global) Global)). pages_at_places c.deref-5.result.now group.num_rows (in_fields lists) ≡ Some (in_fields maps.items)) c.deref-6.ensures.value selected)))
     c.select_of_fields.ensures.maps
@@ -142,6 +145,7 @@ returns-clause-fails g c = λ all.
     let places = view c.in_ok-locations.locations in
     let slice = c.as_slice-columns.ensures in
     let of : IfSome told (λ file. AreOfFields file group.columns fields statistics) = subst (λ columns. IfSome told (λ file. AreOfFields file columns fields statistics)) slice c.in_ok-statistics.ensures.told in
+    let none : IfSome told (λ file. causes_of_fields group.columns fields file ≡ []) = subst (λ columns. IfSome told (λ file. causes_of_fields columns fields file ≡ [])) slice c.in_ok-statistics.ensures.ok in
     let is : IfSome told (λ file. locations_of_fields group.columns fields file ≡ Some places) = subst (λ (o : Option (List ℕ)). IfSome o (λ file. locations_of_fields group.columns fields file ≡ Some places)) c.in_ok-statistics.ensures.keeps.same
     (subst (λ columns. IfSome here (λ file. locations_of_fields columns fields file ≡ Some places)) slice c.in_ok-locations.ensures.found) in
     let are : rows_at_places group.num_rows places ≡ Some (in_fields c.in_ok-rows.rows.items) = subst (λ (lists : List (Vec (Vec PageLocation Global) Global)). rows_at_places group.num_rows (in_fields lists) ≡ Some (in_fields c.in_ok-rows.rows.items)) c.deref.ensures.value c.in_ok-rows.ensures.rows in
@@ -150,7 +154,7 @@ returns-clause-fails g c = λ all.
     (subst (λ answer. AnswersAt g.F.Fn c.args.predicate c.deref-2.result.now c.deref-3.result.now answer) c.in_ok-answer.was c.ask.ensures)) in
     let shaped : is_well_shaped c.in_ok-answer.answer.items group.num_rows ≡ true = ap (λ (intervals : List Interval). is_well_shaped intervals group.num_rows) (sym c.deref-4.ensures.value) ∙ sym c.is_well_shaped.ensures ∙ c.if-not-is_well_shaped.false in
     IfErr-weaker c.select_of_fields.result _ _
-    (λ e damaged. not_selected group fields g.F.Fn c.args.predicate told statistics places of is c.in_ok-rows.rows.items are c.in_ok-answer.answer at before now e shaped
+    (λ e damaged. not_selected group fields g.F.Fn c.args.predicate told statistics places of none is c.in_ok-rows.rows.items are c.in_ok-answer.answer at before now e shaped
     (subst (λ (intervals : List Interval). IsDamaged (pages_at_places intervals group.num_rows places) e) c.deref-5.ensures.value
     (subst (λ (lists : List (Vec (Vec PageLocation Global) Global)). IsDamaged (pages_at_places c.deref-5.result.now group.num_rows (in_fields lists)) e) c.deref-6.ensures.value damaged)))
     c.select_of_fields.ensures.refusal
@@ -167,8 +171,8 @@ returns-clause-ok g c =
     let places = view c.in_ok-locations.locations in
     let slice = c.as_slice-columns.ensures in
     let of : IfSome told (λ file. AreOfFields file group.columns fields statistics) = subst (λ columns. IfSome told (λ file. AreOfFields file columns fields statistics)) slice c.in_ok-statistics.ensures.told in
+    let none : IfSome told (λ file. causes_of_fields group.columns fields file ≡ []) = subst (λ columns. IfSome told (λ file. causes_of_fields columns fields file ≡ [])) slice c.in_ok-statistics.ensures.ok in
     let is : IfSome told (λ file. locations_of_fields group.columns fields file ≡ Some places) = subst (λ (o : Option (List ℕ)). IfSome o (λ file. locations_of_fields group.columns fields file ≡ Some places)) c.in_ok-statistics.ensures.keeps.same
     (subst (λ columns. IfSome here (λ file. locations_of_fields columns fields file ≡ Some places)) slice c.in_ok-locations.ensures.found) in
     let are : rows_at_places group.num_rows places ≡ Some (in_fields c.in_ok-rows.rows.items) = subst (λ (lists : List (Vec (Vec PageLocation Global) Global)). rows_at_places group.num_rows (in_fields lists) ≡ Some (in_fields c.in_ok-rows.rows.items)) c.deref.ensures.value c.in_ok-rows.ensures.rows in
-    IfOk-weaker c.select_of_fields.result (λ _. Unit {0}) _ (λ maps done. none_wrong group fields told places (in_fields c.in_ok-rows.rows.items)
-    (subst (λ columns. IfSome told (λ file. causes_of_fields columns fields file ≡ [])) slice c.in_ok-statistics.ensures.ok) is are) (IfOk-weaker c.select_of_fields.result _ _ (λ maps selected. tt) c.select_of_fields.ensures.maps)
+    IfOk-weaker c.select_of_fields.result (λ _. Unit {0}) _ (λ maps done. none_wrong group fields told places (in_fields c.in_ok-rows.rows.items) none is are) (IfOk-weaker c.select_of_fields.result _ _ (λ maps selected. tt) c.select_of_fields.ensures.maps)
