@@ -1,2 +1,5 @@
 pub mod AskLemmas
+pub mod ChunkLemmas
+pub mod FieldLemmas
 pub mod GroupLemmas
+pub mod OpenLemmas

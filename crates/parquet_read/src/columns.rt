@@ -6,6 +6,7 @@ ghost use Rattle.columns_core.specs.Causes.{IsWantOfMemory, NotYetImplemented, c
 ghost use Rattle.parquet_meta.specs.Indexes.{field_columns};
 ghost use Rattle.parquet_meta.specs.Keeps.{Keeps};
 ghost use Rattle.parquet_meta.specs.Lists.{all_of};
+ghost use Rattle.parquet_meta.specs.Places.{part_at};
 ghost use Rattle.parquet_meta.specs.Source.{Finds};
 ghost use Rattle.parquet_read.specs.Columns as spec;
 
@@ -90,6 +91,20 @@ fn read_chunk<'a, S: Source>(
     ensures taken { S.taken source.new ≤ S.taken source.old + spec.range_length column.now }
 {
     let (offset, length) = column.byte_range();
-    let bytes = read_exact_at(alloc, source, Place { offset, length })?;
+    let bytes = read_range(alloc, source, Place { offset, length })?;
     Ok((column, bytes))
+}
+
+/// The bytes of the range that the metadata tells of a chunk.
+fn read_range<S: Source>(alloc: Global, source: &mut S, range: Place) -> Result<Vec<u8>, Error>
+    ensures keeps { Keeps S.Source source.old source.new }
+    ensures quiet { OnOk result (S.faults source.new ≡ S.faults source.old) }
+    ensures part { Finds (λ bytes. bytes.items) (λ file. part_at file range)
+        (S.told source.old) (S.faults source.old) (S.faults source.new) result }
+    ensures taken { S.taken source.new ≤ S.taken source.old + range.length }
+{
+    match read_exact_at(alloc, source, range) {
+        Err(Error::ExternalFormat(_)) => Err(Error::ExternalFormat(Part::Group)),
+        found => found,
+    }
 }
