@@ -1,5 +1,5 @@
 //! Arrays of columns, from the bytes of their chunks.
-ghost use Rattle.std.specs.Prelude.{◌≡◌, ◌<◌, IfOk};
+ghost use Rattle.std.specs.Prelude.{◌≡◌, ◌<◌, IfOk, length};
 ghost use Rattle.page_decoding.specs.Column.{DataPagesAre};
 ghost use Rattle.parquet_meta.specs.declared.metadata.PhysicalType.TheVariants.{Boolean, FixedLenByteArray, Int32};
 ghost use Rattle.parquet_page.specs.Indexed.{indexed_pages};
