@@ -29,10 +29,12 @@ pub enum BytePlace {
 
 /// Before the first of so many byte strings, each behind its length.
 pub(crate) fn open_plain(bytes: &[u8], count: usize, part: Part) -> Result<PlainBytes, Error>
-    ensures values { IfOk result (λ place. plain_bytes bytes.now count ≡ Some (map (bytes_in bytes.now) (plain_places place bytes.now))) }
+    ensures values { IfOk result (λ place.
+        plain_bytes bytes.now count ≡ Some (map (bytes_in bytes.now) (plain_places place bytes.now))) }
     ensures spelled { IfOk result (λ place. IsSome (strings_left place bytes.now)) }
     ensures counted { IfOk result (λ place. length (plain_places place bytes.now) ≡ count) }
-    ensures refused { IfErr result (λ e. (cause_of e ≡ Some ExternalFormat) × (plain_bytes bytes.now count ≡ None)) }
+    ensures refused { IfErr result
+        (λ e. (cause_of e ≡ Some ExternalFormat) × (plain_bytes bytes.now count ≡ None)) }
 {
     match PlainBytes::try_new(bytes, count) {
         Ok(place) => Ok(place),
@@ -42,9 +44,11 @@ pub(crate) fn open_plain(bytes: &[u8], count: usize, part: Part) -> Result<Plain
 
 /// Before the first of so many byte strings, joined behind their lengths.
 pub(crate) fn open_lengths(bytes: &[u8], count: usize) -> Result<DeltaLength, Error>
-    ensures values { IfOk result (λ place. delta_length bytes.now count ≡ Some (map (bytes_in bytes.now) (joined_values place bytes.now))) }
+    ensures values { IfOk result (λ place.
+        delta_length bytes.now count ≡ Some (map (bytes_in bytes.now) (joined_values place bytes.now))) }
     ensures spelled { IfOk result (λ place. IsSome (joined_left place bytes.now)) }
-    ensures refused { IfErr result (λ e. (cause_of e ≡ Some ExternalFormat) × (delta_length bytes.now count ≡ None)) }
+    ensures refused { IfErr result
+        (λ e. (cause_of e ≡ Some ExternalFormat) × (delta_length bytes.now count ≡ None)) }
 {
     match DeltaLength::try_new(bytes, count) {
         Ok(place) => Ok(place),
@@ -65,14 +69,17 @@ pub(crate) fn take_values<O: Offset>(
     requires own_dict { IfSome (option_copied dict) (AreJudged is_text) }
     requires fits { sum_by length strings.old ≤ O.greatest }
     requires judged { AreJudged is_text strings.old }
-    ensures added { let values = byte_left is_text (byte_entries is_text (option_copied dict.entry)) bytes.now place in
+    ensures added { let values = byte_left is_text
+        (byte_entries is_text (option_copied dict.entry)) bytes.now place in
         OnOk result (Adds (byte_cell is_text) strings.old strings.new (take count values)) }
-    ensures rest { let values = byte_left is_text (byte_entries is_text (option_copied dict.entry)) bytes.now in
+    ensures rest { let values = byte_left is_text
+        (byte_entries is_text (option_copied dict.entry)) bytes.now in
         IfOk result (λ new. values new ≡ drop count (values place)) }
     ensures among { IfOk result (IsAmongBytes bytes.now) }
     ensures fits { OnOk result (sum_by length strings.new ≤ O.greatest) }
     ensures judged { OnOk result (AreJudged is_text strings.new) }
-    ensures cause { let values = byte_left is_text (byte_entries is_text (option_copied dict.entry)) bytes.now place in
+    ensures cause { let values = byte_left is_text
+        (byte_entries is_text (option_copied dict.entry)) bytes.now place in
         IfErr result (IsCausedByBytes O.greatest strings.old (take count values)) }
 {
     match place {

@@ -65,7 +65,8 @@ fn byte_column<O: Offset>(
     requires typed { IsTrue (is_binary O.is_large data_type) }
     requires fit { FitTogether offsets values.items validity }
     ensures typed { IfOk result (λ column. column_type column ≡ data_type) }
-    ensures cells { IfOk result (λ column. column_cells column ≡ map (cell_of Bytes) (strings offsets values.items validity)) }
+    ensures cells { IfOk result (λ column.
+        column_cells column ≡ map (cell_of Bytes) (strings offsets values.items validity)) }
     ensures memory { IfErr result IsWantOfMemory }
 {
     let array = BinaryArray::try_new(data_type, offsets, values, validity)?;

@@ -28,12 +28,15 @@ fn extend_named<O: Offset>(
     keys: &[u32],
 ) -> Result<(), Error>
     requires { sum_by length strings.old ≤ O.greatest }
-    ensures added { let rows = map (entry_outcome (byte_entries false (option_copied entries.entry))) keys.now in
+    ensures added { let rows = map
+        (entry_outcome (byte_entries false (option_copied entries.entry))) keys.now in
         OnOk result (Adds Bytes strings.old strings.new rows) }
     ensures fits { OnOk result (sum_by length strings.new ≤ O.greatest) }
-    ensures texts { let texts = All IsUtf8 strings.old → IfSome (option_copied entries.entry) (All IsUtf8) → All IsUtf8 strings.new in
+    ensures texts { let texts = All IsUtf8 strings.old → IfSome (option_copied entries.entry) (All IsUtf8)
+        → All IsUtf8 strings.new in
         OnOk result texts }
-    ensures cause { let rows = map (entry_outcome (byte_entries false (option_copied entries.entry))) keys.now in
+    ensures cause { let rows = map
+        (entry_outcome (byte_entries false (option_copied entries.entry))) keys.now in
         IfErr result (IsCausedByBytes O.greatest strings.old rows) }
 {
     for key in keys {
@@ -55,14 +58,17 @@ pub(crate) fn take_named<O: Offset>(
 ) -> Result<KeyPlace, Error>
     requires among { IsAmongKeys bytes.now place }
     requires fits { sum_by length strings.old ≤ O.greatest }
-    ensures added { let rows = map (entry_outcome (byte_entries false (option_copied entries.entry))) (keys place bytes.now) in
+    ensures added { let rows = map (entry_outcome (byte_entries false (option_copied entries.entry)))
+        (keys place bytes.now) in
         OnOk result (Adds Bytes strings.old strings.new (take count rows)) }
     ensures rest { IfOk result (λ new. keys new bytes.now ≡ drop count (keys place bytes.now)) }
     ensures among { IfOk result (IsAmongKeys bytes.now) }
     ensures fits { OnOk result (sum_by length strings.new ≤ O.greatest) }
-    ensures texts { let texts = All IsUtf8 strings.old → IfSome (option_copied entries.entry) (All IsUtf8) → All IsUtf8 strings.new in
+    ensures texts { let texts = All IsUtf8 strings.old → IfSome (option_copied entries.entry) (All IsUtf8)
+        → All IsUtf8 strings.new in
         OnOk result texts }
-    ensures cause { let rows = map (entry_outcome (byte_entries false (option_copied entries.entry))) (keys place bytes.now) in
+    ensures cause { let rows = map (entry_outcome (byte_entries false (option_copied entries.entry)))
+        (keys place bytes.now) in
         IfErr result (IsCausedByBytes O.greatest strings.old (take count rows)) }
 {
     let mut place = place;

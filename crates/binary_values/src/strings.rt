@@ -72,7 +72,8 @@ impl<O: Offset> Strings<O> {
         ensures ok { OnOk result (self.new ≡ self.old ++ value.now ∷ []) }
         ensures fits { OnOk result (sum_by length self.old + length value.now ≤ O.greatest) }
         ensures err { let sum = sum_by length self.old + length value.now in
-            IfErr result (λ e. (self.new ≡ self.old) × (IsWantOfMemory e ⊎ ((e ≡ Error.Overflow) × (O.greatest < sum)))) }
+            IfErr result (λ e. (self.new ≡ self.old)
+            × (IsWantOfMemory e ⊎ ((e ≡ Error.Overflow) × (O.greatest < sum)))) }
     {
         let held = self.values.len();
         self.values.extend_from_slice(value)?;

@@ -53,7 +53,8 @@ pub(crate) fn take_marked<W: StringWalk, O: Offset>(
         OnOk result (is_own decoded.new.strings decoded.new.validity) }
     ensures cause { let values = stored_outcomes is_text bytes.now (W.places walk bytes.now) in
         let before = marked_cells (byte_cell decoded.old.is_text) decoded.old.strings decoded.old.validity in
-        IfErr result (IsCausedByChunks (Some O.greatest) None (map Given before ++ word_outcomes word values)) }
+        IfErr result (IsCausedByChunks (Some O.greatest) None
+        (map Given before ++ word_outcomes word values)) }
 {
     let held = decoded.strings.len();
     let behind = take_stored_rows(walk, bytes, is_text, &mut decoded.strings, word)?;
@@ -90,7 +91,8 @@ pub(crate) fn take_runs<O: Offset>(
     ensures cause { let entries = byte_entries values.now.is_text (option_copied dict.entry) in
         let found = byte_left values.now.is_text entries bytes.now place.old in
         let before = marked_cells (byte_cell decoded.old.is_text) decoded.old.strings decoded.old.validity in
-        IfErr result (IsCausedByChunks (Some O.greatest) None (map Given before ++ word_outcomes word found)) }
+        IfErr result (IsCausedByChunks (Some O.greatest) None
+        (map Given before ++ word_outcomes word found)) }
 {
     let mut rest = word;
     while let Some((present, rows)) = rest.next_run() {

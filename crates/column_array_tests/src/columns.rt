@@ -1,6 +1,6 @@
 //! Columns of each stored type as iterators of arrays, from the bytes of their chunks.
-ghost use Rattle.std.specs.Prelude.{◌≡◌, IfOk};
-ghost use Rattle.parquet_page.specs.Lending.{DataPagesAre};
+ghost use Rattle.std.specs.Prelude.{◌≡◌, true, IfOk};
+ghost use Rattle.parquet_page.specs.Lending.{DataPagesAre, has_data_behind};
 ghost use Rattle.parquet_page.specs.Reader.{reader_pages};
 
 use column_arrays::binary::{Delta, FilteredDelta};
@@ -19,7 +19,7 @@ fn digit(number: i128) -> u8 {
 }
 
 /// The cells of an array: a truth value as a letter, a number as its last digit, bytes as they are, and a null as a dash.
-fn push_cells(alloc: Global, all: &mut Vec<u8>, array: &Array) -> Result<(), Error> {
+pub(crate) fn push_cells(alloc: Global, all: &mut Vec<u8>, array: &Array) -> Result<(), Error> {
     for i in 0..array.len() {
         let cell = array.item(alloc, i)?;
         match &cell {
@@ -44,7 +44,8 @@ fn rows_of<I: Pages>(
     data_type: DataType,
     chunk_size: Option<usize>,
 ) -> Result<Vec<u8>, Error>
-    requires { DataPagesAre (λ page. page.type.physical_type ≡ physical_type) (I.to_come pages) }
+    requires typed { DataPagesAre (λ page. page.type.physical_type ≡ physical_type) (I.to_come pages) }
+    requires ordered { has_data_behind (I.to_come pages) ≡ true }
 {
     let type_ = PrimitiveType {
         physical_type,
@@ -60,8 +61,9 @@ fn rows_of<I: Pages>(
 
 /// The pages of a chunk of four required values.
 fn pages_of(alloc: Global, physical: PhysicalType, chunk: Vec<u8>) -> Result<PageReader, Error>
-    ensures { IfOk result (λ reader.
+    ensures typed { IfOk result (λ reader.
         DataPagesAre (λ page. page.type.physical_type ≡ physical) (reader_pages reader)) }
+    ensures ordered { IfOk result (λ reader. has_data_behind (reader_pages reader) ≡ true) }
 {
     PageReader::new(
         alloc,

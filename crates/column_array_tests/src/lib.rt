@@ -3,3 +3,5 @@
 
 #[cfg(test)]
 mod columns;
+#[cfg(test)]
+mod keys;

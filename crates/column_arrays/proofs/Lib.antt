@@ -1,4 +1,6 @@
 mod BeginLemmas
 mod CellLemmas
 mod JoinedLemmas
+mod KeyLemmas
+pub mod PageOrder
 mod PageTypes

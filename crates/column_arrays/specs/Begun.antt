@@ -1,29 +1,15 @@
 -- What is left of a column before its first array is given, and what a call answers that begins to read one.
-use Rattle.std.specs.Prelude.{◌≡◌, ℕ, min, if◌then◌else◌, Option, Some, None, Result, IfErr, IfOk}
+use Rattle.std.specs.Prelude.{◌≡◌, ℕ, min, if◌then◌else◌, Option, Some, Result, IfErr, IfOk}
 use Rattle.std.specs.Result.{IsErrAnd}
 use Rattle.columns_core.specs.Causes.{IsWantOfMemory, NotYetImplemented, cause_of}
-use Rattle.columns_core.specs.Types.{Layer}
-use Rattle.columns_core.specs.declared.data_type.DataType.{DataType, out-DataType}
-use Rattle.columns_core.specs.declared.data_type.DataType.TheOpen.{DataType-F}
+use Rattle.columns_core.specs.declared.data_type.DataType.{DataType}
 use Rattle.columns_core.specs.declared.error.Error.{Error}
 use Rattle.parquet_meta.specs.declared.metadata.PhysicalType.{PhysicalType}
-use Rattle.parquet_meta.specs.declared.metadata.PrimitiveLogicalType.{PrimitiveLogicalType}
-use Rattle.parquet_meta.specs.declared.metadata.PrimitiveType.{PrimitiveType}
 use Rattle.flat_values.specs.ColumnLeft.{ColumnLeft}
 use Rattle.flat_values.specs.Conversion.{Conversion}
 use Rattle.flat_values.specs.NullChunks.{nulls_left}
-use Rattle.flat_values.specs.Pairs.{conversion_at, is_repeated}
 use Rattle.flat_binary.specs.Left.{Supply, converted_left}
 use Rattle.flat_binary.specs.Paged.{is_null_type}
-
--- The conversion of a pair that is read so far: of each that is carried, but for columns of keys.
-abbrev pub begun_conversion_at : PhysicalType → Option PrimitiveLogicalType → Layer → Option Conversion
-begun_conversion_at physical logical (DataType-F.Dictionary key value ordered) = None
-begun_conversion_at physical logical layer = conversion_at physical logical layer
-
-abbrev pub begun_conversion : PrimitiveType → DataType → Option Conversion
-begun_conversion stored data_type =
-    if is_repeated stored.repetition then None else begun_conversion_at stored.physical_type stored.logical_type (out-DataType data_type)
 
 -- All rows of the pages, at most so many, by the conversion of the pair. Nulls are read without pages.
 abbrev pub column_left : PhysicalType → DataType → Option ℕ → ℕ → Supply → Conversion → ColumnLeft

@@ -1,5 +1,5 @@
 -- What is left of a column that one of some iterators reads: what is left by that one.
-use Rattle.std.specs.Prelude.{ℕ, ◌-◌, ◌^◌, true, List, Option, Some, None, Result}
+use Rattle.std.specs.Prelude.{ℕ, true, List, Option, Some, None, Result}
 use Rattle.std.specs.Int.{w8, w16}
 use Rattle.std.specs.Iterator.{Count}
 use Rattle.columns_core.specs.Array.{cells, data_type_of}
@@ -20,8 +20,16 @@ use Rattle.flat_values.specs.Conversion.{Conversion, Keep, LowUnsigned, LowSigne
 use Rattle.flat_values.specs.NullChunks.{nulls_left}
 use Rattle.flat_values.specs.Pairs.{rescale, since_1970}
 use Rattle.binary_values.specs.Iterated.{bytes_left}
+use Rattle.dictionary_values.specs.DictLeft.{DictLeft, dict_left, keys_decoding}
+use Rattle.dictionary_values.specs.Keys.{keys_of}
+use Rattle.columns_core.specs.declared.data_type.IntegerType.{IntegerType}
+use Rattle.columns_core.specs.declared.data_type.IntegerType.TheVariants as keyed
+use Rattle.column_arrays.specs.EntryReaders.{entries_read, most_large_bytes, most_small_bytes}
 use Rattle.column_arrays.specs.declared.array_iter.ArrayIter.{ArrayIter}
 use Rattle.column_arrays.specs.declared.array_iter.ArrayIter.TheVariants as any
+use Rattle.column_arrays.specs.declared.entry_reader.EntryReader.{EntryReader}
+use Rattle.column_arrays.specs.declared.key_iter.KeysIter.{KeysIter}
+use Rattle.column_arrays.specs.declared.key_iter.KeysIter.TheVariants as key
 use Rattle.column_arrays.specs.declared.number_iter.Int32Iter.{Int32Iter}
 use Rattle.column_arrays.specs.declared.number_iter.Int32Iter.TheVariants as int32
 use Rattle.column_arrays.specs.declared.number_iter.Int64Iter.{Int64Iter}
@@ -30,13 +38,6 @@ use Rattle.column_arrays.specs.declared.string_iter.BytesIter.{BytesIter}
 use Rattle.column_arrays.specs.declared.string_iter.BytesIter.TheVariants as bytes
 use Rattle.column_arrays.specs.declared.string_iter.FixedIter.{FixedIter}
 use Rattle.column_arrays.specs.declared.string_iter.FixedIter.TheVariants as fixed
-
--- the most bytes by places of 32 bits, and of 64
-abbrev small : ℕ
-small = 2 ^ 31 - 1
-
-abbrev large : ℕ
-large = 2 ^ 63 - 1
 
 module _ {I : Type 0} (to_come : I → List Content) (causes : I → List Cause) (row_count lent_count : I → ℕ) where
   -- ---- values
@@ -72,8 +73,24 @@ module _ {I : Type 0} (to_come : I → List Content) (causes : I → List Cause)
   fixed_left (fixed.DaysAndMillis arrays) = values_by (λ _. DaysAndMilliseconds) (λ _. stored.FixedLenByteArray 12) arrays
 
   abbrev pub strings_left_by : BytesIter I → ColumnLeft
-  strings_left_by (bytes.Bytes arrays) = bytes_left small to_come causes row_count lent_count arrays
-  strings_left_by (bytes.LargeBytes arrays) = bytes_left large to_come causes row_count lent_count arrays
+  strings_left_by (bytes.Bytes arrays) = bytes_left most_small_bytes to_come causes row_count lent_count arrays
+  strings_left_by (bytes.LargeBytes arrays) = bytes_left most_large_bytes to_come causes row_count lent_count arrays
+
+  -- ---- keys
+
+  -- keys of a type, over the entries that a reader reads
+  abbrev keys_by : IntegerType → DictLeft I EntryReader → ColumnLeft
+  keys_by type = dict_left (λ reader. keys_decoding (entries_read reader) (keys_of type)) to_come causes row_count lent_count
+
+  abbrev pub keyed_column_left : KeysIter I → ColumnLeft
+  keyed_column_left (key.Int8 arrays) = keys_by keyed.Int8 arrays
+  keyed_column_left (key.Int16 arrays) = keys_by keyed.Int16 arrays
+  keyed_column_left (key.Int32 arrays) = keys_by keyed.Int32 arrays
+  keyed_column_left (key.Int64 arrays) = keys_by keyed.Int64 arrays
+  keyed_column_left (key.UInt8 arrays) = keys_by keyed.UInt8 arrays
+  keyed_column_left (key.UInt16 arrays) = keys_by keyed.UInt16 arrays
+  keyed_column_left (key.UInt32 arrays) = keys_by keyed.UInt32 arrays
+  keyed_column_left (key.UInt64 arrays) = keys_by keyed.UInt64 arrays
 
   -- ---- columns
 
@@ -85,6 +102,7 @@ module _ {I : Type 0} (to_come : I → List Content) (causes : I → List Cause)
   array_left (any.Int96 arrays) = numbers_by (λ (time : Int96Time). since_1970 time.unit) stored.Int96 arrays
   array_left (any.Fixed arrays) = fixed_left arrays
   array_left (any.Bytes arrays) = strings_left_by arrays
+  array_left (any.Keys arrays) = keyed_column_left arrays
 
   -- the next array, over steps of its own
   abbrev pub GivesNextArray : ArrayIter I → Option (Result Array Error) → ArrayIter I → Type 0

@@ -1,3 +1,4 @@
+pub mod EntryReaders
 pub mod Layers
 pub mod Begun
 pub mod Cuts

@@ -4,6 +4,7 @@ ghost use Rattle.columns_core.specs.Array.{cells, data_type_of};
 ghost use Rattle.flat_values.specs.ColumnLeft.{GivesArray};
 
 use crate::begin::let_go;
+use crate::key_iter::KeysIter;
 use crate::number_iter::{Int32Iter, Int64Iter};
 use crate::string_iter::{BytesIter, FixedIter};
 use columns_core::{Array, Error};
@@ -14,7 +15,7 @@ use std::iter::Iterator;
 use std::marker::Brand;
 use std::sync::ledger::{Blank, Ledger};
 
-/// Arrays of a column, by the type that it is stored as; of a column that is read as nulls, these.
+/// Arrays of a column: of values by the type that they are stored as, of nulls, and of keys.
 pub enum ArrayIter<I: Pages> {
     Null(NullIter),
     Boolean(boolean::Iter<I>),
@@ -23,6 +24,7 @@ pub enum ArrayIter<I: Pages> {
     Int96(primitive::Iter<i64, I, [u32; 3], Int96Time>),
     Fixed(FixedIter<I>),
     Bytes(BytesIter<I>),
+    Keys(KeysIter<I>),
 }
 
 impl<I: Pages> Drop for ArrayIter<I> {
@@ -35,6 +37,7 @@ impl<I: Pages> Drop for ArrayIter<I> {
             ArrayIter::Int96(arrays) => let_go(arrays),
             ArrayIter::Fixed(arrays) => drop(arrays),
             ArrayIter::Bytes(arrays) => drop(arrays),
+            ArrayIter::Keys(arrays) => drop(arrays),
         }
     }
 }
@@ -53,6 +56,7 @@ impl<I: Pages> ColumnArrays for ArrayIter<I> {
             ArrayIter::Int96(arrays) => ColumnArrays::next_counted(arrays, steps),
             ArrayIter::Fixed(arrays) => arrays.next_counted(steps),
             ArrayIter::Bytes(arrays) => arrays.next_counted(steps),
+            ArrayIter::Keys(arrays) => arrays.next_counted(steps),
         }
     }
 
@@ -65,6 +69,7 @@ impl<I: Pages> ColumnArrays for ArrayIter<I> {
             ArrayIter::Int96(arrays) => arrays.lent(),
             ArrayIter::Fixed(arrays) => arrays.lent(),
             ArrayIter::Bytes(arrays) => arrays.lent(),
+            ArrayIter::Keys(arrays) => arrays.lent(),
         }
     }
 }

@@ -1,17 +1,19 @@
 //! The arrays of a column, by the pair of its stored type and the type that is asked for.
-ghost use Rattle.std.specs.Prelude.{◌≡◌, IfSome, IsTrue, None};
+ghost use Rattle.std.specs.Prelude.{◌≡◌, IfSome, IsTrue, None, true};
 ghost use Rattle.std.specs.Option.{option_copied};
 ghost use Rattle.std.specs.Result.{IsErrAnd};
 ghost use Rattle.columns_core.specs.Causes.{is_invalid_argument};
+ghost use Rattle.columns_core.specs.DictionaryType.{key_type};
 ghost use Rattle.columns_core.specs.declared.data_type.DataType.{out-DataType};
 ghost use Rattle.page_decoding.specs.Queue.{IsChunkSize};
-ghost use Rattle.parquet_page.specs.Lending.{DataPagesAre};
-ghost use Rattle.flat_values.specs.Pairs.{from_physical, is_repeated};
+ghost use Rattle.parquet_page.specs.Lending.{DataPagesAre, has_data_behind};
+ghost use Rattle.flat_values.specs.Pairs.{conversion, conversion_at, from_physical, is_repeated};
 ghost use Rattle.flat_binary.specs.Left.{converted_left, supply_of};
-ghost use Rattle.column_arrays.specs.Begun.{BeginsColumn, IsRefusedPair, begun_conversion, begun_conversion_at, column_left};
+ghost use Rattle.column_arrays.specs.Begun.{BeginsColumn, IsRefusedPair, column_left};
 ghost use Rattle.column_arrays.specs.Layers.{array_left};
 
 use crate::array_iter::ArrayIter;
+use crate::keys::keys_iter;
 use crate::numbers::{boolean_iter, int32_iter, int64_iter, int96_iter};
 use crate::strings::{byte_array_iter, fixed_iter};
 use columns_core::{DataType, Error, Part};
@@ -20,9 +22,10 @@ use parquet_meta::{PhysicalType, PrimitiveLogicalType, PrimitiveType, Repetition
 use parquet_page::Pages;
 use std::alloc::Global;
 
-/// The rows of pages, at most so many, in arrays of a type and of so many rows each, but for the last one.
+/// The rows of pages, at most so many, in arrays of a type and of so many rows each, but for the last one. For a
+/// dictionary type only the first of the pages to come may be a dictionary page.
 ///
-/// `InvalidArgument` for a chunk size of 0, and with any other `NotYetImplemented` for a type that the stored one is not read as, and for dictionary types.
+/// `InvalidArgument` for a chunk size of 0, and with any other `NotYetImplemented` for a type that the stored one is not read as.
 pub fn page_iter_to_arrays<I: Pages>(
     alloc: Global,
     pages: I,
@@ -33,11 +36,13 @@ pub fn page_iter_to_arrays<I: Pages>(
 ) -> Result<ArrayIter<I>, Error>
     requires typed { let physical = type_.now.physical_type in
         DataPagesAre (λ page. page.type.physical_type ≡ physical) (I.to_come pages) }
-    ensures begins { IsChunkSize chunk_size → IfSome (begun_conversion type_.now data_type) (λ rule.
+    requires ordered { IfSome (key_type data_type) (λ _. has_data_behind (I.to_come pages) ≡ true) }
+    ensures begins { IsChunkSize chunk_size → IfSome (conversion type_.now data_type) (λ rule.
         let supply = supply_of I.to_come I.causes I.row_count I.lent_count pages in
         let left = array_left I.to_come I.causes I.row_count I.lent_count in
-        BeginsColumn left (column_left type_.now.physical_type data_type chunk_size num_rows supply rule) result) }
-    ensures refused { IsChunkSize chunk_size → begun_conversion type_.now data_type ≡ None
+        BeginsColumn left (column_left type_.now.physical_type data_type chunk_size num_rows supply rule)
+        result) }
+    ensures refused { IsChunkSize chunk_size → conversion type_.now data_type ≡ None
         → IsRefusedPair result }
     ensures no_chunk { (IsChunkSize chunk_size → ⊥) → IsErrAnd result (λ e. IsTrue (is_invalid_argument e)) }
 {
@@ -76,21 +81,24 @@ fn pair_iter<I: Pages>(
     num_rows: usize,
 ) -> Result<ArrayIter<I>, Error>
     requires typed { DataPagesAre (λ page. page.type.physical_type ≡ physical) (I.to_come pages) }
+    requires ordered { IfSome (key_type data_type) (λ _. has_data_behind (I.to_come pages) ≡ true) }
     requires size { IsChunkSize chunk_size }
     ensures begins { let unit = option_copied logical.entry in
-        IfSome (begun_conversion_at physical unit (out-DataType data_type)) (λ rule.
+        IfSome (conversion_at physical unit (out-DataType data_type)) (λ rule.
         let supply = supply_of I.to_come I.causes I.row_count I.lent_count pages in
         let left = array_left I.to_come I.causes I.row_count I.lent_count in
         BeginsColumn left (column_left physical data_type chunk_size num_rows supply rule) result) }
     ensures refused { let unit = option_copied logical.entry in
-        begun_conversion_at physical unit (out-DataType data_type) ≡ None → IsRefusedPair result }
+        conversion_at physical unit (out-DataType data_type) ≡ None → IsRefusedPair result }
 {
     match &data_type {
         DataType::Null => {
             let nulls = null::iter_to_arrays(&pages, chunk_size, num_rows)?;
             Ok(ArrayIter::Null(nulls))
         }
-        DataType::Dictionary(_, _, _) => Err(Error::NotYetImplemented(Part::Schema)),
+        DataType::Dictionary(_, _, _) => keys_iter(
+            alloc, pages, physical, logical, data_type, chunk_size, num_rows,
+        ),
         _ => flat_iter(
             alloc, pages, physical, logical, data_type, chunk_size, num_rows,
         ),

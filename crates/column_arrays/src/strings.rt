@@ -33,7 +33,8 @@ pub(crate) fn fixed_iter<I: Pages>(
     ensures begins { IfSome (from_fixed length (out-DataType data_type)) (λ rule.
         let supply = supply_of I.to_come I.causes I.row_count I.lent_count pages in
         let left = array_left I.to_come I.causes I.row_count I.lent_count in
-        BeginsColumn left (converted_left (FixedLenByteArray length) data_type chunk_size num_rows supply rule) result) }
+        BeginsColumn left (converted_left
+        (FixedLenByteArray length) data_type chunk_size num_rows supply rule) result) }
     ensures refused { from_fixed length (out-DataType data_type) ≡ None → IsRefusedPair result }
 {
     match &data_type {

@@ -9,11 +9,11 @@ use Rattle.columns_core.specs.declared.data_type.DataType.TheOpen.{DataType-F}
 use Rattle.columns_core.specs.Types.{Layer, value_type}
 use Rattle.page_decoding.specs.Bytes.{fits_most}
 use Rattle.flat_values.specs.MostBytes.{most_bytes, most_bytes_at}
-use Rattle.column_ends.specs.Converted.{array_causes, end_bytes}
-use Rattle.column_ends.specs.Counted.{capped, count_of, counted, fit}
+use Rattle.column_ends.specs.Converted.{array_causes, bytes_of_one_end}
+use Rattle.column_ends.specs.Counted.{capped, bytes_of_ends, with_one_more, fit}
 
 -- one more end on each side
-pub counted-more : (lows highs : List (Option Cell)) (low high : Option Cell) → counted (count_of lows highs) low high ≡ count_of (lows ++ low ∷ []) (highs ++ high ∷ [])
+pub counted-more : (lows highs : List (Option Cell)) (low high : Option Cell) → with_one_more (bytes_of_ends lows highs) low high ≡ bytes_of_ends (lows ++ low ∷ []) (highs ++ high ∷ [])
 counted-more lows highs low high = grind (arith, common_steps)
 
 -- ---- a count that is cut fits where the whole does
@@ -43,18 +43,18 @@ module _ (data_type : DataType) (lows highs : List (Option Cell)) where
   values = value_type data_type
 
   -- The test is that each side fits an array of its own.
-  fit-sides : fit data_type (count_of lows highs) ≡ (fits_most (most_bytes values) (sum_by end_bytes lows) && fits_most (most_bytes values) (sum_by end_bytes highs))
-  fit-sides = ap₂ (λ low high. low && high) (fits_at (out-DataType values) (sum_by end_bytes lows)) (fits_at (out-DataType values) (sum_by end_bytes highs))
+  fit-sides : fit data_type (bytes_of_ends lows highs) ≡ (fits_most (most_bytes values) (sum_by bytes_of_one_end lows) && fits_most (most_bytes values) (sum_by bytes_of_one_end highs))
+  fit-sides = ap₂ (λ low high. low && high) (fits_at (out-DataType values) (sum_by bytes_of_one_end lows)) (fits_at (out-DataType values) (sum_by bytes_of_one_end highs))
 
-  pub fit-ok : fit data_type (count_of lows highs) ≡ true → array_causes data_type lows ++ array_causes data_type highs ≡ []
+  pub fit-ok : fit data_type (bytes_of_ends lows highs) ≡ true → array_causes data_type lows ++ array_causes data_type highs ≡ []
   fit-ok e = (sides _ _).0 (sym fit-sides ∙ e)
 
-  pub unfit-told : fit data_type (count_of lows highs) ≡ false → Contains (array_causes data_type lows ++ array_causes data_type highs) Overflow
+  pub unfit-told : fit data_type (bytes_of_ends lows highs) ≡ false → Contains (array_causes data_type lows ++ array_causes data_type highs) Overflow
   unfit-told e = (sides _ _).1 (sym fit-sides ∙ e)
 
-  fit-if : (b : Bool) → fit data_type (count_of lows highs) ≡ b → array_causes data_type lows ++ array_causes data_type highs ≡ [] → fit data_type (count_of lows highs) ≡ true
+  fit-if : (b : Bool) → fit data_type (bytes_of_ends lows highs) ≡ b → array_causes data_type lows ++ array_causes data_type highs ≡ [] → fit data_type (bytes_of_ends lows highs) ≡ true
   fit-if true e none = e
   fit-if false e none = absurd (not_contained (unfit-told e) none)
 
-  pub fit-exact : fit data_type (count_of lows highs) ≡ true ↔ array_causes data_type lows ++ array_causes data_type highs ≡ []
-  fit-exact = (fit-ok, fit-if (fit data_type (count_of lows highs)) refl)
+  pub fit-exact : fit data_type (bytes_of_ends lows highs) ≡ true ↔ array_causes data_type lows ++ array_causes data_type highs ≡ []
+  fit-exact = (fit-ok, fit-if (fit data_type (bytes_of_ends lows highs)) refl)

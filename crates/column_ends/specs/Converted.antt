@@ -102,12 +102,12 @@ causes_of_page type rule page =
 -- ---- ends in arrays
 
 -- the bytes of an end that is a text or a byte string
-abbrev pub end_bytes : Option Cell → ℕ
-end_bytes end = option_map_or cell_bytes end 0
+abbrev pub bytes_of_one_end : Option Cell → ℕ
+bytes_of_one_end end = option_map_or cell_bytes end 0
 
 -- The ends on one side are an array of their own, whose bytes have to fit the offsets of its type, of a dictionary type those of its values.
 abbrev pub array_causes : DataType → List (Option Cell) → List Cause
-array_causes data_type ends = unless (fits_most (most_bytes (value_type data_type)) (sum_by end_bytes ends)) Overflow
+array_causes data_type ends = unless (fits_most (most_bytes (value_type data_type)) (sum_by bytes_of_one_end ends)) Overflow
 
 abbrev pub low_of : Ends Cell → Option Cell
 low_of ends = ends.min_value

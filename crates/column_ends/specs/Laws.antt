@@ -11,7 +11,7 @@ use Rattle.parquet_meta.specs.declared.metadata.Index.{Index}
 use Rattle.parquet_meta.specs.declared.metadata.PageIndex.{PageIndex}
 use Rattle.flat_values.specs.CellTypes.{is_cell_of}
 use Rattle.column_ends.specs.Converted.{array_causes, group_cells, index_cells}
-use Rattle.column_ends.specs.Counted.{count_of, counted, fit}
+use Rattle.column_ends.specs.Counted.{bytes_of_ends, with_one_more, fit}
 
 -- an end that is told is a value of the type
 abbrev pub IsEndOf : DataType → Option Cell → Type 0
@@ -36,9 +36,9 @@ PageEndsHaveType =
 abbrev pub CountsAreExact : Type 0
 CountsAreExact =
     (data_type : DataType) (lows highs : List (Option Cell)) →
-    fit data_type (count_of lows highs) ≡ true ↔ array_causes data_type lows ++ array_causes data_type highs ≡ []
+    fit data_type (bytes_of_ends lows highs) ≡ true ↔ array_causes data_type lows ++ array_causes data_type highs ≡ []
 
 -- and one more end on each side is counted to those before it
 abbrev pub CountsAreJoined : Type 0
 CountsAreJoined =
-    (lows highs : List (Option Cell)) (low high : Option Cell) → counted (count_of lows highs) low high ≡ count_of (lows ++ low ∷ []) (highs ++ high ∷ [])
+    (lows highs : List (Option Cell)) (low high : Option Cell) → with_one_more (bytes_of_ends lows highs) low high ≡ bytes_of_ends (lows ++ low ∷ []) (highs ++ high ∷ [])

@@ -3,8 +3,8 @@ ghost use Rattle.std.specs.Prelude.{◌≡◌, option_copied};
 ghost use Rattle.columns_core.specs.Types.{value_type as value_type_by};
 ghost use Rattle.page_decoding.specs.Bytes.{fits_most};
 ghost use Rattle.flat_values.specs.MostBytes.{most_bytes as most_bytes_by};
-ghost use Rattle.column_ends.specs.Counted.{counted, fit as fit_by};
-ghost use Rattle.column_ends.specs.Converted.{end_bytes};
+ghost use Rattle.column_ends.specs.Counted.{with_one_more, fit as fit_by};
+ghost use Rattle.column_ends.specs.Converted.{bytes_of_one_end};
 
 use columns_core::{Cell, DataType};
 use std::marker::Model;
@@ -47,7 +47,7 @@ impl EndBytes {
 
     /// Counts the ends of one more group or page.
     pub fn add(&mut self, low: Option<&Cell>, high: Option<&Cell>)
-        ensures { self.new ≡ counted self.old (option_copied low.entry) (option_copied high.entry) }
+        ensures { self.new ≡ with_one_more self.old (option_copied low.entry) (option_copied high.entry) }
     {
         self.low = self.low.saturating_add(bytes_of_end(low));
         self.high = self.high.saturating_add(bytes_of_end(high));
@@ -83,7 +83,7 @@ fn fits(most: Option<u64>, count: u64) -> bool
 
 /// The bytes of an end that is a text or a byte string.
 fn bytes_of_end(end: Option<&Cell>) -> u64
-    ensures { result ≡ end_bytes (option_copied end.entry) }
+    ensures { result ≡ bytes_of_one_end (option_copied end.entry) }
 {
     match end {
         Some(Cell::Text(text)) => text.as_str().len() as u64,

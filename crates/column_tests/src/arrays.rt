@@ -432,9 +432,10 @@ fn refusal_of(alloc: Global, repetition: Repetition, chunk: Vec<u8>) -> Option<E
 fn parts_that_refusals_name(rt: HostRuntime) -> Result<(), Fail> {
     let alloc = rt.alloc();
     let (optional, required) = (Repetition::Optional, Repetition::Required);
+    // A chunk that ends before its values have come.
     assert_eq!(rt;
         refusal_of(alloc, required, Vec::new(alloc)),
-        Some(Error::ExternalFormat(Part::Header))
+        Some(Error::ExternalFormat(Part::Chunk))
     );
     // An encoding that is not read, and keys without a dictionary.
     for encoding in [7, 8] {

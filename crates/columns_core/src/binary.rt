@@ -36,9 +36,12 @@ impl<O: Offset> BinaryArray<O> {
         values: Vec<u8>,
         validity: Option<Bitmap>,
     ) -> Result<Self, Error>
-        ensures array { IfOk result (λ array. array ≡ record { data_type = data_type; items = strings offsets values.items validity }) }
-        ensures ok { IfOk result (λ _. IsTrue (is_binary O.is_large data_type) × FitTogether offsets values.items validity) }
-        ensures err { IfErr result (λ e. IsTrue (is_invalid_argument e) × (IsTrue (is_binary O.is_large data_type) → FitTogether offsets values.items validity → ⊥)) }
+        ensures array { IfOk result (λ array.
+            array ≡ record { data_type = data_type; items = strings offsets values.items validity }) }
+        ensures ok { IfOk result (λ _. IsTrue (is_binary O.is_large data_type)
+            × FitTogether offsets values.items validity) }
+        ensures err { IfErr result (λ e. IsTrue (is_invalid_argument e)
+            × (IsTrue (is_binary O.is_large data_type) → FitTogether offsets values.items validity → ⊥)) }
     {
         if stores::<O>(&data_type) && fit_together(&offsets, values.as_slice(), validity.as_ref()) {
             Ok(BinaryArray {

@@ -32,7 +32,8 @@ fn byte_or_zero(bytes: &[u8], at: usize) -> u8
 /// The bytes from the one on that has the bit at a place, and the place of that bit in it.
 pub(crate) fn from_bit(bytes: &[u8], place: usize) -> (&[u8], usize)
     requires { place ≤ 8 * length bytes.now }
-    ensures same { (n : ℕ) → little_endian result.0.now / 2 ^ (result.1 + n) ≡ little_endian bytes.now / 2 ^ (place + n) }
+    ensures same { (n : ℕ) → little_endian result.0.now / 2 ^ (result.1 + n)
+        ≡ little_endian bytes.now / 2 ^ (place + n) }
     ensures place { result.1 ≡ place % 8 }
     ensures len { length result.0.now + place / 8 ≡ length bytes.now }
 {

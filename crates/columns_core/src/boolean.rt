@@ -40,9 +40,11 @@ impl BooleanArray {
         values: Bitmap,
         validity: Option<Bitmap>,
     ) -> Result<Self, Error>
-        ensures array { IfOk result (λ array. array ≡ record { data_type = data_type; items = masked values validity }) }
+        ensures array { IfOk result (λ array.
+            array ≡ record { data_type = data_type; items = masked values validity }) }
         ensures ok { IfOk result (λ _. IsTrue (is_boolean data_type) × FitsMask values validity) }
-        ensures err { IfErr result (λ e. IsTrue (is_invalid_argument e) × (IsTrue (is_boolean data_type) → FitsMask values validity → ⊥)) }
+        ensures err { IfErr result (λ e. IsTrue (is_invalid_argument e)
+            × (IsTrue (is_boolean data_type) → FitsMask values validity → ⊥)) }
     {
         if matches!(data_type, DataType::Boolean) && fits_mask(values.len(), validity.as_ref()) {
             Ok(BooleanArray {

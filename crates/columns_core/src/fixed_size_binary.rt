@@ -44,9 +44,15 @@ impl FixedSizeBinaryArray {
         values: Vec<u8>,
         validity: Option<Bitmap>,
     ) -> Result<Self, Error>
-        ensures array { IfOk result (λ array. array ≡ record { data_type = data_type; items = masked (pieces (fixed_size data_type) values.items) validity }) }
+        ensures array { IfOk result (λ array.
+            array ≡ record {
+              data_type = data_type;
+              items = masked
+                  (pieces (fixed_size data_type) values.items) validity;
+            }) }
         ensures ok { IfOk result (λ _. ArePieces (fixed_size data_type) values.items validity) }
-        ensures err { IfErr result (λ e. IsTrue (is_invalid_argument e) × (ArePieces (fixed_size data_type) values.items validity → ⊥)) }
+        ensures err { IfErr result (λ e. IsTrue (is_invalid_argument e)
+            × (ArePieces (fixed_size data_type) values.items validity → ⊥)) }
     {
         let size = size_of_values(&data_type);
         if are_pieces(size, values.len(), validity.as_ref()) {
@@ -109,7 +115,8 @@ fn size_of_values(data_type: &DataType) -> usize
 }
 
 fn are_pieces(size: usize, bytes: usize, validity: Option<&Bitmap>) -> bool
-    ensures { IsTrue result ↔ (0 < size) × (bytes % size ≡ 0) × ForSome (option_copied validity.entry) (λ mask. length mask ≡ bytes / size) }
+    ensures { IsTrue result ↔ (0 < size) × (bytes % size ≡ 0)
+        × ForSome (option_copied validity.entry) (λ mask. length mask ≡ bytes / size) }
 {
     size > 0 && bytes % size == 0 && fits_mask(bytes / size, validity)
 }

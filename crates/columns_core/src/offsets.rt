@@ -118,7 +118,8 @@ impl<O: Offset> Offsets<O> {
     pub fn try_push(&mut self, length: usize) -> Result<(), Error>
         ensures ok { OnOk result (self.new ≡ self.old ++ (last self.old + length) ∷ []) }
         ensures fits { OnOk result (last self.old + length ≤ O.greatest) }
-        ensures err { IfErr result (λ e. (self.new ≡ self.old) × (IsWantOfMemory e ⊎ ((e ≡ Error.Overflow) × (O.greatest < last self.old + length)))) }
+        ensures err { IfErr result (λ e. (self.new ≡ self.old)
+            × (IsWantOfMemory e ⊎ ((e ≡ Error.Overflow) × (O.greatest < last self.old + length)))) }
     {
         let end = self.end_of(length)?;
         self.places.push(end)?;
@@ -136,7 +137,8 @@ impl<O: Offset> Offsets<O> {
 
     /// Where an item of this length ends behind the last.
     fn end_of(&self, length: usize) -> Result<O, Error>
-        ensures ok { IfOk result (λ end. (O.value end ≡ last self.now + length) × (O.value end ≤ O.greatest)) }
+        ensures ok { IfOk result (λ end. (O.value end ≡ last self.now + length)
+            × (O.value end ≤ O.greatest)) }
         ensures err { IfErr result (λ e. (e ≡ Error.Overflow) × (O.greatest < last self.now + length)) }
         ensures shape { AreOffsets self.now }
     {

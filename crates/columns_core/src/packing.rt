@@ -12,7 +12,8 @@ pub(crate) fn or_bits(bytes: &mut Vec<u8>, at: usize, shift: usize, bits: u8)
     requires shift { shift < 8 }
     requires free { slice_index bytes.old.items at < 2 ^ shift }
     requires fits { bits * 2 ^ shift < 256 }
-    ensures added { little_endian bytes.new.items ≡ little_endian bytes.old.items + 2 ^ (8 * at + shift) * bits }
+    ensures added { little_endian bytes.new.items
+        ≡ little_endian bytes.old.items + 2 ^ (8 * at + shift) * bits }
     ensures len { length bytes.new.items ≡ length bytes.old.items }
 {
     bytes[at] |= bits << shift;
@@ -29,7 +30,9 @@ fn push_shifted(
     requires within { place + 8 * whole ≤ 8 * length bytes.now }
     ensures kept { take (length out.old.items) out.new.items ≡ out.old.items }
     ensures len { OnOk result (length out.new.items ≡ length out.old.items + whole) }
-    ensures added { OnOk result (little_endian out.new.items ≡ little_endian out.old.items + 2 ^ (8 * length out.old.items) * (little_endian bytes.now / 2 ^ place % 2 ^ (8 * whole))) }
+    ensures added { OnOk result (little_endian out.new.items
+        ≡ little_endian out.old.items + 2 ^ (8 * length out.old.items)
+        * (little_endian bytes.now / 2 ^ place % 2 ^ (8 * whole))) }
 {
     for i in 0..whole {
         out.push(byte_at(&bytes[i..], place))?;
@@ -43,7 +46,9 @@ fn push_bytes(out: &mut Vec<u8>, bytes: &[u8], place: usize, whole: usize) -> Re
     requires within { place + 8 * whole ≤ 8 * length bytes.now }
     ensures kept { take (length out.old.items) out.new.items ≡ out.old.items }
     ensures len { OnOk result (length out.new.items ≡ length out.old.items + whole) }
-    ensures added { OnOk result (little_endian out.new.items ≡ little_endian out.old.items + 2 ^ (8 * length out.old.items) * (little_endian bytes.now / 2 ^ place % 2 ^ (8 * whole))) }
+    ensures added { OnOk result (little_endian out.new.items
+        ≡ little_endian out.old.items + 2 ^ (8 * length out.old.items)
+        * (little_endian bytes.now / 2 ^ place % 2 ^ (8 * whole))) }
 {
     if place == 0 {
         out.extend_from_slice(&bytes[..whole])?;
@@ -58,7 +63,9 @@ fn push_bits(out: &mut Vec<u8>, bytes: &[u8], place: usize, count: usize) -> Res
     requires within { place + count ≤ 8 * length bytes.now }
     ensures kept { take (length out.old.items) out.new.items ≡ out.old.items }
     ensures len { OnOk result (length out.new.items ≡ length out.old.items + (count + 7) / 8) }
-    ensures added { OnOk result (little_endian out.new.items ≡ little_endian out.old.items + 2 ^ (8 * length out.old.items) * (little_endian bytes.now / 2 ^ place % 2 ^ count)) }
+    ensures added { OnOk result (little_endian out.new.items
+        ≡ little_endian out.old.items + 2 ^ (8 * length out.old.items)
+        * (little_endian bytes.now / 2 ^ place % 2 ^ count)) }
 {
     let whole = count / 8;
     push_bytes(out, bytes, place, whole)?;
@@ -80,7 +87,8 @@ pub(crate) fn extend_packed(
     requires packed { IsPacked out.old.items count }
     requires within { offset + len ≤ 8 * length bytes.now }
     ensures packed { OnOk result (IsPacked out.new.items (count + len)) }
-    ensures added { OnOk result (little_endian out.new.items ≡ little_endian out.old.items + 2 ^ count * (little_endian bytes.now / 2 ^ offset % 2 ^ len)) }
+    ensures added { OnOk result (little_endian out.new.items
+        ≡ little_endian out.old.items + 2 ^ count * (little_endian bytes.now / 2 ^ offset % 2 ^ len)) }
     ensures err { OnErr result (out.new.items ≡ out.old.items) }
 {
     let before = out.len();
@@ -108,7 +116,8 @@ fn extend_ones(out: &mut Vec<u8>, count: usize, additional: usize) -> Result<(),
     requires packed { IsPacked out.old.items count }
     requires counted { count + additional < 2 ^ 64 }
     ensures packed { OnOk result (IsPacked out.new.items (count + additional)) }
-    ensures added { OnOk result (little_endian out.new.items ≡ little_endian out.old.items + 2 ^ count * (2 ^ additional - 1)) }
+    ensures added { OnOk result (little_endian out.new.items
+        ≡ little_endian out.old.items + 2 ^ count * (2 ^ additional - 1)) }
     ensures err { OnErr result (out.new.items ≡ out.old.items) }
 {
     let before = out.len();
@@ -127,7 +136,8 @@ fn push_ones(out: &mut Vec<u8>, count: usize) -> Result<(), AllocError>
     ensures kept { OnOk result (take (length out.old.items) out.new.items ≡ out.old.items) }
     ensures err { OnErr result (out.new.items ≡ out.old.items) }
     ensures len { OnOk result (length out.new.items ≡ length out.old.items + (count + 7) / 8) }
-    ensures added { OnOk result (little_endian out.new.items ≡ little_endian out.old.items + 2 ^ (8 * length out.old.items) * (2 ^ count - 1)) }
+    ensures added { OnOk result (little_endian out.new.items
+        ≡ little_endian out.old.items + 2 ^ (8 * length out.old.items) * (2 ^ count - 1)) }
 {
     out.resize(out.len() + count.div_ceil(8), 0xff)?;
     if count % 8 > 0 {
@@ -158,7 +168,8 @@ pub(crate) fn extend_with(
     requires packed { IsPacked out.old.items count }
     requires counted { count + additional < 2 ^ 64 }
     ensures packed { OnOk result (IsPacked out.new.items (count + additional)) }
-    ensures added { OnOk result (little_endian out.new.items ≡ little_endian out.old.items + 2 ^ count * (if value then 2 ^ additional - 1 else 0)) }
+    ensures added { OnOk result (little_endian out.new.items
+        ≡ little_endian out.old.items + 2 ^ count * (if value then 2 ^ additional - 1 else 0)) }
     ensures err { OnErr result (out.new.items ≡ out.old.items) }
 {
     if value {
@@ -173,7 +184,8 @@ pub(crate) fn extend_with(
 pub(crate) fn push_bit(out: &mut Vec<u8>, count: usize, value: bool) -> Result<(), AllocError>
     requires packed { IsPacked out.old.items count }
     ensures packed { OnOk result (IsPacked out.new.items (count + 1)) }
-    ensures added { OnOk result (little_endian out.new.items ≡ little_endian out.old.items + 2 ^ count * (if value then 1 else 0)) }
+    ensures added { OnOk result (little_endian out.new.items
+        ≡ little_endian out.old.items + 2 ^ count * (if value then 1 else 0)) }
     ensures err { OnErr result (out.new.items ≡ out.old.items) }
 {
     let used = count % 8;

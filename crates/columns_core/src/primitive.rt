@@ -39,9 +39,11 @@ impl<T: NativeType> PrimitiveArray<T> {
         values: Vec<T>,
         validity: Option<Bitmap>,
     ) -> Result<Self, Error>
-        ensures array { IfOk result (λ array. array ≡ record { data_type = data_type; items = masked values.items validity }) }
+        ensures array { IfOk result (λ array.
+            array ≡ record { data_type = data_type; items = masked values.items validity }) }
         ensures ok { IfOk result (λ _. IsTrue (T.stores data_type) × FitsMask values.items validity) }
-        ensures err { IfErr result (λ e. IsTrue (is_invalid_argument e) × (IsTrue (T.stores data_type) → FitsMask values.items validity → ⊥)) }
+        ensures err { IfErr result (λ e. IsTrue (is_invalid_argument e)
+            × (IsTrue (T.stores data_type) → FitsMask values.items validity → ⊥)) }
     {
         if T::stores(&data_type) && fits_mask(values.len(), validity.as_ref()) {
             Ok(PrimitiveArray {
@@ -145,9 +147,11 @@ impl<T: NativeType> MutablePrimitiveArray<T> {
         values: Vec<T>,
         validity: Option<Bitmap>,
     ) -> Result<Self, Error>
-        ensures array { IfOk result (λ array. array ≡ record { data_type = data_type; items = masked values.items validity }) }
+        ensures array { IfOk result (λ array.
+            array ≡ record { data_type = data_type; items = masked values.items validity }) }
         ensures ok { IfOk result (λ _. IsTrue (T.stores data_type) × FitsMask values.items validity) }
-        ensures err { IfErr result (λ e. IsTrue (is_invalid_argument e) × (IsTrue (T.stores data_type) → FitsMask values.items validity → ⊥)) }
+        ensures err { IfErr result (λ e. IsTrue (is_invalid_argument e)
+            × (IsTrue (T.stores data_type) → FitsMask values.items validity → ⊥)) }
     {
         let array = PrimitiveArray::try_new(data_type, values, validity)?;
         Ok(MutablePrimitiveArray { array })

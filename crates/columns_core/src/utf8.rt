@@ -39,9 +39,13 @@ impl<O: Offset> Utf8Array<O> {
         values: Vec<u8>,
         validity: Option<Bitmap>,
     ) -> Result<Self, Error>
-        ensures array { IfOk result (λ array. array ≡ record { data_type = data_type; items = strings offsets values.items validity }) }
-        ensures ok { IfOk result (λ _. IsTrue (is_text O.is_large data_type) × FitTogether offsets values.items validity × AreTexts offsets values.items) }
-        ensures err { IfErr result (λ e. (IsTrue (is_invalid_argument e) × (IsTrue (is_text O.is_large data_type) → FitTogether offsets values.items validity → ⊥))
+        ensures array { IfOk result (λ array.
+            array ≡ record { data_type = data_type; items = strings offsets values.items validity }) }
+        ensures ok { IfOk result (λ _. IsTrue (is_text O.is_large data_type)
+            × FitTogether offsets values.items validity × AreTexts offsets values.items) }
+        ensures err { IfErr result (λ e.
+            (IsTrue (is_invalid_argument e)
+            × (IsTrue (is_text O.is_large data_type) → FitTogether offsets values.items validity → ⊥))
             ⊎ ((cause_of e ≡ Some OutOfSpec) × (AreTexts offsets values.items → ⊥))) }
     {
         match check::<O>(&data_type, &offsets, values.as_slice(), validity.as_ref()) {
@@ -118,8 +122,13 @@ fn check<O: Offset>(
     values: &[u8],
     validity: Option<&Bitmap>,
 ) -> Result<(), Error>
-    ensures ok { OnOk result (IsTrue (is_text O.is_large data_type.now) × FitTogether offsets.now values.now (option_copied validity.entry) × AreTexts offsets.now values.now) }
-    ensures err { IfErr result (λ e. (IsTrue (is_invalid_argument e) × (IsTrue (is_text O.is_large data_type.now) → FitTogether offsets.now values.now (option_copied validity.entry) → ⊥))
+    ensures ok { OnOk result (IsTrue (is_text O.is_large data_type.now)
+        × FitTogether offsets.now values.now (option_copied validity.entry)
+        × AreTexts offsets.now values.now) }
+    ensures err { IfErr result (λ e.
+        (IsTrue (is_invalid_argument e)
+        × (IsTrue (is_text O.is_large data_type.now)
+        → FitTogether offsets.now values.now (option_copied validity.entry) → ⊥))
         ⊎ ((cause_of e ≡ Some OutOfSpec) × (AreTexts offsets.now values.now → ⊥))) }
 {
     if !stores::<O>(data_type) {

@@ -106,7 +106,14 @@ impl<K: StoredKey, R: ReadDict + Drop, I: Pages> DictIter<K, R, I> {
         ensures err { IfErr result (λ e. IsTrue (is_invalid_argument e) × (IsChunkSize chunk_size → ⊥)) }
         ensures iter { IfOk result (λ iter. iter ≡ record {
           data_type = data_type;
-          chunks = record { pages = pages; decoder = read_dict; size = chunk_size; waiting = []; remaining = num_rows; dictionary = None };
+          chunks = record {
+            pages = pages;
+            decoder = read_dict;
+            size = chunk_size;
+            waiting = [];
+            remaining = num_rows;
+            dictionary = None;
+          };
         }) }
     {
         let decoder = KeyDecoder::new(read_dict);
@@ -126,7 +133,8 @@ impl<K: StoredKey, R: ReadDict + Drop, I: Pages> DictIter<K, R, I> {
         ensures given { let decoding = λ (reader : R). keys_decoding (R.entries reader) K.key_count in
             let left = keyed_left decoding I.to_come I.causes I.row_count I.lent_count in
             GivesColumn array_type named_cells
-            (left self.old.data_type self.old.chunks) result (left self.new.data_type self.new.chunks) steps.old steps.new }
+            (left self.old.data_type self.old.chunks) result
+            (left self.new.data_type self.new.chunks) steps.old steps.new }
         ensures entries { IfGiven result (λ array. self.new.chunks.dictionary ≡ Some array.entries) }
         ensures read_dict { self.new.chunks.decoder ≡ self.old.chunks.decoder }
         ensures data_type { self.new.data_type ≡ self.old.data_type }

@@ -145,12 +145,20 @@ impl<K: StoredKey, V: IntoEntries + IntoColumn + Drop, I: Pages> DictIter<K, Ent
         ensures ok { let fits = HoldsEntries (V.is_type values) K.key_type data_type in
             IfOk result (λ _. IsChunkSize chunk_size × fits) }
         ensures err { let fits = HoldsEntries (V.is_type values) K.key_type data_type in
-            IfErr result (λ e. IsWantOfMemory e ⊎ (IsTrue (is_invalid_argument e) × (IsChunkSize chunk_size → fits → ⊥))) }
+            IfErr result (λ e. IsWantOfMemory e
+            ⊎ (IsTrue (is_invalid_argument e) × (IsChunkSize chunk_size → fits → ⊥))) }
         ensures values { IfOk result (λ iter. iter.chunks.decoder.values ≡ values) }
         ensures entries { IfOk result (λ iter. entry_type data_type ≡ Some iter.chunks.decoder.data_type) }
         ensures iter { IfOk result (λ iter. iter ≡ record {
           data_type = data_type;
-          chunks = record { pages = pages; decoder = iter.chunks.decoder; size = chunk_size; waiting = []; remaining = num_rows; dictionary = None };
+          chunks = record {
+            pages = pages;
+            decoder = iter.chunks.decoder;
+            size = chunk_size;
+            waiting = [];
+            remaining = num_rows;
+            dictionary = None;
+          };
         }) }
     {
         let Some(value_type) = entries_type(&data_type, K::key_type()) else {

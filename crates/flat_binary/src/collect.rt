@@ -23,7 +23,8 @@ pub fn collect_arrays<A: ColumnArrays, L: Ledger>(
     steps: &mut Steps<L>,
 ) -> Result<VecDeque<Array>, Error>
     requires size { IsChunkSize (A.left arrays.old).size }
-    ensures typed { IfOk result (λ found. All (λ array. data_type_of array ≡ (A.left arrays.old).data_type) found.items) }
+    ensures typed { IfOk result (λ found.
+        All (λ array. data_type_of array ≡ (A.left arrays.old).data_type) found.items) }
     ensures chunks { IfOk result (λ found. let left = A.left arrays.old in
         map (λ array. map Given (cells array)) found.items ≡ cut left.size (wanted left)) }
     ensures fits { IfOk result (λ found. let most = (A.left arrays.old).decoding.most_bytes in
@@ -33,8 +34,10 @@ pub fn collect_arrays<A: ColumnArrays, L: Ledger>(
     ensures later { steps.old ≤ steps.new }
     ensures lent { let left = A.left arrays.old in
         let pages = pages_wanted left.decoding.entries left.decoding.outcomes in
-        OnOk result (steps.new ≡ steps.old + length (pages left.standing.dictionary left.standing.remaining left.pages)) }
-    ensures count { OnOk result ((A.left arrays.new).lent ≡ lent_behind (A.left arrays.old).lent (steps.new - steps.old)) }
+        OnOk result (steps.new ≡ steps.old
+        + length (pages left.standing.dictionary left.standing.remaining left.pages)) }
+    ensures count { OnOk result ((A.left arrays.new).lent
+        ≡ lent_behind (A.left arrays.old).lent (steps.new - steps.old)) }
 {
     let mut found = VecDeque::new(alloc);
     while let Some(array) = arrays.next_counted(steps) {

@@ -311,7 +311,8 @@ fn collect_fixed<I: Pages, L: Ledger>(
     num_rows: usize,
     steps: &mut Steps<L>,
 ) -> Result<(VecDeque<Array>, usize), Error>
-    requires typed { DataPagesAre (λ page. page.type.physical_type ≡ (FixedLenByteArray length)) (I.to_come pages) }
+    requires typed { DataPagesAre (λ page. page.type.physical_type ≡ (FixedLenByteArray length))
+        (I.to_come pages) }
     requires size { IsChunkSize chunk_size }
     requires fresh { I.lent_count pages ≡ 0 }
     ensures collects { IfSome (from_fixed length (out-DataType data_type)) (λ rule.

@@ -30,7 +30,8 @@ pub(crate) fn decoded_arrays<I: Pages, V: IntoArray + Drop>(
     ensures left { IfOk result (λ arrays.
         let supply = supply_of I.to_come I.causes I.row_count I.lent_count pages in
         let decoding = decoding_by (V.most_bytes values) (V.rule values) (V.physical values) in
-        flat_left V.most_bytes V.rule V.physical I.to_come I.causes I.row_count I.lent_count arrays.data_type arrays.chunks
+        flat_left V.most_bytes V.rule V.physical I.to_come I.causes I.row_count I.lent_count arrays.data_type
+        arrays.chunks
         ≡ decoded_left decoding data_type chunk_size num_rows supply) }
     ensures size { IfOk result (λ _. IsChunkSize chunk_size) }
     ensures err { IfErr result (λ e. IsTrue (is_invalid_argument e) × (IsChunkSize chunk_size → ⊥)) }

@@ -44,7 +44,8 @@ impl<O: Offset> JoinedStrings<O> {
         ensures ok { OnOk result (self.new ≡ self.old ++ string.now ∷ []) }
         ensures fits { OnOk result (sum_by length self.old + length string.now ≤ O.greatest) }
         ensures err { let sum = sum_by length self.old + length string.now in
-            IfErr result (λ e. (self.new ≡ self.old) × (IsWantOfMemory e ⊎ ((e ≡ Error.Overflow) × (O.greatest < sum)))) }
+            IfErr result (λ e. (self.new ≡ self.old)
+            × (IsWantOfMemory e ⊎ ((e ≡ Error.Overflow) × (O.greatest < sum)))) }
     {
         let held = self.values.len();
         self.values.extend_from_slice(string)?;

@@ -71,8 +71,20 @@ impl<I: Pages> FlatIter<I, TruthValues> {
     ) -> Result<Self, Error>
         requires takes { DataPagesAre (λ page. page.type.physical_type ≡ Boolean) (I.to_come iter) }
         ensures ok { IfOk result (λ _. IsChunkSize chunk_size × IsTrue (is_boolean data_type)) }
-        ensures err { IfErr result (λ e. IsTrue (is_invalid_argument e) × (IsChunkSize chunk_size → IsTrue (is_boolean data_type) → ⊥)) }
-        ensures iter { IfOk result (λ arrays. arrays ≡ record { data_type = data_type; chunks = record { pages = iter; decoder = record { values = record {} }; size = chunk_size; waiting = []; remaining = num_rows; dictionary = None } }) }
+        ensures err { IfErr result (λ e. IsTrue (is_invalid_argument e)
+            × (IsChunkSize chunk_size → IsTrue (is_boolean data_type) → ⊥)) }
+        ensures iter { IfOk result (λ arrays.
+            arrays ≡ record {
+              data_type = data_type;
+              chunks = record {
+                pages = iter;
+                decoder = record { values = record {} };
+                size = chunk_size;
+                waiting = [];
+                remaining = num_rows;
+                dictionary = None;
+              };
+            }) }
     {
         Self::of_values(alloc, iter, TruthValues, data_type, num_rows, chunk_size)
     }

@@ -13,7 +13,8 @@ pub(crate) fn extend_plain<P: ParquetNativeType, T: NativeType, C: ConvertAll<P,
     rule: C,
     pieces: &[P::Bytes],
 ) -> Result<(), AllocError>
-    ensures { OnOk result (Adds T.cell values.old.items values.new.items (map (λ piece. stored_outcome (C.rule rule) (P.plain piece)) pieces.now)) }
+    ensures { OnOk result (Adds T.cell values.old.items values.new.items
+        (map (λ piece. stored_outcome (C.rule rule) (P.plain piece)) pieces.now)) }
 {
     values.extend(
         pieces
@@ -28,7 +29,8 @@ pub(crate) fn extend_deltas<P: ParquetNativeType, T: NativeType, C: ConvertAll<P
     rule: C,
     numbers: &[i64],
 ) -> Result<(), AllocError>
-    ensures { OnOk result (Adds T.cell values.old.items values.new.items (map (λ number. stored_outcome (C.rule rule) (P.delta number)) numbers.now)) }
+    ensures { OnOk result (Adds T.cell values.old.items values.new.items
+        (map (λ number. stored_outcome (C.rule rule) (P.delta number)) numbers.now)) }
 {
     values.extend(
         numbers

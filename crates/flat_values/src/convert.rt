@@ -18,12 +18,15 @@ pub trait Convert<P: ParquetNativeType, T: NativeType>: Copy {
 
     fn convert(&self, x: P) -> Result<T, Error>
         ensures item { IfOk result (λ y. convert (rule self.now) (P.stored x) ≡ Value (T.cell y)) }
-        ensures refused { IfErr result (λ e. (e ≡ Error.Overflow) × (convert (rule self.now) (P.stored x) ≡ NotInRange)) };
+        ensures refused { IfErr result
+            (λ e. (e ≡ Error.Overflow) × (convert (rule self.now) (P.stored x) ≡ NotInRange)) };
 
     /// Plain values converted, behind the numbers that are there.
     fn extend_plain(&self, values: &mut Vec<T>, pieces: &[P::Bytes]) -> Result<(), Error>
-        ensures added { OnOk result (Adds T.cell values.old.items values.new.items (map (λ piece. stored_outcome (rule self.now) (P.plain piece)) pieces.now)) }
-        ensures cause { ComesOf result (causes_in (map (λ piece. stored_outcome (rule self.now) (P.plain piece)) pieces.now)) }
+        ensures added { OnOk result (Adds T.cell values.old.items values.new.items
+            (map (λ piece. stored_outcome (rule self.now) (P.plain piece)) pieces.now)) }
+        ensures cause { ComesOf result
+            (causes_in (map (λ piece. stored_outcome (rule self.now) (P.plain piece)) pieces.now)) }
     {
         values.reserve(pieces.len())?;
         for piece in pieces {
@@ -34,8 +37,10 @@ pub trait Convert<P: ParquetNativeType, T: NativeType>: Copy {
 
     /// Values by packed deltas converted, behind the numbers that are there.
     fn extend_deltas(&self, values: &mut Vec<T>, numbers: &[i64]) -> Result<(), Error>
-        ensures added { OnOk result (Adds T.cell values.old.items values.new.items (map (λ number. stored_outcome (rule self.now) (P.delta number)) numbers.now)) }
-        ensures cause { ComesOf result (causes_in (map (λ number. stored_outcome (rule self.now) (P.delta number)) numbers.now)) }
+        ensures added { OnOk result (Adds T.cell values.old.items values.new.items
+            (map (λ number. stored_outcome (rule self.now) (P.delta number)) numbers.now)) }
+        ensures cause { ComesOf result
+            (causes_in (map (λ number. stored_outcome (rule self.now) (P.delta number)) numbers.now)) }
     {
         values.reserve(numbers.len())?;
         for number in numbers {

@@ -48,7 +48,8 @@ impl<T: NativeType> DecodedNumbers<T> {
     /// Appends so many nulls, which stand on a number.
     pub(crate) fn push_nulls_on(&mut self, count: usize, number: T) -> Result<(), Error>
         requires own { IsMaskFor self.old.values.items self.old.validity }
-        ensures cells { OnOk result (marked_cells T.cell self.new.values.items self.new.validity ≡ marked_cells T.cell self.old.values.items self.old.validity ++ replicate count Null) }
+        ensures cells { OnOk result (marked_cells T.cell self.new.values.items self.new.validity
+            ≡ marked_cells T.cell self.old.values.items self.old.validity ++ replicate count Null) }
         ensures own { OnOk result (IsMaskFor self.new.values.items self.new.validity) }
         ensures memory { IfErr result IsWantOfMemory }
     {
@@ -65,7 +66,8 @@ impl<T: NativeType + Default> DecodedNumbers<T> {
     /// Appends so many nulls, which stand on 0.
     pub(crate) fn push_nulls(&mut self, count: usize) -> Result<(), Error>
         requires own { IsMaskFor self.old.values.items self.old.validity }
-        ensures cells { OnOk result (marked_cells T.cell self.new.values.items self.new.validity ≡ marked_cells T.cell self.old.values.items self.old.validity ++ replicate count Null) }
+        ensures cells { OnOk result (marked_cells T.cell self.new.values.items self.new.validity
+            ≡ marked_cells T.cell self.old.values.items self.old.validity ++ replicate count Null) }
         ensures own { OnOk result (IsMaskFor self.new.values.items self.new.validity) }
         ensures memory { IfErr result IsWantOfMemory }
     {
@@ -77,7 +79,9 @@ impl<T: NativeType + Default> DecodedNumbers<T> {
     pub(crate) fn spread(&mut self, held: usize, word: ValidityWord) -> Result<(), Error>
         requires own { IsMaskFor (take held self.old.values.items) self.old.validity }
         requires many { length self.old.values.items ≡ held + present_count (word_places word) }
-        ensures cells { OnOk result (marked_cells T.cell self.new.values.items self.new.validity ≡ marked_cells T.cell (take held self.old.values.items) self.old.validity ++ map (cell_of T.cell) (along (word_steps word) (drop held self.old.values.items))) }
+        ensures cells { OnOk result (marked_cells T.cell self.new.values.items self.new.validity
+            ≡ marked_cells T.cell (take held self.old.values.items) self.old.validity
+            ++ map (cell_of T.cell) (along (word_steps word) (drop held self.old.values.items))) }
         ensures own { OnOk result (IsMaskFor self.new.values.items self.new.validity) }
         ensures memory { IfErr result IsWantOfMemory }
     {
@@ -90,7 +94,8 @@ impl<T: NativeType> DecodedNumbers<T> {
     /// The array of these numbers, where the type stores them.
     pub fn into_array(self, data_type: DataType) -> Result<PrimitiveArray<T>, Error>
         requires { IsMaskFor self.values.items self.validity }
-        ensures array { IfOk result (λ array. array ≡ record { data_type = data_type; items = marked self.values.items self.validity }) }
+        ensures array { IfOk result (λ array.
+            array ≡ record { data_type = data_type; items = marked self.values.items self.validity }) }
         ensures ok { IfOk result (λ _. IsTrue (T.stores data_type)) }
         ensures err { IfErr result (λ e. IsTrue (is_invalid_argument e) × (IsTrue (T.stores data_type) → ⊥)) }
     {
@@ -101,7 +106,8 @@ impl<T: NativeType> DecodedNumbers<T> {
     /// The array of these numbers, where the type stores them, still being made.
     pub fn into_mutable(self, data_type: DataType) -> Result<MutablePrimitiveArray<T>, Error>
         requires { IsMaskFor self.values.items self.validity }
-        ensures array { IfOk result (λ array. array ≡ record { data_type = data_type; items = marked self.values.items self.validity }) }
+        ensures array { IfOk result (λ array.
+            array ≡ record { data_type = data_type; items = marked self.values.items self.validity }) }
         ensures ok { IfOk result (λ _. IsTrue (T.stores data_type)) }
         ensures err { IfErr result (λ e. IsTrue (is_invalid_argument e) × (IsTrue (T.stores data_type) → ⊥)) }
     {

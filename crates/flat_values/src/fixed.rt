@@ -43,9 +43,11 @@ impl DecodedFixed {
     /// The array of these byte strings, where the type is one of their size.
     pub fn into_array(self, data_type: DataType) -> Result<FixedSizeBinaryArray, Error>
         requires { IsMaskFor self.values.items self.validity }
-        ensures array { IfOk result (λ array. array ≡ record { data_type = data_type; items = marked self.values.items self.validity }) }
+        ensures array { IfOk result (λ array.
+            array ≡ record { data_type = data_type; items = marked self.values.items self.validity }) }
         ensures ok { IfOk result (λ _. fixed_size data_type ≡ self.values.size) }
-        ensures err { IfErr result (λ e. IsTrue (is_invalid_argument e) × (fixed_size data_type ≡ self.values.size → ⊥)) }
+        ensures err { IfErr result (λ e. IsTrue (is_invalid_argument e)
+            × (fixed_size data_type ≡ self.values.size → ⊥)) }
     {
         let DecodedFixed { values, validity } = self;
         if !is_of_size(&data_type, values.size()) {
@@ -92,10 +94,12 @@ pub(crate) fn open_plain(
     count: usize,
     part: Part,
 ) -> Result<PlainFixed, Error>
-    ensures values { IfOk result (λ place. plain_fixed size bytes.now count ≡ Some (map (bytes_in bytes.now) (fixed_values place bytes.now))) }
+    ensures values { IfOk result (λ place.
+        plain_fixed size bytes.now count ≡ Some (map (bytes_in bytes.now) (fixed_values place bytes.now))) }
     ensures among { IfOk result (λ place. IsSome (fixed_left place bytes.now) × (value_size place ≡ size)) }
     ensures counted { IfOk result (λ place. length (fixed_values place bytes.now) ≡ count) }
-    ensures refused { IfErr result (λ e. (cause_of e ≡ Some ExternalFormat) × (plain_fixed size bytes.now count ≡ None)) }
+    ensures refused { IfErr result
+        (λ e. (cause_of e ≡ Some ExternalFormat) × (plain_fixed size bytes.now count ≡ None)) }
 {
     match PlainFixed::try_new(bytes, size, count) {
         Ok(place) => Ok(place),
@@ -113,8 +117,13 @@ fn take_plain(
     requires spelled { IsSome (fixed_left place bytes.now) }
     requires size { value_size place ≡ items.old.size }
     requires some { 0 < items.old.size }
-    ensures added { OnOk result (items.new ≡ record items.old { items = items.old.items ++ map (bytes_in bytes.now) (take count (fixed_values place bytes.now)) }) }
-    ensures rest { IfOk result (λ new. fixed_left new bytes.now ≡ Some (drop count (fixed_values place bytes.now))) }
+    ensures added { OnOk result (items.new
+        ≡ record items.old {
+          items = items.old.items
+              ++ map (bytes_in bytes.now) (take count (fixed_values place bytes.now));
+        }) }
+    ensures rest { IfOk result (λ new.
+        fixed_left new bytes.now ≡ Some (drop count (fixed_values place bytes.now))) }
     ensures size { IfOk result (λ new. value_size new ≡ value_size place) }
     ensures memory { IfErr result IsWantOfMemory }
 {
@@ -131,7 +140,8 @@ fn entry_count(dict: Option<&FixedSizeBinary>) -> Option<usize>
 
 /// The entry that a key names, if there is one.
 fn named<'a>(entries: Option<&'a FixedSizeBinary>, key: u32) -> Option<&'a [u8]>
-    ensures entry { entry_outcome (entry_cells (option_copied entries.entry)) key ≡ option_map_or (λ item. Given (Bytes item)) (option_copied result) (Refused (OutOfSpec ∷ [])) }
+    ensures entry { entry_outcome (entry_cells (option_copied entries.entry)) key
+        ≡ option_map_or (λ item. Given (Bytes item)) (option_copied result) (Refused (OutOfSpec ∷ [])) }
     ensures size { IfSome result (λ item. HasEntriesOf (length item.now) (option_copied entries.entry)) }
 {
     entries?.get(key as usize)
@@ -144,9 +154,11 @@ fn extend_named(
     keys: &[u32],
 ) -> Result<(), Error>
     requires { HasEntriesOf items.old.size (option_copied entries) }
-    ensures added { OnOk result (Adds Bytes items.old.items items.new.items (map (entry_outcome (entry_cells (option_copied entries.entry))) keys.now)) }
+    ensures added { OnOk result (Adds Bytes items.old.items items.new.items
+        (map (entry_outcome (entry_cells (option_copied entries.entry))) keys.now)) }
     ensures size { items.new.size ≡ items.old.size }
-    ensures cause { ComesOf result (causes_in (map (entry_outcome (entry_cells (option_copied entries.entry))) keys.now)) }
+    ensures cause { ComesOf result
+        (causes_in (map (entry_outcome (entry_cells (option_copied entries.entry))) keys.now)) }
 {
     for key in keys {
         let Some(item) = named(entries, *key) else {
@@ -167,11 +179,15 @@ fn take_named(
 ) -> Result<KeyPlace, Error>
     requires among { IsAmongKeys bytes.now place }
     requires size { HasEntriesOf items.old.size (option_copied entries) }
-    ensures added { OnOk result (Adds Bytes items.old.items items.new.items (take count (map (entry_outcome (entry_cells (option_copied entries.entry))) (keys place bytes.now)))) }
+    ensures added { OnOk result (Adds Bytes items.old.items items.new.items
+        (take count (map (entry_outcome (entry_cells (option_copied entries.entry)))
+        (keys place bytes.now)))) }
     ensures rest { IfOk result (λ new. keys new bytes.now ≡ drop count (keys place bytes.now)) }
     ensures among { IfOk result (IsAmongKeys bytes.now) }
     ensures size { items.new.size ≡ items.old.size }
-    ensures cause { ComesOf result (causes_in (take count (map (entry_outcome (entry_cells (option_copied entries.entry))) (keys place bytes.now)))) }
+    ensures cause { ComesOf result
+        (causes_in (take count (map (entry_outcome (entry_cells (option_copied entries.entry)))
+        (keys place bytes.now)))) }
 {
     let mut place = place;
     let mut left = count;
@@ -199,11 +215,16 @@ fn take_values(
     requires among { IsAmongFixed items.old.size bytes.now place }
     requires dict { HasEntriesOf items.old.size (option_copied dict) }
     requires some { 0 < items.old.size }
-    ensures added { OnOk result (Adds Bytes items.old.items items.new.items (take count (fixed_outcomes Keep (entry_cells (option_copied dict.entry)) bytes.now place))) }
-    ensures rest { IfOk result (λ new. fixed_outcomes Keep (entry_cells (option_copied dict.entry)) bytes.now new ≡ drop count (fixed_outcomes Keep (entry_cells (option_copied dict.entry)) bytes.now place)) }
+    ensures added { OnOk result (Adds Bytes items.old.items items.new.items
+        (take count (fixed_outcomes Keep (entry_cells (option_copied dict.entry)) bytes.now place))) }
+    ensures rest { IfOk result (λ new.
+        fixed_outcomes Keep (entry_cells (option_copied dict.entry)) bytes.now new
+        ≡ drop count (fixed_outcomes Keep (entry_cells (option_copied dict.entry)) bytes.now place)) }
     ensures among { IfOk result (IsAmongFixed items.old.size bytes.now) }
     ensures size { OnOk result (items.new.size ≡ items.old.size) }
-    ensures cause { ComesOf result (causes_in (take count (fixed_outcomes Keep (entry_cells (option_copied dict.entry)) bytes.now place))) }
+    ensures cause { ComesOf result
+        (causes_in (take count (fixed_outcomes Keep
+        (entry_cells (option_copied dict.entry)) bytes.now place))) }
 {
     match place {
         FixedPlace::Plain(place) => Ok(FixedPlace::Plain(take_plain(place, bytes, items, count)?)),
@@ -216,7 +237,9 @@ fn take_values(
 /// Passes over the next values, at most so many.
 pub(crate) fn skip_values(place: FixedPlace, bytes: &[u8], count: usize) -> FixedPlace
     requires { (size : ℕ) × IsAmongFixed size bytes.now place }
-    ensures rest { (rule : Conversion) (entries : Option (List Cell)) → fixed_outcomes rule entries bytes.now result ≡ drop count (fixed_outcomes rule entries bytes.now place) }
+    ensures rest { (rule : Conversion) (entries : Option (List Cell))
+        → fixed_outcomes rule entries bytes.now result
+        ≡ drop count (fixed_outcomes rule entries bytes.now place) }
     ensures among { (size : ℕ) → IsAmongFixed size bytes.now place → IsAmongFixed size bytes.now result }
 {
     match place {

@@ -37,7 +37,8 @@ fn extend_strings<T: NativeType, C: ConvertFixed<T>>(
     requires size { size ≡ C.string_size rule }
     requires some { 0 < size }
     requires whole { length bytes.now % size ≡ 0 }
-    ensures { OnOk result (Adds T.cell values.old.items values.new.items (map (λ value. stored_outcome (C.rule rule) (Octets value)) (pieces size bytes.now))) }
+    ensures { OnOk result (Adds T.cell values.old.items values.new.items
+        (map (λ value. stored_outcome (C.rule rule) (Octets value)) (pieces size bytes.now))) }
 {
     values.extend(
         bytes
@@ -56,8 +57,11 @@ fn take_plain<T: NativeType, C: ConvertFixed<T>>(
 ) -> Result<PlainFixed, Error>
     requires spelled { IsSome (fixed_left place bytes.now) }
     requires size { value_size place ≡ C.string_size rule }
-    ensures added { OnOk result (Adds T.cell values.old.items values.new.items (map (λ value. stored_outcome (C.rule rule) (Octets value)) (map (bytes_in bytes.now) (take count (fixed_values place bytes.now))))) }
-    ensures rest { IfOk result (λ new. fixed_left new bytes.now ≡ Some (drop count (fixed_values place bytes.now))) }
+    ensures added { OnOk result (Adds T.cell values.old.items values.new.items
+        (map (λ value. stored_outcome (C.rule rule) (Octets value))
+        (map (bytes_in bytes.now) (take count (fixed_values place bytes.now))))) }
+    ensures rest { IfOk result (λ new.
+        fixed_left new bytes.now ≡ Some (drop count (fixed_values place bytes.now))) }
     ensures size { IfOk result (λ new. value_size new ≡ value_size place) }
     ensures memory { IfErr result IsWantOfMemory }
 {
@@ -77,10 +81,15 @@ fn take_values<T: NativeType, C: ConvertFixed<T>>(
     count: usize,
 ) -> Result<FixedPlace, Error>
     requires { IsAmongFixed (C.string_size rule) bytes.now place }
-    ensures added { OnOk result (Adds T.cell values.old.items values.new.items (take count (fixed_outcomes (C.rule rule) (Some (map T.cell entries.now)) bytes.now place))) }
-    ensures rest { IfOk result (λ new. fixed_outcomes (C.rule rule) (Some (map T.cell entries.now)) bytes.now new ≡ drop count (fixed_outcomes (C.rule rule) (Some (map T.cell entries.now)) bytes.now place)) }
+    ensures added { OnOk result (Adds T.cell values.old.items values.new.items
+        (take count (fixed_outcomes (C.rule rule) (Some (map T.cell entries.now)) bytes.now place))) }
+    ensures rest { IfOk result (λ new.
+        fixed_outcomes (C.rule rule) (Some (map T.cell entries.now)) bytes.now new
+        ≡ drop count (fixed_outcomes (C.rule rule) (Some (map T.cell entries.now)) bytes.now place)) }
     ensures among { IfOk result (IsAmongFixed (C.string_size rule) bytes.now) }
-    ensures cause { ComesOf result (causes_in (take count (fixed_outcomes (C.rule rule) (Some (map T.cell entries.now)) bytes.now place))) }
+    ensures cause { ComesOf result
+        (causes_in (take count (fixed_outcomes (C.rule rule)
+        (Some (map T.cell entries.now)) bytes.now place))) }
 {
     match place {
         FixedPlace::Plain(place) => {

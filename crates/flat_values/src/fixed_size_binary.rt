@@ -106,7 +106,8 @@ impl FixedSizeBinary {
     /// The items of plain fixed bytes, in one copy.
     pub fn extend_from_plain(&mut self, bytes: &[u8]) -> Result<(), Error>
         requires { length bytes.now % self.old.size ≡ 0 }
-        ensures ok { OnOk result (self.new ≡ record self.old { items = self.old.items ++ pieces self.old.size bytes.now }) }
+        ensures ok { OnOk result (self.new
+            ≡ record self.old { items = self.old.items ++ pieces self.old.size bytes.now }) }
         ensures err { IfErr result (λ e. IsWantOfMemory e × (self.new ≡ self.old)) }
     {
         self.values.extend_from_slice(bytes)?;
@@ -115,7 +116,8 @@ impl FixedSizeBinary {
 
     /// An item of zero bytes, which stands where there is no value.
     pub fn push_null(&mut self) -> Result<(), Error>
-        ensures ok { OnOk result (self.new ≡ record self.old { items = self.old.items ++ replicate self.old.size 0 ∷ [] }) }
+        ensures ok { OnOk result (self.new
+            ≡ record self.old { items = self.old.items ++ replicate self.old.size 0 ∷ [] }) }
         ensures err { IfErr result (λ e. IsWantOfMemory e × (self.new ≡ self.old)) }
     {
         self.extend_constant(1)
@@ -123,7 +125,11 @@ impl FixedSizeBinary {
 
     /// So many items of zero bytes.
     pub fn extend_constant(&mut self, additional: usize) -> Result<(), Error>
-        ensures ok { OnOk result (self.new ≡ record self.old { items = self.old.items ++ replicate additional (replicate self.old.size 0) }) }
+        ensures ok { OnOk result (self.new
+            ≡ record self.old {
+              items = self.old.items
+                  ++ replicate additional (replicate self.old.size 0);
+            }) }
         ensures err { IfErr result (λ e. IsWantOfMemory e × (self.new ≡ self.old)) }
     {
         let bytes = length_with(self.values.len(), additional, self.size)?;
@@ -136,7 +142,8 @@ impl FixedSizeBinary {
     /// The same item so many times.
     pub fn extend_repeated(&mut self, additional: usize, value: &[u8]) -> Result<(), Error>
         requires { length value.now ≡ self.old.size }
-        ensures ok { OnOk result (self.new ≡ record self.old { items = self.old.items ++ replicate additional value.now }) }
+        ensures ok { OnOk result (self.new
+            ≡ record self.old { items = self.old.items ++ replicate additional value.now }) }
         ensures err { IfErr result (λ e. IsWantOfMemory e × (self.new ≡ self.old)) }
     {
         repeat(&mut self.values, value, additional)?;
@@ -187,7 +194,8 @@ impl<'a> Pushable<&'a [u8]> for FixedSizeBinary {
     }
 
     fn push_null(&mut self) -> Result<(), Error>
-        ensures items { GrowsByBlank (λ item. item ≡ replicate self.old.size 0) self.old.items self.new.items result }
+        ensures items { GrowsByBlank (λ item. item ≡ replicate self.old.size 0) self.old.items self.new.items
+            result }
         ensures shape { self.new.size ≡ self.old.size }
     {
         FixedSizeBinary::push_null(self)
@@ -269,9 +277,21 @@ impl<I: Pages> FlatIter<I, FixedValues> {
     ) -> Result<Self, Error>
         requires takes { AreOfSize (fixed_size data_type) (I.to_come iter) }
         ensures ok { IfOk result (λ _. IsChunkSize chunk_size × (0 < fixed_size data_type)) }
-        ensures err { IfErr result (λ e. IsTrue (is_invalid_argument e) × (IsChunkSize chunk_size → 0 < fixed_size data_type → ⊥)) }
+        ensures err { IfErr result (λ e. IsTrue (is_invalid_argument e)
+            × (IsChunkSize chunk_size → 0 < fixed_size data_type → ⊥)) }
         ensures values { IfOk result (λ arrays. arrays.chunks.decoder.values.size ≡ fixed_size data_type) }
-        ensures iter { IfOk result (λ arrays. arrays ≡ record { data_type = data_type; chunks = record { pages = iter; decoder = arrays.chunks.decoder; size = chunk_size; waiting = []; remaining = num_rows; dictionary = None } }) }
+        ensures iter { IfOk result (λ arrays.
+            arrays ≡ record {
+              data_type = data_type;
+              chunks = record {
+                pages = iter;
+                decoder = arrays.chunks.decoder;
+                size = chunk_size;
+                waiting = [];
+                remaining = num_rows;
+                dictionary = None;
+              };
+            }) }
     {
         let size = match &data_type {
             DataType::FixedSizeBinary(size) if *size > 0 => *size,

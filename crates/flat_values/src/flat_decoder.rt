@@ -38,14 +38,16 @@ fn take_values<V: Values>(
     requires over { IfSome place.old (V.is_over values.now bytes.now) }
     requires own_dict { IfSome (option_copied dict) (V.is_own_dict values.now) }
     requires own { V.is_own values.now decoded.old }
-    ensures cells { let found = values_left (V.left values.now (option_copied dict.entry) bytes.now) place.old in
+    ensures cells { let found = values_left
+        (V.left values.now (option_copied dict.entry) bytes.now) place.old in
         let shown = V.Decoded.shown in
         OnOk result (map Given (shown decoded.new) ≡ map Given (shown decoded.old) ++ take count found) }
     ensures left { let found = values_left (V.left values.now (option_copied dict.entry) bytes.now) in
         OnOk result (found place.new ≡ drop count (found place.old)) }
     ensures over { OnOk result (IfSome place.new (V.is_over values.now bytes.now)) }
     ensures own { OnOk result (V.is_own values.now decoded.new) }
-    ensures cause { let found = values_left (V.left values.now (option_copied dict.entry) bytes.now) place.old in
+    ensures cause { let found = values_left
+        (V.left values.now (option_copied dict.entry) bytes.now) place.old in
         let rows = map Given (V.Decoded.shown decoded.old) ++ take count found in
         IfErr result (IsCausedByChunks (V.most_bytes values.now) None rows) }
 {
@@ -79,14 +81,17 @@ fn add_run<V: Values>(
     requires over { IfSome place.old (V.is_over values.now bytes.now) }
     requires own_dict { IfSome (option_copied dict) (V.is_own_dict values.now) }
     requires own { V.is_own values.now decoded.old }
-    ensures cells { let found = values_left (V.left values.now (option_copied dict.entry) bytes.now) place.old in
+    ensures cells { let found = values_left
+        (V.left values.now (option_copied dict.entry) bytes.now) place.old in
         let shown = V.Decoded.shown in
-        OnOk result (map Given (shown decoded.new) ≡ map Given (shown decoded.old) ++ run_outcomes run found) }
+        OnOk result (map Given (shown decoded.new)
+        ≡ map Given (shown decoded.old) ++ run_outcomes run found) }
     ensures left { let found = values_left (V.left values.now (option_copied dict.entry) bytes.now) in
         OnOk result (found place.new ≡ behind_run run (found place.old)) }
     ensures over { OnOk result (IfSome place.new (V.is_over values.now bytes.now)) }
     ensures own { OnOk result (V.is_own values.now decoded.new) }
-    ensures cause { let found = values_left (V.left values.now (option_copied dict.entry) bytes.now) place.old in
+    ensures cause { let found = values_left
+        (V.left values.now (option_copied dict.entry) bytes.now) place.old in
         let rows = map Given (V.Decoded.shown decoded.old) ++ run_outcomes run found in
         IfErr result (IsCausedByChunks (V.most_bytes values.now) None rows) }
 {
@@ -114,14 +119,17 @@ fn add_word<V: Values>(
     requires own { V.is_own values.now decoded.old }
     requires enough { let found = values_left (V.left values.now (option_copied dict) bytes.now) place.old in
         present_count (word_places word) ≤ length found }
-    ensures cells { let found = values_left (V.left values.now (option_copied dict.entry) bytes.now) place.old in
+    ensures cells { let found = values_left
+        (V.left values.now (option_copied dict.entry) bytes.now) place.old in
         let shown = V.Decoded.shown in
-        OnOk result (map Given (shown decoded.new) ≡ map Given (shown decoded.old) ++ word_outcomes word found) }
+        OnOk result (map Given (shown decoded.new)
+        ≡ map Given (shown decoded.old) ++ word_outcomes word found) }
     ensures left { let found = values_left (V.left values.now (option_copied dict.entry) bytes.now) in
         OnOk result (found place.new ≡ behind_word word (found place.old)) }
     ensures over { OnOk result (IfSome place.new (V.is_over values.now bytes.now)) }
     ensures own { OnOk result (V.is_own values.now decoded.new) }
-    ensures cause { let found = values_left (V.left values.now (option_copied dict.entry) bytes.now) place.old in
+    ensures cause { let found = values_left
+        (V.left values.now (option_copied dict.entry) bytes.now) place.old in
         let rows = map Given (V.Decoded.shown decoded.old) ++ word_outcomes word found in
         IfErr result (IsCausedByChunks (V.most_bytes values.now) None rows) }
 {
@@ -145,14 +153,17 @@ fn add_part<V: Values>(
     requires own { V.is_own values.now decoded.old }
     requires enough { let found = values_left (V.left values.now (option_copied dict) bytes.now) place.old in
         stored_values (part_steps part) ≤ length found }
-    ensures cells { let found = values_left (V.left values.now (option_copied dict.entry) bytes.now) place.old in
+    ensures cells { let found = values_left
+        (V.left values.now (option_copied dict.entry) bytes.now) place.old in
         let shown = V.Decoded.shown in
-        OnOk result (map Given (shown decoded.new) ≡ map Given (shown decoded.old) ++ part_outcomes part found) }
+        OnOk result (map Given (shown decoded.new)
+        ≡ map Given (shown decoded.old) ++ part_outcomes part found) }
     ensures left { let found = values_left (V.left values.now (option_copied dict.entry) bytes.now) in
         OnOk result (found place.new ≡ behind_part part (found place.old)) }
     ensures over { OnOk result (IfSome place.new (V.is_over values.now bytes.now)) }
     ensures own { OnOk result (V.is_own values.now decoded.new) }
-    ensures cause { let found = values_left (V.left values.now (option_copied dict.entry) bytes.now) place.old in
+    ensures cause { let found = values_left
+        (V.left values.now (option_copied dict.entry) bytes.now) place.old in
         let rows = map Given (V.Decoded.shown decoded.old) ++ part_outcomes part found in
         IfErr result (IsCausedByChunks (V.most_bytes values.now) None rows) }
 {
@@ -231,10 +242,21 @@ fn open_values<V: ValueDecoder>(
 ) -> Result<Option<V::Place>, Error>
     requires carried { goes_with_by (as_encoding encoding) (V.physical decoder.now) ≡ true }
     requires own { IfSome (option_copied dict) (V.is_own_dict decoder.now) }
-    ensures values { IfOk result (λ values. unless_none count (value_outcomes (V.rule decoder.now) (V.physical decoder.now) (option_map (V.dict_shown decoder.now) (option_copied dict.entry)) (as_encoding encoding) bytes.now count) ≡ Some (values_left (V.left decoder.now (option_copied dict.entry) bytes.now) values)) }
+    ensures values { IfOk result (λ values.
+        unless_none count (value_outcomes (V.rule decoder.now) (V.physical decoder.now)
+        (option_map (V.dict_shown decoder.now) (option_copied dict.entry))
+        (as_encoding encoding) bytes.now count)
+        ≡ Some (values_left (V.left decoder.now (option_copied dict.entry) bytes.now) values)) }
     ensures over { IfOk result (λ values. IfSome values (V.is_over decoder.now bytes.now)) }
-    ensures ok { OnOk result (causes_unless_none count (value_causes (V.physical decoder.now) (option_map (λ dict. length (V.dict_shown decoder.now dict)) (option_copied dict.entry)) (as_encoding encoding) bytes.now count) ≡ []) }
-    ensures cause { IfErr result (λ e. IsOneOf (causes_unless_none count (value_causes (V.physical decoder.now) (option_map (λ dict. length (V.dict_shown decoder.now dict)) (option_copied dict.entry)) (as_encoding encoding) bytes.now count)) (cause_of e)) }
+    ensures ok { OnOk result (causes_unless_none count
+        (value_causes (V.physical decoder.now)
+        (option_map (λ dict. length (V.dict_shown decoder.now dict)) (option_copied dict.entry))
+        (as_encoding encoding) bytes.now count) ≡ []) }
+    ensures cause { IfErr result (λ e.
+        IsOneOf (causes_unless_none count
+        (value_causes (V.physical decoder.now)
+        (option_map (λ dict. length (V.dict_shown decoder.now dict)) (option_copied dict.entry))
+        (as_encoding encoding) bytes.now count)) (cause_of e)) }
 {
     if count == 0 {
         return Ok(None);
@@ -257,7 +279,8 @@ pub(crate) fn add_rows<V: Values>(
         IsStateOf (V.is_over values.now) left bytes.now walk.old place.old (data_content page.now) }
     requires own_dict { IfSome (option_copied dict) (V.is_own_dict values.now) }
     requires own { V.is_own values.now decoded.old }
-    ensures rows { let found = values_left (V.left values.now (option_copied dict.entry) bytes.now) place.old in
+    ensures rows { let found = values_left
+        (V.left values.now (option_copied dict.entry) bytes.now) place.old in
         let rows = given_along (filtered_steps walk.old (data_content page.now)) found in
         let shown = V.Decoded.shown in
         OnOk result (map Given (shown decoded.new) ≡ map Given (shown decoded.old) ++ take additional rows) }
@@ -266,9 +289,11 @@ pub(crate) fn add_rows<V: Values>(
         let after = given_along (filtered_steps walk.new (data_content page.now)) (found place.new) in
         OnOk result (after ≡ drop additional before) }
     ensures state { let left = V.left values.now (option_copied dict.entry) in
-        OnOk result (IsStateOf (V.is_over values.now) left bytes.now walk.new place.new (data_content page.now)) }
+        OnOk result (IsStateOf (V.is_over values.now) left bytes.now walk.new place.new
+        (data_content page.now)) }
     ensures own { OnOk result (V.is_own values.now decoded.new) }
-    ensures cause { let found = values_left (V.left values.now (option_copied dict.entry) bytes.now) place.old in
+    ensures cause { let found = values_left
+        (V.left values.now (option_copied dict.entry) bytes.now) place.old in
         let own = given_along (filtered_steps walk.old (data_content page.now)) found in
         let rows = map Given (V.Decoded.shown decoded.old) ++ take additional own in
         IfErr result (IsCausedByChunks (V.most_bytes values.now) None rows) }

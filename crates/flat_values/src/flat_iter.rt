@@ -55,8 +55,10 @@ fn read_array<I: Pages, V: IntoArray + Drop, L: Ledger>(
     steps: &mut Steps<L>,
 ) -> Option<Result<V::Array, Error>>
     requires fits { V.is_type chunks.old.decoder.values data_type.now }
-    ensures given { let left = flat_left V.most_bytes V.rule V.physical I.to_come I.causes I.row_count I.lent_count data_type.now in
-        GivesColumn V.array_type V.array_cells (left chunks.old) result (left chunks.new) steps.old steps.new }
+    ensures given { let left = flat_left V.most_bytes V.rule V.physical I.to_come I.causes I.row_count
+        I.lent_count data_type.now in
+        GivesColumn V.array_type V.array_cells (left chunks.old) result
+        (left chunks.new) steps.old steps.new }
     ensures decoder { chunks.new.decoder ≡ chunks.old.decoder }
 {
     match chunks.next_counted(steps)? {
@@ -101,10 +103,23 @@ impl<I: Pages, V: IntoArray + Drop> FlatIter<I, V> {
         num_rows: usize,
         chunk_size: Option<usize>,
     ) -> Result<Self, Error>
-        requires takes { DataPagesAre (λ page. page.type.physical_type ≡ V.physical values) (I.to_come pages) }
+        requires takes { DataPagesAre (λ page. page.type.physical_type ≡ V.physical values)
+            (I.to_come pages) }
         ensures ok { IfOk result (λ _. IsChunkSize chunk_size × V.is_type values data_type) }
-        ensures err { IfErr result (λ e. IsTrue (is_invalid_argument e) × (IsChunkSize chunk_size → V.is_type values data_type → ⊥)) }
-        ensures iter { IfOk result (λ iter. iter ≡ record { data_type = data_type; chunks = record { pages = pages; decoder = record { values = values }; size = chunk_size; waiting = []; remaining = num_rows; dictionary = None } }) }
+        ensures err { IfErr result (λ e. IsTrue (is_invalid_argument e)
+            × (IsChunkSize chunk_size → V.is_type values data_type → ⊥)) }
+        ensures iter { IfOk result (λ iter.
+            iter ≡ record {
+              data_type = data_type;
+              chunks = record {
+                pages = pages;
+                decoder = record { values = values };
+                size = chunk_size;
+                waiting = [];
+                remaining = num_rows;
+                dictionary = None;
+              };
+            }) }
     {
         if !values.fits(&data_type) {
             return Err(Error::InvalidArgumentError(Part::Request));
@@ -122,8 +137,10 @@ impl<I: Pages, V: IntoArray + Drop> FlatIter<I, V> {
         &mut self,
         steps: &mut Steps<L>,
     ) -> Option<Result<V::Array, Error>>
-        ensures given { let left = flat_left V.most_bytes V.rule V.physical I.to_come I.causes I.row_count I.lent_count self.old.data_type in
-            GivesColumn V.array_type V.array_cells (left self.old.chunks) result (left self.new.chunks) steps.old steps.new }
+        ensures given { let left = flat_left V.most_bytes V.rule V.physical I.to_come I.causes I.row_count
+            I.lent_count self.old.data_type in
+            GivesColumn V.array_type V.array_cells (left self.old.chunks) result
+            (left self.new.chunks) steps.old steps.new }
         ensures decoder { self.new.chunks.decoder ≡ self.old.chunks.decoder }
         ensures data_type { self.new.data_type ≡ self.old.data_type }
     {
@@ -146,7 +163,8 @@ fn next_alone<I: Pages, V: IntoArray + Drop, L: Ledger>(
     requires name { blank.name ≡ L.name }
     requires parts { blank.parts ≡ L.parts }
     requires whole { 0 < blank.parts }
-    ensures given { let left = flat_left V.most_bytes V.rule V.physical I.to_come I.causes I.row_count I.lent_count in
+    ensures given { let left = flat_left V.most_bytes V.rule V.physical I.to_come I.causes I.row_count
+        I.lent_count in
         GivesArray V.array_type V.array_cells
         (left arrays.old.data_type arrays.old.chunks) result (left arrays.new.data_type arrays.new.chunks) }
     ensures decoder { arrays.new.chunks.decoder ≡ arrays.old.chunks.decoder }

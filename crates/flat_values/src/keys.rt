@@ -29,8 +29,11 @@ impl KeyPlace {
     pub fn open(bytes: &[u8], count: usize, entries: Option<usize>) -> Result<Self, Error>
         ensures keys { IfOk result (λ place. dictionary_keys bytes.now count ≡ Some (keys place bytes.now)) }
         ensures among { IfOk result (IsAmongKeys bytes.now) }
-        ensures ok { OnOk result (option_map_or (key_causes None entries) (dictionary_keys bytes.now count) (ExternalFormat ∷ []) ≡ []) }
-        ensures cause { IfErr result (λ e. IsOneOf (option_map_or (key_causes None entries) (dictionary_keys bytes.now count) (ExternalFormat ∷ [])) (cause_of e)) }
+        ensures ok { OnOk result (option_map_or (key_causes None entries) (dictionary_keys bytes.now count)
+            (ExternalFormat ∷ []) ≡ []) }
+        ensures cause { IfErr result (λ e.
+            IsOneOf (option_map_or (key_causes None entries) (dictionary_keys bytes.now count)
+            (ExternalFormat ∷ [])) (cause_of e)) }
     {
         let damaged = Error::ExternalFormat(Part::Values);
         let Some((width, rest)) = bytes.split_first() else {
@@ -96,7 +99,8 @@ fn has_past(keys: &HybridRle, bytes: &[u8], entries: usize) -> bool
 fn next_past(keys: &mut HybridRle, bytes: &[u8], entries: usize) -> Option<bool>
     requires { IsSome (hybrid_left keys.old bytes.now) }
     ensures ended { IfNone result (hybrid_values keys.old bytes.now ≡ []) }
-    ensures passed { IfSome result (PassesKeys entries (hybrid_values keys.old bytes.now) (hybrid_values keys.new bytes.now)) }
+    ensures passed { IfSome result
+        (PassesKeys entries (hybrid_values keys.old bytes.now) (hybrid_values keys.new bytes.now)) }
     ensures spelled { IsSome (hybrid_left keys.new bytes.now) }
 {
     let mut ahead = *keys;
@@ -113,7 +117,8 @@ fn next_past(keys: &mut HybridRle, bytes: &[u8], entries: usize) -> Option<bool>
 fn chunk_has_past(keys: &mut HybridRle, bytes: &[u8], entries: usize) -> bool
     requires spelled { IsSome (hybrid_left keys.old bytes.now) }
     requires some { 0 < length (hybrid_values keys.old bytes.now) }
-    ensures passed { PassesKeys entries (hybrid_values keys.old bytes.now) (hybrid_values keys.new bytes.now) result }
+    ensures passed { PassesKeys entries (hybrid_values keys.old bytes.now)
+        (hybrid_values keys.new bytes.now) result }
     ensures spelled { IsSome (hybrid_left keys.new bytes.now) }
 {
     let mut chunk = [0u32; CHUNK];
@@ -152,7 +157,8 @@ fn extend_found<T: NativeType>(
     first: T,
     keys: &[u32],
 ) -> Result<(), AllocError>
-    ensures { OnOk result (Adds T.cell values.old.items values.new.items (map (λ key. Given (T.cell (slice_index_or entries.now key first))) keys.now)) }
+    ensures { OnOk result (Adds T.cell values.old.items values.new.items
+        (map (λ key. Given (T.cell (slice_index_or entries.now key first))) keys.now)) }
 {
     values.extend(
         keys.iter().map(move |key| match entries.get(*key as usize) {
@@ -168,8 +174,10 @@ pub(crate) fn extend_named<T: NativeType>(
     entries: &[T],
     keys: &[u32],
 ) -> Result<(), Error>
-    ensures added { OnOk result (Adds T.cell values.old.items values.new.items (map (entry_outcome (Some (map T.cell entries.now))) keys.now)) }
-    ensures cause { ComesOf result (causes_in (map (entry_outcome (Some (map T.cell entries.now))) keys.now)) }
+    ensures added { OnOk result (Adds T.cell values.old.items values.new.items
+        (map (entry_outcome (Some (map T.cell entries.now))) keys.now)) }
+    ensures cause { ComesOf result
+        (causes_in (map (entry_outcome (Some (map T.cell entries.now))) keys.now)) }
 {
     if slice_has_past(keys, entries.len()) {
         return Err(Error::OutOfSpec(Part::Dictionary));
@@ -190,10 +198,13 @@ pub(crate) fn take_named<T: NativeType>(
     count: usize,
 ) -> Result<KeyPlace, Error>
     requires { IsAmongKeys bytes.now place }
-    ensures added { OnOk result (Adds T.cell values.old.items values.new.items (take count (map (entry_outcome (Some (map T.cell entries.now))) (keys place bytes.now)))) }
+    ensures added { OnOk result (Adds T.cell values.old.items values.new.items
+        (take count (map (entry_outcome (Some (map T.cell entries.now))) (keys place bytes.now)))) }
     ensures rest { IfOk result (λ new. keys new bytes.now ≡ drop count (keys place bytes.now)) }
     ensures among { IfOk result (IsAmongKeys bytes.now) }
-    ensures cause { ComesOf result (causes_in (take count (map (entry_outcome (Some (map T.cell entries.now))) (keys place bytes.now)))) }
+    ensures cause { ComesOf result
+        (causes_in (take count (map (entry_outcome (Some (map T.cell entries.now)))
+        (keys place bytes.now)))) }
 {
     let mut place = place;
     let mut left = count;

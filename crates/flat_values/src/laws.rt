@@ -35,5 +35,6 @@ pub fn places_give_items()
 
 /// Chunks of nulls have as many rows as the pieces of a list that is cut.
 pub fn nulls_are_cut_like_rows<T>()
-    ensures { (size : Option ℕ) (rows : List T) → IsChunkSize size → map length (cut size rows) ≡ cut_rows size (length rows) }
+    ensures { (size : Option ℕ) (rows : List T) → IsChunkSize size
+        → map length (cut size rows) ≡ cut_rows size (length rows) }
 {}

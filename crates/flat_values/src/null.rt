@@ -38,7 +38,8 @@ pub fn iter_to_arrays<I: Pages>(
     chunk_size: Option<usize>,
     num_rows: usize,
 ) -> Result<NullIter, Error>
-    ensures nulls { IfOk result (λ nulls. nulls ≡ record { size = chunk_size; rows = min num_rows (I.row_count pages.now) }) }
+    ensures nulls { IfOk result (λ nulls.
+        nulls ≡ record { size = chunk_size; rows = min num_rows (I.row_count pages.now) }) }
     ensures ok { IfOk result (λ _. IsChunkSize chunk_size) }
     ensures err { IfErr result (λ e. IsTrue (is_invalid_argument e) × (IsChunkSize chunk_size → ⊥)) }
 {

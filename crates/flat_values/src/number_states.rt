@@ -24,10 +24,15 @@ fn open_values<P: ParquetNativeType>(
     bytes: &[u8],
     count: usize,
 ) -> Result<Option<PlainPlace>, Error>
-    ensures values { (rule : Conversion) → IfOk result (λ place. unless_none count (value_outcomes rule P.physical None Plain bytes.now count) ≡ Some (values_left (plain_outcomes rule P.physical bytes.now) place)) }
-    ensures over { IfOk result (λ place. IfSome place (λ place. IsSome (plain_values P.physical bytes.now place.count))) }
-    ensures ok { OnOk result (causes_unless_none count (value_causes P.physical None Plain bytes.now count) ≡ []) }
-    ensures cause { let causes = causes_unless_none count (value_causes P.physical None Plain bytes.now count) in
+    ensures values { (rule : Conversion)
+        → IfOk result (λ place. unless_none count (value_outcomes rule P.physical None Plain bytes.now count)
+        ≡ Some (values_left (plain_outcomes rule P.physical bytes.now) place)) }
+    ensures over { IfOk result (λ place.
+        IfSome place (λ place. IsSome (plain_values P.physical bytes.now place.count))) }
+    ensures ok { OnOk result (causes_unless_none count (value_causes P.physical None Plain bytes.now count)
+        ≡ []) }
+    ensures cause { let causes = causes_unless_none count
+        (value_causes P.physical None Plain bytes.now count) in
         IfErr result (λ e. IsOneOf causes (cause_of e)) }
 {
     if count == 0 {
@@ -38,10 +43,15 @@ fn open_values<P: ParquetNativeType>(
 
 /// Before the first of `count` keys, whatever entries they name. Where none is stored, the bytes are not looked at.
 fn open_keys(bytes: &[u8], count: usize) -> Result<Option<KeyPlace>, Error>
-    ensures values { (rule : Conversion) (type : PhysicalType) (entries : List Cell) → IfOk result (λ place. unless_none count (value_outcomes rule type (Some entries) Keys bytes.now count) ≡ Some (values_left (key_outcomes entries bytes.now) place)) }
+    ensures values { (rule : Conversion) (type : PhysicalType) (entries : List Cell)
+        → IfOk result (λ place. unless_none count
+        (value_outcomes rule type (Some entries) Keys bytes.now count)
+        ≡ Some (values_left (key_outcomes entries bytes.now) place)) }
     ensures over { IfOk result (λ place. IfSome place (IsAmongKeys bytes.now)) }
-    ensures ok { (type : PhysicalType) → OnOk result (causes_unless_none count (value_causes type None Keys bytes.now count) ≡ []) }
-    ensures cause { let causes = λ (type : PhysicalType). causes_unless_none count (value_causes type None Keys bytes.now count) in
+    ensures ok { (type : PhysicalType)
+        → OnOk result (causes_unless_none count (value_causes type None Keys bytes.now count) ≡ []) }
+    ensures cause { let causes = λ (type : PhysicalType). causes_unless_none count
+        (value_causes type None Keys bytes.now count) in
         (type : PhysicalType) → IfErr result (λ e. IsOneOf (causes type) (cause_of e)) }
 {
     if count == 0 {
@@ -60,7 +70,8 @@ impl FlatState<PlainPlace> {
         ensures read { OnOk result (read_encoding false (data_content page.now) ≡ Some Plain) }
         ensures refused { let causes = page_causes None false None (data_content page.now) in
             let is_read = read_encoding false (data_content page.now) ≡ Some Plain in
-            IfErr result (λ e. IsOneOf causes (cause_of e) ⊎ ((cause_of e ≡ Some NotYetImplemented) × (is_read → ⊥))) }
+            IfErr result (λ e. IsOneOf causes (cause_of e)
+            ⊎ ((cause_of e ≡ Some NotYetImplemented) × (is_read → ⊥))) }
     {
         if page_encoding(page, false) != Some(ValueEncoding::Plain) {
             return Err(Error::NotYetImplemented(Part::Header));
@@ -81,7 +92,8 @@ impl FlatState<KeyPlace> {
         ensures read { OnOk result (read_encoding true (data_content page.now) ≡ Some Keys) }
         ensures refused { let causes = page_causes None true None (data_content page.now) in
             let is_read = read_encoding true (data_content page.now) ≡ Some Keys in
-            IfErr result (λ e. IsOneOf causes (cause_of e) ⊎ ((cause_of e ≡ Some NotYetImplemented) × (is_read → ⊥))) }
+            IfErr result (λ e. IsOneOf causes (cause_of e)
+            ⊎ ((cause_of e ≡ Some NotYetImplemented) × (is_read → ⊥))) }
     {
         if page_encoding(page, true) != Some(ValueEncoding::Keys) {
             return Err(Error::NotYetImplemented(Part::Header));

@@ -47,10 +47,17 @@ fn take_values<P: ParquetNativeType, T: NativeType, C: Convert<P, T>>(
     count: usize,
 ) -> Result<(), Error>
     requires { IsAmongNumbers P.physical bytes.now place.old }
-    ensures added { OnOk result (Adds T.cell values.old.items values.new.items (take count (number_left (C.rule rule) P.physical P.delta (Some (map T.cell entries.now)) bytes.now place.old))) }
-    ensures rest { OnOk result (number_left (C.rule rule) P.physical P.delta (Some (map T.cell entries.now)) bytes.now place.new ≡ drop count (number_left (C.rule rule) P.physical P.delta (Some (map T.cell entries.now)) bytes.now place.old)) }
+    ensures added { OnOk result (Adds T.cell values.old.items values.new.items
+        (take count (number_left (C.rule rule) P.physical P.delta
+        (Some (map T.cell entries.now)) bytes.now place.old))) }
+    ensures rest { OnOk result (number_left (C.rule rule) P.physical P.delta
+        (Some (map T.cell entries.now)) bytes.now place.new
+        ≡ drop count (number_left (C.rule rule) P.physical P.delta
+        (Some (map T.cell entries.now)) bytes.now place.old)) }
     ensures among { OnOk result (IsAmongNumbers P.physical bytes.now place.new) }
-    ensures cause { ComesOf result (causes_in (take count (number_left (C.rule rule) P.physical P.delta (Some (map T.cell entries.now)) bytes.now place.old))) }
+    ensures cause { ComesOf result
+        (causes_in (take count (number_left (C.rule rule) P.physical P.delta
+        (Some (map T.cell entries.now)) bytes.now place.old))) }
 {
     match place {
         NumberPlace::Plain(plain) => {
@@ -71,7 +78,9 @@ fn take_values<P: ParquetNativeType, T: NativeType, C: Convert<P, T>>(
 /// Passes over the next `count` values, or over all that are left.
 fn skip_values<P: ParquetNativeType>(place: NumberPlace, bytes: &[u8], count: usize) -> NumberPlace
     requires { IsAmongNumbers P.physical bytes.now place }
-    ensures rest { (rule : Conversion) (entries : Option (List Cell)) → number_left rule P.physical P.delta entries bytes.now result ≡ drop count (number_left rule P.physical P.delta entries bytes.now place) }
+    ensures rest { (rule : Conversion) (entries : Option (List Cell))
+        → number_left rule P.physical P.delta entries bytes.now result
+        ≡ drop count (number_left rule P.physical P.delta entries bytes.now place) }
     ensures among { IsAmongNumbers P.physical bytes.now result }
 {
     match place {

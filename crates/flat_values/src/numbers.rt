@@ -54,10 +54,13 @@ pub(crate) fn open_plain<P: ParquetNativeType>(
     bytes: &[u8],
     count: usize,
 ) -> Result<PlainPlace, Error>
-    ensures values { IfOk result (λ place. plain_values P.physical bytes.now count ≡ Some (plain_left P.physical bytes.now place)) }
+    ensures values { IfOk result (λ place.
+        plain_values P.physical bytes.now count ≡ Some (plain_left P.physical bytes.now place)) }
     ensures among { IfOk result (λ place. IsSome (plain_values P.physical bytes.now place.count)) }
-    ensures ok { OnOk result (unless (is_some (plain_values P.physical bytes.now count)) ExternalFormat ≡ []) }
-    ensures cause { IfErr result (λ e. IsOneOf (unless (is_some (plain_values P.physical bytes.now count)) ExternalFormat) (cause_of e)) }
+    ensures ok { OnOk result (unless (is_some (plain_values P.physical bytes.now count)) ExternalFormat
+        ≡ []) }
+    ensures cause { IfErr result (λ e.
+        IsOneOf (unless (is_some (plain_values P.physical bytes.now count)) ExternalFormat) (cause_of e)) }
 {
     if P::is_plain(bytes, count) {
         Ok(PlainPlace { count, next: 0 })
@@ -75,10 +78,14 @@ pub(crate) fn take_plain<P: ParquetNativeType, T: NativeType, C: Convert<P, T>>(
     count: usize,
 ) -> Result<PlainPlace, Error>
     requires { IsSome (plain_values P.physical bytes.now place.count) }
-    ensures added { OnOk result (Adds T.cell values.old.items values.new.items (take count (map (stored_outcome (C.rule rule)) (plain_left P.physical bytes.now place)))) }
-    ensures rest { IfOk result (λ new. plain_left P.physical bytes.now new ≡ drop count (plain_left P.physical bytes.now place)) }
+    ensures added { OnOk result (Adds T.cell values.old.items values.new.items
+        (take count (map (stored_outcome (C.rule rule)) (plain_left P.physical bytes.now place)))) }
+    ensures rest { IfOk result (λ new.
+        plain_left P.physical bytes.now new ≡ drop count (plain_left P.physical bytes.now place)) }
     ensures among { IfOk result (λ new. new.count ≡ place.count) }
-    ensures cause { ComesOf result (causes_in (take count (map (stored_outcome (C.rule rule)) (plain_left P.physical bytes.now place)))) }
+    ensures cause { ComesOf result
+        (causes_in (take count (map (stored_outcome (C.rule rule))
+        (plain_left P.physical bytes.now place)))) }
 {
     let pieces = P::plain_pieces(bytes);
     let start = place.next.min(pieces.len());
@@ -94,7 +101,8 @@ pub(crate) fn skip_plain<P: ParquetNativeType>(
     count: usize,
 ) -> PlainPlace
     requires { IsSome (plain_values P.physical bytes.now place.count) }
-    ensures rest { plain_left P.physical bytes.now result ≡ drop count (plain_left P.physical bytes.now place) }
+    ensures rest { plain_left P.physical bytes.now result
+        ≡ drop count (plain_left P.physical bytes.now place) }
     ensures among { result.count ≡ place.count }
 {
     place.behind(P::plain_pieces(bytes).len(), count)
@@ -105,10 +113,13 @@ pub(crate) fn open_deltas<P: ParquetNativeType>(
     bytes: &[u8],
     count: usize,
 ) -> Result<DeltaBinary, Error>
-    ensures values { IfOk result (λ place. delta_values P.physical bytes.now count ≡ Some (map P.delta (numbers place bytes.now))) }
+    ensures values { IfOk result (λ place.
+        delta_values P.physical bytes.now count ≡ Some (map P.delta (numbers place bytes.now))) }
     ensures among { IfOk result (λ place. IsSome (delta_left place bytes.now)) }
-    ensures ok { OnOk result (unless (is_some (delta_values P.physical bytes.now count)) ExternalFormat ≡ []) }
-    ensures cause { IfErr result (λ e. IsOneOf (unless (is_some (delta_values P.physical bytes.now count)) ExternalFormat) (cause_of e)) }
+    ensures ok { OnOk result (unless (is_some (delta_values P.physical bytes.now count)) ExternalFormat
+        ≡ []) }
+    ensures cause { IfErr result (λ e.
+        IsOneOf (unless (is_some (delta_values P.physical bytes.now count)) ExternalFormat) (cause_of e)) }
 {
     match P::open_deltas(bytes, count) {
         Ok(place) => Ok(place),
@@ -125,10 +136,14 @@ pub(crate) fn take_deltas<P: ParquetNativeType, T: NativeType, C: Convert<P, T>>
     count: usize,
 ) -> Result<DeltaBinary, Error>
     requires { IsSome (delta_left place bytes.now) }
-    ensures added { OnOk result (Adds T.cell values.old.items values.new.items (take count (map (λ number. stored_outcome (C.rule rule) (P.delta number)) (numbers place bytes.now)))) }
+    ensures added { OnOk result (Adds T.cell values.old.items values.new.items
+        (take count (map (λ number. stored_outcome (C.rule rule) (P.delta number))
+        (numbers place bytes.now)))) }
     ensures rest { IfOk result (λ new. numbers new bytes.now ≡ drop count (numbers place bytes.now)) }
     ensures among { IfOk result (λ new. IsSome (delta_left new bytes.now)) }
-    ensures cause { ComesOf result (causes_in (take count (map (λ number. stored_outcome (C.rule rule) (P.delta number)) (numbers place bytes.now)))) }
+    ensures cause { ComesOf result
+        (causes_in (take count (map (λ number. stored_outcome (C.rule rule) (P.delta number))
+        (numbers place bytes.now)))) }
 {
     let mut place = place;
     let mut left = count;

@@ -24,7 +24,8 @@ pub fn carries(type_: &PrimitiveType, data_type: &DataType) -> bool
 /// Whether the ends that statistics tell of a column of this type may be read as that type, whatever the column's repetition is.
 #[tactic(auto, using(crate::proofs::PairLemmas::leaf_out))]
 pub fn carries_leaf(type_: &PrimitiveType, data_type: &DataType) -> bool
-    ensures { result ≡ is_some (leaf_conversion type_.now.physical_type type_.now.logical_type data_type.now) }
+    ensures { result ≡ is_some (leaf_conversion type_.now.physical_type type_.now.logical_type
+        data_type.now) }
 {
     match data_type {
         DataType::Null => true,
@@ -36,7 +37,8 @@ pub fn carries_leaf(type_: &PrimitiveType, data_type: &DataType) -> bool
 /// Whether the ends that a page index tells of a column of this type may be read as that type, whatever the column's repetition is.
 #[tactic(auto, using(crate::proofs::PairLemmas::page_out))]
 pub fn carries_page(type_: &PrimitiveType, data_type: &DataType) -> bool
-    ensures { result ≡ is_some (page_conversion type_.now.physical_type type_.now.logical_type data_type.now) }
+    ensures { result ≡ is_some (page_conversion type_.now.physical_type type_.now.logical_type
+        data_type.now) }
 {
     match data_type {
         DataType::Dictionary(_, values, _) => carries_page(type_, values.get()),
@@ -45,7 +47,8 @@ pub fn carries_page(type_: &PrimitiveType, data_type: &DataType) -> bool
 }
 
 fn carries_values(type_: &PrimitiveType, data_type: &DataType) -> bool
-    ensures { result ≡ is_some (from_physical type_.now.physical_type type_.now.logical_type (out-DataType data_type.now)) }
+    ensures { result ≡ is_some (from_physical type_.now.physical_type type_.now.logical_type
+        (out-DataType data_type.now)) }
 {
     match type_.physical_type {
         PhysicalType::Boolean => matches!(data_type, DataType::Boolean),
@@ -59,7 +62,8 @@ fn carries_values(type_: &PrimitiveType, data_type: &DataType) -> bool
 }
 
 fn carries_page_values(type_: &PrimitiveType, data_type: &DataType) -> bool
-    ensures { result ≡ is_some (page_from_physical type_.now.physical_type type_.now.logical_type (out-DataType data_type.now)) }
+    ensures { result ≡ is_some (page_from_physical type_.now.physical_type type_.now.logical_type
+        (out-DataType data_type.now)) }
 {
     match type_.physical_type {
         PhysicalType::Boolean => matches!(data_type, DataType::Boolean),
@@ -73,7 +77,8 @@ fn carries_page_values(type_: &PrimitiveType, data_type: &DataType) -> bool
 }
 
 fn carries_entries(type_: &PrimitiveType, data_type: &DataType) -> bool
-    ensures { result ≡ is_some (entry_from_physical type_.now.physical_type type_.now.logical_type (out-DataType data_type.now)) }
+    ensures { result ≡ is_some (entry_from_physical type_.now.physical_type type_.now.logical_type
+        (out-DataType data_type.now)) }
 {
     match type_.physical_type {
         PhysicalType::Int32 => takes_int32_entries(data_type),
@@ -104,7 +109,8 @@ fn takes_int32(data_type: &DataType) -> bool
 }
 
 fn takes_int64(data_type: &DataType) -> bool
-    ensures { (logical : Option PrimitiveLogicalType) → result ≡ is_some (from_int64 logical (out-DataType data_type.now)) }
+    ensures { (logical : Option PrimitiveLogicalType)
+        → result ≡ is_some (from_int64 logical (out-DataType data_type.now)) }
 {
     matches!(
         data_type,
@@ -180,7 +186,8 @@ fn takes_int32_entries(data_type: &DataType) -> bool
 }
 
 fn takes_int64_entries(data_type: &DataType) -> bool
-    ensures { (logical : Option PrimitiveLogicalType) → result ≡ is_some (entry_from_int64 logical (out-DataType data_type.now)) }
+    ensures { (logical : Option PrimitiveLogicalType)
+        → result ≡ is_some (entry_from_int64 logical (out-DataType data_type.now)) }
 {
     matches!(
         data_type,

@@ -64,9 +64,21 @@ impl<I: Pages, P: ParquetNativeType, T: NativeType + Default, C: Convert<P, T>> 
     ) -> Result<Self, Error>
         requires takes { DataPagesAre (λ page. page.type.physical_type ≡ P.physical) (I.to_come iter) }
         ensures ok { IfOk result (λ _. IsChunkSize chunk_size × IsTrue (T.stores data_type)) }
-        ensures err { IfErr result (λ e. IsTrue (is_invalid_argument e) × (IsChunkSize chunk_size → IsTrue (T.stores data_type) → ⊥)) }
+        ensures err { IfErr result (λ e. IsTrue (is_invalid_argument e)
+            × (IsChunkSize chunk_size → IsTrue (T.stores data_type) → ⊥)) }
         ensures rule { IfOk result (λ arrays. arrays.chunks.decoder.values.rule ≡ op) }
-        ensures iter { IfOk result (λ arrays. arrays ≡ record { data_type = data_type; chunks = record { pages = iter; decoder = arrays.chunks.decoder; size = chunk_size; waiting = []; remaining = num_rows; dictionary = None } }) }
+        ensures iter { IfOk result (λ arrays.
+            arrays ≡ record {
+              data_type = data_type;
+              chunks = record {
+                pages = iter;
+                decoder = arrays.chunks.decoder;
+                size = chunk_size;
+                waiting = [];
+                remaining = num_rows;
+                dictionary = None;
+              };
+            }) }
     {
         let values = NumberValues::new(op);
         Self::of_values(alloc, iter, values, data_type, num_rows, chunk_size)

@@ -12,7 +12,8 @@ use std::alloc::AllocError;
 /// the numbers does. A place is chosen and not a number, since a choice of numbers becomes a branch, which random bits mispredict.
 fn spread_rows<T: Copy>(numbers: &mut [T], word: ValidityWord, null: T)
     requires rows { length numbers.old ≡ word.rows }
-    requires nulls { drop (present_count (word_places word)) numbers.old ≡ replicate (word.rows - present_count (word_places word)) null }
+    requires nulls { drop (present_count (word_places word)) numbers.old
+        ≡ replicate (word.rows - present_count (word_places word)) null }
     ensures { numbers.new ≡ spread_over null (word_places word) numbers.old }
 {
     let mut stored = word.present();
@@ -34,7 +35,8 @@ pub(crate) fn spread_numbers<T: NativeType>(
     null: T,
 ) -> Result<(), AllocError>
     requires { length values.old.items ≡ held + present_count (word_places word) }
-    ensures { OnOk result (values.new.items ≡ take held values.old.items ++ spread_over null (word_places word) (drop held values.old.items)) }
+    ensures { OnOk result (values.new.items
+        ≡ take held values.old.items ++ spread_over null (word_places word) (drop held values.old.items)) }
 {
     let Some(all) = held.checked_add(word.rows) else {
         return Err(AllocError);

@@ -41,13 +41,15 @@ pub trait ParquetNativeType: Copy {
 
     /// Where some bytes are plain values, the bytes of each of them.
     fn plain_pieces(bytes: &[u8]) -> &[Self::Bytes]
-        ensures { (count : ℕ) (values : List Stored) → plain_values physical bytes.now count ≡ Some values → map plain result.now ≡ values };
+        ensures { (count : ℕ) (values : List Stored) → plain_values physical bytes.now count ≡ Some values
+            → map plain result.now ≡ values };
 
     /// Before the first of so many values by packed deltas.
     fn open_deltas(bytes: &[u8], count: usize) -> Result<DeltaBinary, Unspelled>
         ensures exact { is_ok result ≡ is_some (delta_values physical bytes.now count) }
         ensures spelled { IfOk result (λ deltas. IsSome (delta_left deltas bytes.now)) }
-        ensures values { IfOk result (λ deltas. delta_values physical bytes.now count ≡ Some (map delta (numbers deltas bytes.now))) };
+        ensures values { IfOk result (λ deltas.
+            delta_values physical bytes.now count ≡ Some (map delta (numbers deltas bytes.now))) };
 
     /// No number is stored behind lengths.
     ghost without_lengths: { goes_with DeltaLengths physical ≡ false };

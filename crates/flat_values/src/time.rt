@@ -18,7 +18,8 @@ const NANOSECONDS_PER_DAY: i128 = 86_400_000_000_000;
 pub fn int96_to_i64_ns(value: [u32; 3]) -> Result<i64, Error>
     ensures nanoseconds { IfOk result (λ n. n ≡ nanoseconds_in value) }
     ensures in_range { IfOk result (λ _. is_in (signed 64) (nanoseconds_in value) ≡ true) }
-    ensures refused { IfErr result (λ e. (e ≡ Error.Overflow) × (is_in (signed 64) (nanoseconds_in value) ≡ false)) }
+    ensures refused { IfErr result
+        (λ e. (e ≡ Error.Overflow) × (is_in (signed 64) (nanoseconds_in value) ≡ false)) }
 {
     let [low, high, day] = value;
     narrow(nanoseconds_since_1970(low, high, day))

@@ -35,9 +35,11 @@ impl DecodedTruths {
     /// The array of these values, where the type is one of truth values.
     pub fn into_array(self, data_type: DataType) -> Result<BooleanArray, Error>
         requires { IsMaskFor self.values self.validity }
-        ensures array { IfOk result (λ array. array ≡ record { data_type = data_type; items = marked self.values self.validity }) }
+        ensures array { IfOk result (λ array.
+            array ≡ record { data_type = data_type; items = marked self.values self.validity }) }
         ensures ok { IfOk result (λ _. IsTrue (is_boolean data_type)) }
-        ensures err { IfErr result (λ e. IsTrue (is_invalid_argument e) × (IsTrue (is_boolean data_type) → ⊥)) }
+        ensures err { IfErr result (λ e. IsTrue (is_invalid_argument e)
+            × (IsTrue (is_boolean data_type) → ⊥)) }
     {
         let DecodedTruths { values, validity } = self;
         BooleanArray::try_new(data_type, values.freeze(), freeze_mask(validity))
@@ -49,7 +51,8 @@ fn open_truths(bytes: &[u8], count: usize, part: Part) -> Result<PlainBits, Erro
     ensures values { IfOk result (λ values. plain_bits bytes.now count ≡ Some (truths values bytes.now)) }
     ensures over { IfOk result (λ values. IsSome (bits_left values bytes.now)) }
     ensures counted { IfOk result (λ values. length (truths values bytes.now) ≡ count) }
-    ensures refused { IfErr result (λ e. (cause_of e ≡ Some ExternalFormat) × (plain_bits bytes.now count ≡ None)) }
+    ensures refused { IfErr result
+        (λ e. (cause_of e ≡ Some ExternalFormat) × (plain_bits bytes.now count ≡ None)) }
 {
     match PlainBits::try_new(bytes, count) {
         Ok(values) => Ok(values),

@@ -48,20 +48,27 @@ pub trait ValueDecoder: Values {
         requires carried { goes_with (as_encoding encoding) (physical self.now) ≡ true }
         requires own { IfSome (option_copied dict) (Self.is_own_dict self.now) }
         ensures values { let entries = option_map (dict_shown self.now) (option_copied dict.entry) in
-            let outcomes = value_outcomes (rule self.now) (physical self.now) entries (as_encoding encoding) bytes.now count in
-            IfOk result (λ place. outcomes ≡ Some (Self.left self.now (option_copied dict.entry) bytes.now place)) }
+            let outcomes = value_outcomes (rule self.now) (physical self.now) entries
+            (as_encoding encoding) bytes.now count in
+            IfOk result (λ place. outcomes
+            ≡ Some (Self.left self.now (option_copied dict.entry) bytes.now place)) }
         ensures over { IfOk result (Self.is_over self.now bytes.now) }
-        ensures ok { let entries = option_map (λ dict. length (dict_shown self.now dict)) (option_copied dict.entry) in
-            OnOk result (value_causes (physical self.now) entries (as_encoding encoding) bytes.now count ≡ []) }
-        ensures cause { let entries = option_map (λ dict. length (dict_shown self.now dict)) (option_copied dict.entry) in
+        ensures ok { let entries = option_map
+            (λ dict. length (dict_shown self.now dict)) (option_copied dict.entry) in
+            OnOk result (value_causes (physical self.now) entries (as_encoding encoding) bytes.now count
+            ≡ []) }
+        ensures cause { let entries = option_map
+            (λ dict. length (dict_shown self.now dict)) (option_copied dict.entry) in
             let causes = value_causes (physical self.now) entries (as_encoding encoding) bytes.now count in
             IfErr result (λ e. IsOneOf causes (cause_of e)) };
 
     /// The entries of a dictionary page, all converted.
     fn read_dict(&self, alloc: Global, page: &DictPage<'_>) -> Result<Self::Dict, Error>
-        ensures entries { let cells = fitted_by (Self.most_bytes self.now) (rule self.now) (physical self.now) (dict_content page.now) in
+        ensures entries { let cells = fitted_by (Self.most_bytes self.now) (rule self.now) (physical self.now)
+            (dict_content page.now) in
             IfOk result (λ dict. cells ≡ Ok (dict_shown self.now dict)) }
         ensures own { IfOk result (Self.is_own_dict self.now) }
-        ensures cause { let cells = fitted_by (Self.most_bytes self.now) (rule self.now) (physical self.now) (dict_content page.now) in
+        ensures cause { let cells = fitted_by (Self.most_bytes self.now) (rule self.now) (physical self.now)
+            (dict_content page.now) in
             ComesOf result (causes_in (refusal_of cells)) };
 }

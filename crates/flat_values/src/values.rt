@@ -80,7 +80,8 @@ pub trait Values {
             present_count (word_places word) ≤ length values }
         ensures cells { let values = left self.now (option_copied dict.entry) bytes.now place.old in
             let shown = Self.Decoded.shown in
-            OnOk result (map Given (shown decoded.new) ≡ map Given (shown decoded.old) ++ word_outcomes word values) }
+            OnOk result (map Given (shown decoded.new)
+            ≡ map Given (shown decoded.old) ++ word_outcomes word values) }
         ensures left { let values = left self.now (option_copied dict.entry) bytes.now in
             OnOk result (values place.new ≡ behind_word word (values place.old)) }
         ensures over { OnOk result (is_over self.now bytes.now place.new) }
@@ -103,14 +104,16 @@ pub trait Values {
     /// Passes over the next `count` values, or all that are left.
     fn skip(&self, bytes: &[u8], place: &mut Self::Place, count: usize)
         requires over { is_over self.now bytes.now place.old }
-        ensures left { let values = λ (dict : Option Self.Dict) (place : Self.Place). left self.now dict bytes.now place in
+        ensures left { let values = λ (dict : Option Self.Dict)
+            (place : Self.Place). left self.now dict bytes.now place in
             (dict : Option Self.Dict) → values dict place.new ≡ drop count (values dict place.old) }
         ensures over { is_over self.now bytes.now place.new };
 
     /// Appends so many nulls.
     fn push_nulls(&self, decoded: &mut Self::Decoded, count: usize) -> Result<(), Error>
         requires own { is_own self.now decoded.old }
-        ensures cells { OnOk result (Self.Decoded.shown decoded.new ≡ Self.Decoded.shown decoded.old ++ replicate count Null) }
+        ensures cells { OnOk result (Self.Decoded.shown decoded.new
+            ≡ Self.Decoded.shown decoded.old ++ replicate count Null) }
         ensures own { OnOk result (is_own self.now decoded.new) }
         ensures memory { IfErr result IsWantOfMemory };
 

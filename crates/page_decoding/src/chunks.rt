@@ -52,10 +52,24 @@ fn read_chunk<I: Pages, D: Decoder, L: Ledger>(
     requires own_dict { IfSome dict.old (D.is_own_dict decoder.now) }
     requires cut { IsCut chunk_size (map D.DecodedState.shown items.old.items) }
     requires own { All (D.is_own decoder.now) items.old.items }
-    ensures chunk { GivesNext D.DecodedState.shown (D.most_bytes decoder.now) chunk_size (still_wanted (D.entries decoder.now) (D.outcomes decoder.now) (standing D.DecodedState.shown (D.dict_shown decoder.now) items.old.items remaining.old dict.old) (I.to_come iter.old) (I.causes iter.old)) (still_wanted (D.entries decoder.now) (D.outcomes decoder.now) (standing D.DecodedState.shown (D.dict_shown decoder.now) items.new.items remaining.new dict.new) (I.to_come iter.new) (I.causes iter.new)) result }
-    ensures pages { Reads D.DecodedState.shown (D.entries decoder.now) (D.outcomes decoder.now) (D.most_bytes decoder.now) chunk_size result (I.to_come iter.old) (I.to_come iter.new) (I.causes iter.old) (standing D.DecodedState.shown (D.dict_shown decoder.now) items.old.items remaining.old dict.old) (standing D.DecodedState.shown (D.dict_shown decoder.now) items.new.items remaining.new dict.new) steps.old steps.new (I.lent_count iter.old) (I.lent_count iter.new) }
+    ensures chunk { GivesNext D.DecodedState.shown (D.most_bytes decoder.now) chunk_size
+        (still_wanted (D.entries decoder.now) (D.outcomes decoder.now)
+        (standing D.DecodedState.shown (D.dict_shown decoder.now) items.old.items remaining.old dict.old)
+        (I.to_come iter.old) (I.causes iter.old))
+        (still_wanted (D.entries decoder.now) (D.outcomes decoder.now)
+        (standing D.DecodedState.shown (D.dict_shown decoder.now) items.new.items remaining.new dict.new)
+        (I.to_come iter.new) (I.causes iter.new)) result }
+    ensures pages { Reads D.DecodedState.shown (D.entries decoder.now) (D.outcomes decoder.now)
+        (D.most_bytes decoder.now) chunk_size result (I.to_come iter.old) (I.to_come iter.new)
+        (I.causes iter.old) (standing D.DecodedState.shown
+        (D.dict_shown decoder.now) items.old.items remaining.old dict.old)
+        (standing D.DecodedState.shown (D.dict_shown decoder.now) items.new.items remaining.new dict.new)
+        steps.old steps.new (I.lent_count iter.old) (I.lent_count iter.new) }
     ensures end { IfNone result (NoneComes remaining.new (I.to_come iter.new) (I.causes iter.new)) }
-    ensures ended { still_wanted (D.entries decoder.now) (D.outcomes decoder.now) (standing D.DecodedState.shown (D.dict_shown decoder.now) items.old.items remaining.old dict.old) (I.to_come iter.old) (I.causes iter.old) ≡ [] → NoneComes remaining.old (I.to_come iter.old) (I.causes iter.old) → result ≡ None }
+    ensures ended { still_wanted (D.entries decoder.now) (D.outcomes decoder.now)
+        (standing D.DecodedState.shown (D.dict_shown decoder.now) items.old.items remaining.old dict.old)
+        (I.to_come iter.old) (I.causes iter.old) ≡ []
+        → NoneComes remaining.old (I.to_come iter.old) (I.causes iter.old) → result ≡ None }
     ensures own_chunk { IfGiven result (D.is_own decoder.now) }
     ensures row_count { I.row_count iter.new ≡ I.row_count iter.old }
     ensures takes { DataPagesAre (D.takes decoder.now) (I.to_come iter.new) }
@@ -123,7 +137,15 @@ impl<I: Pages, D: Decoder + Drop> Chunks<I, D> {
         requires takes { DataPagesAre (D.takes decoder) (I.to_come pages) }
         ensures ok { IfOk result (λ _. IsChunkSize chunk_size) }
         ensures err { IfErr result (λ e. IsTrue (is_invalid_argument e) × (IsChunkSize chunk_size → ⊥)) }
-        ensures chunks { IfOk result (λ chunks. chunks ≡ record { pages = pages; decoder = decoder; size = chunk_size; waiting = []; remaining = num_rows; dictionary = None }) }
+        ensures chunks { IfOk result (λ chunks.
+            chunks ≡ record {
+              pages = pages;
+              decoder = decoder;
+              size = chunk_size;
+              waiting = [];
+              remaining = num_rows;
+              dictionary = None;
+            }) }
     {
         if chunk_size == Some(0) {
             return Err(Error::InvalidArgumentError(Part::Request));
@@ -144,10 +166,22 @@ impl<I: Pages, D: Decoder + Drop> Chunks<I, D> {
         &mut self,
         steps: &mut Steps<L>,
     ) -> Option<Result<D::DecodedState, Error>>
-        ensures chunk { GivesNext D.DecodedState.shown (D.most_bytes self.old.decoder) self.old.size (still_wanted (D.entries self.old.decoder) (D.outcomes self.old.decoder) (standing_of self.old) (I.to_come self.old.pages) (I.causes self.old.pages)) (still_wanted (D.entries self.new.decoder) (D.outcomes self.new.decoder) (standing_of self.new) (I.to_come self.new.pages) (I.causes self.new.pages)) result }
-        ensures pages { Reads D.DecodedState.shown (D.entries self.old.decoder) (D.outcomes self.old.decoder) (D.most_bytes self.old.decoder) self.old.size result (I.to_come self.old.pages) (I.to_come self.new.pages) (I.causes self.old.pages) (standing_of self.old) (standing_of self.new) steps.old steps.new (I.lent_count self.old.pages) (I.lent_count self.new.pages) }
-        ensures end { IfNone result (NoneComes self.new.remaining (I.to_come self.new.pages) (I.causes self.new.pages)) }
-        ensures ended { still_wanted (D.entries self.old.decoder) (D.outcomes self.old.decoder) (standing_of self.old) (I.to_come self.old.pages) (I.causes self.old.pages) ≡ [] → NoneComes self.old.remaining (I.to_come self.old.pages) (I.causes self.old.pages) → result ≡ None }
+        ensures chunk { GivesNext D.DecodedState.shown (D.most_bytes self.old.decoder) self.old.size
+            (still_wanted (D.entries self.old.decoder) (D.outcomes self.old.decoder) (standing_of self.old)
+            (I.to_come self.old.pages) (I.causes self.old.pages))
+            (still_wanted (D.entries self.new.decoder) (D.outcomes self.new.decoder) (standing_of self.new)
+            (I.to_come self.new.pages) (I.causes self.new.pages)) result }
+        ensures pages { Reads D.DecodedState.shown (D.entries self.old.decoder) (D.outcomes self.old.decoder)
+            (D.most_bytes self.old.decoder) self.old.size result (I.to_come self.old.pages)
+            (I.to_come self.new.pages) (I.causes self.old.pages) (standing_of self.old)
+            (standing_of self.new) steps.old steps.new (I.lent_count self.old.pages)
+            (I.lent_count self.new.pages) }
+        ensures end { IfNone result (NoneComes self.new.remaining (I.to_come self.new.pages)
+            (I.causes self.new.pages)) }
+        ensures ended { still_wanted (D.entries self.old.decoder) (D.outcomes self.old.decoder)
+            (standing_of self.old) (I.to_come self.old.pages) (I.causes self.old.pages) ≡ []
+            → NoneComes self.old.remaining (I.to_come self.old.pages) (I.causes self.old.pages)
+            → result ≡ None }
         ensures own { IfGiven result (D.is_own self.old.decoder) }
         ensures row_count { I.row_count self.new.pages ≡ I.row_count self.old.pages }
         ensures decoder { self.new.decoder ≡ self.old.decoder }

@@ -65,12 +65,18 @@ pub trait Decoder {
         requires own { IfSome (option_copied dict) (is_own_dict self.now) }
         requires shaped { is_shaped (DataOf (data_content page.now)) ≡ true }
         ensures state { IfOk result (is_state self.now (option_copied dict.entry) (data_content page.now)) }
-        ensures rows { IfOk result (λ state. left self.now (option_copied dict.entry) (data_content page.now) state ≡ outcomes self.now (option_map (dict_shown self.now) (option_copied dict.entry)) (data_content page.now)) }
-        ensures cause { ComesOf result (causes_in (take 1 (outcomes self.now (option_map (dict_shown self.now) (option_copied dict.entry)) (data_content page.now)))) };
+        ensures rows { IfOk result (λ state.
+            left self.now (option_copied dict.entry) (data_content page.now) state
+            ≡ outcomes self.now (option_map (dict_shown self.now) (option_copied dict.entry))
+            (data_content page.now)) }
+        ensures cause { ComesOf result
+            (causes_in (take 1 (outcomes self.now
+            (option_map (dict_shown self.now) (option_copied dict.entry)) (data_content page.now)))) };
 
     /// How many rows a state has still to give.
     fn state_len(&self, state: &Self::State) -> usize
-        ensures { (dict : Option Self.Dict) (page : DataContent) → is_state self.now dict page state.now → result ≡ length (left self.now dict page state.now) };
+        ensures { (dict : Option Self.Dict) (page : DataContent) → is_state self.now dict page state.now
+            → result ≡ length (left self.now dict page state.now) };
 
     /// No values yet, with room for so many.
     fn with_capacity(&self, alloc: Global, capacity: usize) -> Result<Self::DecodedState, Error>
@@ -91,14 +97,21 @@ pub trait Decoder {
         requires own_dict { IfSome (option_copied dict) (is_own_dict self.now) }
         requires state { is_state self.now (option_copied dict) (data_content page.now) state.old }
         requires own { is_own self.now decoded.old }
-        ensures rows { OnOk result (map Given (Self.DecodedState.shown decoded.new) ≡ map Given (Self.DecodedState.shown decoded.old) ++ take additional (left self.now (option_copied dict.entry) (data_content page.now) state.old)) }
-        ensures state { OnOk result (is_state self.now (option_copied dict.entry) (data_content page.now) state.new) }
-        ensures left { OnOk result (left self.now (option_copied dict.entry) (data_content page.now) state.new ≡ drop additional (left self.now (option_copied dict.entry) (data_content page.now) state.old)) }
+        ensures rows { OnOk result (map Given (Self.DecodedState.shown decoded.new)
+            ≡ map Given (Self.DecodedState.shown decoded.old)
+            ++ take additional (left self.now (option_copied dict.entry) (data_content page.now) state.old)) }
+        ensures state { OnOk result (is_state self.now (option_copied dict.entry)
+            (data_content page.now) state.new) }
+        ensures left { OnOk result (left self.now (option_copied dict.entry) (data_content page.now) state.new
+            ≡ drop additional (left self.now (option_copied dict.entry) (data_content page.now) state.old)) }
         ensures own { OnOk result (is_own self.now decoded.new) }
-        ensures cause { IfErr result (IsCausedByChunks (most_bytes self.now) None (map Given (Self.DecodedState.shown decoded.old) ++ take additional (left self.now (option_copied dict.entry) (data_content page.now) state.old))) };
+        ensures cause { IfErr result (IsCausedByChunks (most_bytes self.now) None
+            (map Given (Self.DecodedState.shown decoded.old)
+            ++ take additional (left self.now (option_copied dict.entry) (data_content page.now) state.old))) };
 
     fn deserialize_dict(&self, alloc: Global, page: &DictPage<'_>) -> Result<Self::Dict, Error>
-        ensures entries { IfOk result (λ dict. entries self.now (dict_content page.now) ≡ Ok (dict_shown self.now dict)) }
+        ensures entries { IfOk result (λ dict.
+            entries self.now (dict_content page.now) ≡ Ok (dict_shown self.now dict)) }
         ensures own { IfOk result (is_own_dict self.now) }
         ensures cause { ComesOf result (causes_in (refusal_of (entries self.now (dict_content page.now)))) };
 

@@ -35,9 +35,12 @@ impl FilteredOptionalPageValidity {
     pub fn try_new(page: &DataPage<'_>) -> Result<Self, Error>
         requires { is_shaped (DataOf (data_content page.now)) ≡ true }
         ensures page { IfOk result (λ walk. IsPageOf walk (data_content page.now)) }
-        ensures steps { IfOk result (λ walk. filtered_steps walk (data_content page.now) ≡ plan (data_content page.now).selected (unwrap_or (page_places (data_content page.now)) [])) }
+        ensures steps { IfOk result (λ walk.
+            filtered_steps walk (data_content page.now)
+            ≡ plan (data_content page.now).selected (unwrap_or (page_places (data_content page.now)) [])) }
         ensures ok { IfOk result (λ _. levels_causes (data_content page.now) ≡ []) }
-        ensures refusal { IfErr result (λ error. IsOneOf (levels_causes (data_content page.now)) (cause_of error)) }
+        ensures refusal { IfErr result
+            (λ error. IsOneOf (levels_causes (data_content page.now)) (cause_of error)) }
     {
         let places = OptionalPageValidity::try_new(page)?;
         let rows = before_all(page.selected_rows, places.len());
@@ -53,8 +56,10 @@ impl FilteredOptionalPageValidity {
     pub fn next(&mut self, page: &DataPage<'_>, limit: usize) -> Option<Run>
         requires page { IsPageOf self.old (data_content page.now) }
         requires limit { 0 < limit }
-        ensures run { GivesRun limit (filtered_steps self.old (data_content page.now)) (filtered_steps self.new (data_content page.now)) result }
-        ensures longest { IsLongestOf limit self.old (data_content page.now) result (filtered_steps self.new (data_content page.now)) }
+        ensures run { GivesRun limit (filtered_steps self.old (data_content page.now))
+            (filtered_steps self.new (data_content page.now)) result }
+        ensures longest { IsLongestOf limit self.old (data_content page.now) result
+            (filtered_steps self.new (data_content page.now)) }
         ensures page { IsPageOf self.new (data_content page.now) }
     {
         match page.selected_rows {
@@ -72,7 +77,8 @@ impl FilteredOptionalPageValidity {
     pub fn next_part(&mut self, page: &DataPage<'_>, limit: usize) -> Option<ValidityPart>
         requires page { IsPageOf self.old (data_content page.now) }
         requires limit { 0 < limit }
-        ensures part { GivesPart limit (filtered_steps self.old (data_content page.now)) (filtered_steps self.new (data_content page.now)) result }
+        ensures part { GivesPart limit (filtered_steps self.old (data_content page.now))
+            (filtered_steps self.new (data_content page.now)) result }
         ensures longest { IsLongestPartOf limit (data_content page.now) self.old self.new result }
         ensures page { IsPageOf self.new (data_content page.now) }
     {
@@ -88,7 +94,8 @@ impl FilteredOptionalPageValidity {
 
     /// How many selected rows are left.
     pub fn len(&self) -> usize
-        ensures { (page : DataContent) → IsPageOf self.now page → result ≡ kept_count (filtered_steps self.now page) }
+        ensures { (page : DataContent) → IsPageOf self.now page
+            → result ≡ kept_count (filtered_steps self.now page) }
     {
         self.rows.len()
     }
@@ -108,8 +115,10 @@ impl FilteredOptionalPageValidity {
         requires page { IsPageOf self.old (data_content page.now) }
         requires rows { rows.now ≡ selected_rows (data_content page.now) }
         requires limit { 0 < limit }
-        ensures run { GivesRun limit (filtered_steps self.old (data_content page.now)) (filtered_steps self.new (data_content page.now)) result }
-        ensures longest { IsLongestOf limit self.old (data_content page.now) result (filtered_steps self.new (data_content page.now)) }
+        ensures run { GivesRun limit (filtered_steps self.old (data_content page.now))
+            (filtered_steps self.new (data_content page.now)) result }
+        ensures longest { IsLongestOf limit self.old (data_content page.now) result
+            (filtered_steps self.new (data_content page.now)) }
         ensures page { IsPageOf self.new (data_content page.now) }
     {
         let left = self.places.len();
@@ -134,7 +143,8 @@ impl FilteredOptionalPageValidity {
         requires page { IsPageOf self.old (data_content page.now) }
         requires rows { rows.now ≡ selected_rows (data_content page.now) }
         requires limit { 0 < limit }
-        ensures part { GivesPart limit (filtered_steps self.old (data_content page.now)) (filtered_steps self.new (data_content page.now)) result }
+        ensures part { GivesPart limit (filtered_steps self.old (data_content page.now))
+            (filtered_steps self.new (data_content page.now)) result }
         ensures longest { IsLongestPartOf limit (data_content page.now) self.old self.new result }
         ensures page { IsPageOf self.new (data_content page.now) }
     {
@@ -151,8 +161,10 @@ impl FilteredOptionalPageValidity {
     fn pass(&mut self, page: &DataPage<'_>, rows: usize) -> Option<Run>
         requires page { IsSome (optional_left self.old.places (data_content page.now)) }
         requires fits { self.old.row + rows < 2 ^ 64 }
-        ensures run { PassesOver (present_count (take rows (places_left self.old.places (data_content page.now)))) result }
-        ensures left { places_left self.new.places (data_content page.now) ≡ drop rows (places_left self.old.places (data_content page.now)) }
+        ensures run { PassesOver (present_count
+            (take rows (places_left self.old.places (data_content page.now)))) result }
+        ensures left { places_left self.new.places (data_content page.now)
+            ≡ drop rows (places_left self.old.places (data_content page.now)) }
         ensures page { IsSome (optional_left self.new.places (data_content page.now)) }
         ensures row { self.new.row ≡ self.old.row + rows }
         ensures rows { self.new.rows ≡ self.old.rows }
@@ -178,8 +190,11 @@ impl FilteredOptionalPageValidity {
         requires most { limit ≤ first_left self.old.rows rows.now }
         requires fits { self.old.row + length (places_left self.old.places (data_content page.now)) < 2 ^ 64 }
         ensures ended { IfNone result (places_left self.old.places (data_content page.now) ≡ []) }
-        ensures run { IfSome result (IsRunOf limit (places_left self.old.places (data_content page.now)) (places_left self.new.places (data_content page.now))) }
-        ensures given { IfSome result (λ run. AreGiven (run_rows run) (rows_left self.old.rows rows.now) (rows_left self.new.rows rows.now) self.new.rows.place) }
+        ensures run { IfSome result (IsRunOf limit (places_left self.old.places (data_content page.now))
+            (places_left self.new.places (data_content page.now))) }
+        ensures given { IfSome result (λ run.
+            AreGiven (run_rows run) (rows_left self.old.rows rows.now)
+            (rows_left self.new.rows rows.now) self.new.rows.place) }
         ensures row { IfSome result (λ run. self.new.row ≡ self.old.row + run_rows run) }
         ensures place { IfSome result (λ run. self.new.place ≡ self.new.row) }
         ensures page { IsSome (optional_left self.new.places (data_content page.now)) }
@@ -206,9 +221,13 @@ impl FilteredOptionalPageValidity {
         requires most { limit ≤ first_left self.old.rows rows.now }
         requires fits { self.old.row + length (places_left self.old.places (data_content page.now)) < 2 ^ 64 }
         ensures ended { IfNone result (places_left self.old.places (data_content page.now) ≡ []) }
-        ensures part { IfSome result (IsPartOf limit (places_left self.old.places (data_content page.now)) (places_left self.new.places (data_content page.now))) }
-        ensures whole { IfSome result (IsWholePart limit (data_content page.now) self.old.places self.new.places) }
-        ensures given { IfSome result (λ part. AreGiven (part_rows part) (rows_left self.old.rows rows.now) (rows_left self.new.rows rows.now) self.new.rows.place) }
+        ensures part { IfSome result (IsPartOf limit (places_left self.old.places (data_content page.now))
+            (places_left self.new.places (data_content page.now))) }
+        ensures whole { IfSome result (IsWholePart limit
+            (data_content page.now) self.old.places self.new.places) }
+        ensures given { IfSome result (λ part.
+            AreGiven (part_rows part) (rows_left self.old.rows rows.now)
+            (rows_left self.new.rows rows.now) self.new.rows.place) }
         ensures row { IfSome result (λ part. self.new.row ≡ self.old.row + part_rows part) }
         ensures place { IfSome result (λ part. self.new.place ≡ self.new.row) }
         ensures page { IsSome (optional_left self.new.places (data_content page.now)) }
@@ -226,7 +245,8 @@ impl FilteredOptionalPageValidity {
 /// A walk over the selected rows of a page of so many rows.
 fn before_all(selected: Option<&[Interval]>, count: usize) -> SliceFiltered
     requires { fit_in count (option_map (λ rows. rows.now) selected) ≡ true }
-    ensures rows { rows_left result (intervals_of count (option_map (λ rows. rows.now) selected.entry)) ≡ rows_of (intervals_of count (option_map (λ rows. rows.now) selected.entry)) }
+    ensures rows { rows_left result (intervals_of count (option_map (λ rows. rows.now) selected.entry))
+        ≡ rows_of (intervals_of count (option_map (λ rows. rows.now) selected.entry)) }
     ensures place { result.place ≡ 0 }
     ensures walk { IsWalkOver result (intervals_of count (option_map (λ rows. rows.now) selected.entry)) }
 {

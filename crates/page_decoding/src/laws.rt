@@ -5,5 +5,6 @@ ghost use Rattle.page_decoding.specs.Queue.{IsChunkSize, first_chunk, later_chun
 
 /// The first chunk of a list and the chunks of what is left are the cut of it.
 pub fn chunks_are_the_cut<T>()
-    ensures { (size : Option ℕ) (x : T) (xs : List T) → IsChunkSize size → cut size (x ∷ xs) ≡ first_chunk size (x ∷ xs) ∷ cut size (later_chunks size (x ∷ xs)) }
+    ensures { (size : Option ℕ) (x : T) (xs : List T) → IsChunkSize size
+        → cut size (x ∷ xs) ≡ first_chunk size (x ∷ xs) ∷ cut size (later_chunks size (x ∷ xs)) }
 {}

@@ -36,7 +36,10 @@ fn give_front<S: DecodedState>(
     items: &mut VecDeque<S>,
 ) -> MaybeNext<Result<S, Error>>
     requires { IsCut chunk_size (map S.shown items.old.items) }
-    ensures chunk { (coming : List Outcome) → BeginsFull chunk_size (map S.shown items.old.items) ⊎ (coming ≡ []) → GivesFront S.shown chunk_size (map Given (joined (map S.shown items.old.items)) ++ coming) (map Given (joined (map S.shown items.new.items)) ++ coming) result }
+    ensures chunk { (coming : List Outcome) → BeginsFull chunk_size (map S.shown items.old.items)
+        ⊎ (coming ≡ []) → GivesFront S.shown chunk_size
+        (map Given (joined (map S.shown items.old.items)) ++ coming)
+        (map Given (joined (map S.shown items.new.items)) ++ coming) result }
     ensures some { BeginsFull chunk_size (map S.shown items.old.items) → OnNone result ⊥ }
     ensures items { items.old.items ≡ front_of result ++ items.new.items }
     ensures cut { IsCut chunk_size (map S.shown items.new.items) }
@@ -64,12 +67,21 @@ fn add_page<D: Decoder>(
     requires own_dict { IfSome (option_copied dict) (D.is_own_dict decoder.now) }
     requires cut { IsCut chunk_size (map D.DecodedState.shown items.old.items) }
     requires own { All (D.is_own decoder.now) items.old.items }
-    ensures rows { OnOk result (map Given (joined (map D.DecodedState.shown items.new.items)) ≡ map Given (joined (map D.DecodedState.shown items.old.items)) ++ take remaining.old (D.outcomes decoder.now (option_map (D.dict_shown decoder.now) (option_copied dict.entry)) (data_content page.now))) }
-    ensures remaining { OnOk result (remaining.new ≡ remaining.old - length (D.outcomes decoder.now (option_map (D.dict_shown decoder.now) (option_copied dict.entry)) (data_content page.now))) }
+    ensures rows { OnOk result (map Given (joined (map D.DecodedState.shown items.new.items))
+        ≡ map Given (joined (map D.DecodedState.shown items.old.items))
+        ++ take remaining.old (D.outcomes decoder.now
+        (option_map (D.dict_shown decoder.now) (option_copied dict.entry)) (data_content page.now))) }
+    ensures remaining { OnOk result
+        (remaining.new ≡ remaining.old - length
+        (D.outcomes decoder.now (option_map (D.dict_shown decoder.now) (option_copied dict.entry))
+        (data_content page.now))) }
     ensures fewer { remaining.new ≤ remaining.old }
     ensures cut { OnOk result (IsCut chunk_size (map D.DecodedState.shown items.new.items)) }
     ensures own { OnOk result (All (D.is_own decoder.now) items.new.items) }
-    ensures cause { IfErr result (IsCausedByChunks (D.most_bytes decoder.now) chunk_size (map Given (joined (map D.DecodedState.shown items.old.items)) ++ take remaining.old (D.outcomes decoder.now (option_map (D.dict_shown decoder.now) (option_copied dict.entry)) (data_content page.now)))) }
+    ensures cause { IfErr result (IsCausedByChunks (D.most_bytes decoder.now) chunk_size
+        (map Given (joined (map D.DecodedState.shown items.old.items))
+        ++ take remaining.old (D.outcomes decoder.now
+        (option_map (D.dict_shown decoder.now) (option_copied dict.entry)) (data_content page.now)))) }
 {
     let state = decoder.build_state(page, dict)?;
     extend_from_new_page(
@@ -94,19 +106,31 @@ fn read_page<I: Pages, D: Decoder, L: Ledger>(
     requires own_dict { IfSome dict.old (D.is_own_dict decoder.now) }
     requires cut { IsCut chunk_size (map D.DecodedState.shown items.old.items) }
     requires own { All (D.is_own decoder.now) items.old.items }
-    ensures rows { OnOk result (still_wanted (D.entries decoder.now) (D.outcomes decoder.now) (standing D.DecodedState.shown (D.dict_shown decoder.now) items.new.items remaining.new dict.new) (I.to_come iter.new) (I.causes iter.new) ≡ still_wanted (D.entries decoder.now) (D.outcomes decoder.now) (standing D.DecodedState.shown (D.dict_shown decoder.now) items.old.items remaining.old dict.old) (I.to_come iter.old) (I.causes iter.old)) }
-    ensures standing { OnOk result (Advances (D.entries decoder.now) (D.outcomes decoder.now) (I.to_come iter.old) (I.to_come iter.new) (standing D.DecodedState.shown (D.dict_shown decoder.now) items.old.items remaining.old dict.old) (standing D.DecodedState.shown (D.dict_shown decoder.now) items.new.items remaining.new dict.new)) }
+    ensures rows { OnOk result (still_wanted (D.entries decoder.now) (D.outcomes decoder.now)
+        (standing D.DecodedState.shown (D.dict_shown decoder.now) items.new.items remaining.new dict.new)
+        (I.to_come iter.new) (I.causes iter.new)
+        ≡ still_wanted (D.entries decoder.now) (D.outcomes decoder.now)
+        (standing D.DecodedState.shown (D.dict_shown decoder.now) items.old.items remaining.old dict.old)
+        (I.to_come iter.old) (I.causes iter.old)) }
+    ensures standing { OnOk result
+        (Advances (D.entries decoder.now) (D.outcomes decoder.now) (I.to_come iter.old) (I.to_come iter.new)
+        (standing D.DecodedState.shown (D.dict_shown decoder.now) items.old.items remaining.old dict.old)
+        (standing D.DecodedState.shown (D.dict_shown decoder.now) items.new.items remaining.new dict.new)) }
     ensures fewer { remaining.new ≤ remaining.old }
     ensures end { IfOk result (λ more. more ≡ false → HasEnded (I.to_come iter.old) (I.causes iter.old)) }
     ensures ended { IfOk result (λ more. more ≡ false → HasEnded (I.to_come iter.new) (I.causes iter.new)) }
-    ensures more { IfOk result (λ more. more ≡ true → length (I.to_come iter.new) < length (I.to_come iter.old)) }
+    ensures more { IfOk result (λ more. more ≡ true
+        → length (I.to_come iter.new) < length (I.to_come iter.old)) }
     ensures cut { OnOk result (IsCut chunk_size (map D.DecodedState.shown items.new.items)) }
     ensures own { OnOk result (All (D.is_own decoder.now) items.new.items) }
     ensures own_dict { OnOk result (IfSome dict.new (D.is_own_dict decoder.now)) }
     ensures takes { DataPagesAre (D.takes decoder.now) (I.to_come iter.new) }
-    ensures pages { Moves (0 < remaining.old) (I.to_come iter.old) (I.to_come iter.new) (I.causes iter.old) (I.causes iter.new) steps.old steps.new (I.lent_count iter.old) (I.lent_count iter.new) }
+    ensures pages { Moves (0 < remaining.old) (I.to_come iter.old) (I.to_come iter.new) (I.causes iter.old)
+        (I.causes iter.new) steps.old steps.new (I.lent_count iter.old) (I.lent_count iter.new) }
     ensures row_count { I.row_count iter.new ≡ I.row_count iter.old }
-    ensures cause { IfErr result (FailsBy (D.entries decoder.now) (D.outcomes decoder.now) (D.most_bytes decoder.now) chunk_size (I.to_come iter.old) (I.to_come iter.new) (I.causes iter.old) (standing D.DecodedState.shown (D.dict_shown decoder.now) items.old.items remaining.old dict.old)) }
+    ensures cause { IfErr result (FailsBy (D.entries decoder.now) (D.outcomes decoder.now)
+        (D.most_bytes decoder.now) chunk_size (I.to_come iter.old) (I.to_come iter.new) (I.causes iter.old)
+        (standing D.DecodedState.shown (D.dict_shown decoder.now) items.old.items remaining.old dict.old)) }
 {
     match iter.next(steps)? {
         None => Ok(false),
@@ -146,8 +170,18 @@ pub fn next<I: Pages, D: Decoder, L: Ledger>(
     requires own_dict { IfSome dict.old (D.is_own_dict decoder.now) }
     requires cut { IsCut chunk_size (map D.DecodedState.shown items.old.items) }
     requires own { All (D.is_own decoder.now) items.old.items }
-    ensures chunk { GivesChunk D.DecodedState.shown chunk_size (still_wanted (D.entries decoder.now) (D.outcomes decoder.now) (standing D.DecodedState.shown (D.dict_shown decoder.now) items.old.items remaining.old dict.old) (I.to_come iter.old) (I.causes iter.old)) (still_wanted (D.entries decoder.now) (D.outcomes decoder.now) (standing D.DecodedState.shown (D.dict_shown decoder.now) items.new.items remaining.new dict.new) (I.to_come iter.new) (I.causes iter.new)) result }
-    ensures standing { OnNoError result (Advances (D.entries decoder.now) (D.outcomes decoder.now) (I.to_come iter.old) (I.to_come iter.new) (standing D.DecodedState.shown (D.dict_shown decoder.now) items.old.items remaining.old dict.old) (standing D.DecodedState.shown (D.dict_shown decoder.now) (front_of result ++ items.new.items) remaining.new dict.new)) }
+    ensures chunk { GivesChunk D.DecodedState.shown chunk_size
+        (still_wanted (D.entries decoder.now) (D.outcomes decoder.now)
+        (standing D.DecodedState.shown (D.dict_shown decoder.now) items.old.items remaining.old dict.old)
+        (I.to_come iter.old) (I.causes iter.old))
+        (still_wanted (D.entries decoder.now) (D.outcomes decoder.now)
+        (standing D.DecodedState.shown (D.dict_shown decoder.now) items.new.items remaining.new dict.new)
+        (I.to_come iter.new) (I.causes iter.new)) result }
+    ensures standing { OnNoError result
+        (Advances (D.entries decoder.now) (D.outcomes decoder.now) (I.to_come iter.old) (I.to_come iter.new)
+        (standing D.DecodedState.shown (D.dict_shown decoder.now) items.old.items remaining.old dict.old)
+        (standing D.DecodedState.shown (D.dict_shown decoder.now)
+        (front_of result ++ items.new.items) remaining.new dict.new)) }
     ensures fewer { remaining.new ≤ remaining.old }
     ensures more { OnMore result (length (I.to_come iter.new) < length (I.to_come iter.old)) }
     ensures waits { OnMore result (BeginsFull chunk_size (map D.DecodedState.shown items.new.items) → ⊥) }
@@ -158,9 +192,15 @@ pub fn next<I: Pages, D: Decoder, L: Ledger>(
     ensures own_chunk { IfChunk result (D.is_own decoder.now) }
     ensures own_dict { OnNoError result (IfSome dict.new (D.is_own_dict decoder.now)) }
     ensures takes { DataPagesAre (D.takes decoder.now) (I.to_come iter.new) }
-    ensures pages { Moves (IsNeeded chunk_size (standing D.DecodedState.shown (D.dict_shown decoder.now) items.old.items remaining.old dict.old)) (I.to_come iter.old) (I.to_come iter.new) (I.causes iter.old) (I.causes iter.new) steps.old steps.new (I.lent_count iter.old) (I.lent_count iter.new) }
+    ensures pages { Moves (IsNeeded chunk_size
+        (standing D.DecodedState.shown (D.dict_shown decoder.now) items.old.items remaining.old dict.old))
+        (I.to_come iter.old) (I.to_come iter.new) (I.causes iter.old) (I.causes iter.new) steps.old steps.new
+        (I.lent_count iter.old) (I.lent_count iter.new) }
     ensures row_count { I.row_count iter.new ≡ I.row_count iter.old }
-    ensures cause { IfFault result (FailsBy (D.entries decoder.now) (D.outcomes decoder.now) (D.most_bytes decoder.now) chunk_size (I.to_come iter.old) (I.to_come iter.new) (I.causes iter.old) (standing D.DecodedState.shown (D.dict_shown decoder.now) items.old.items remaining.old dict.old)) }
+    ensures cause { IfFault result
+        (FailsBy (D.entries decoder.now) (D.outcomes decoder.now) (D.most_bytes decoder.now) chunk_size
+        (I.to_come iter.old) (I.to_come iter.new) (I.causes iter.old)
+        (standing D.DecodedState.shown (D.dict_shown decoder.now) items.old.items remaining.old dict.old)) }
 {
     if *remaining == 0 {
         return give_front(chunk_size, items);

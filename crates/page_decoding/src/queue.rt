@@ -83,7 +83,9 @@ fn open_item<D: Decoder>(
     requires wanted { 0 < wanted }
     requires cut { IsCut chunk_size (map D.DecodedState.shown items.old.items) }
     requires own { All (D.is_own decoder.now) items.old.items }
-    ensures rows { IfOk result (λ item. joined (map D.DecodedState.shown items.old.items) ≡ joined (map D.DecodedState.shown items.new.items) ++ D.DecodedState.shown item) }
+    ensures rows { IfOk result (λ item.
+        joined (map D.DecodedState.shown items.old.items)
+        ≡ joined (map D.DecodedState.shown items.new.items) ++ D.DecodedState.shown item) }
     ensures fits { IfOk result (λ item. FitsChunk chunk_size (length (D.DecodedState.shown item))) }
     ensures not_full { IfOk result (λ item. IsFull chunk_size (length (D.DecodedState.shown item)) → ⊥) }
     ensures full { OnOk result (AreFull chunk_size (map D.DecodedState.shown items.new.items)) }
@@ -113,17 +115,26 @@ fn add_rows<D: Decoder>(
     requires own_dict { IfSome (option_copied dict) (D.is_own_dict decoder.now) }
     requires state { D.is_state decoder.now (option_copied dict) (data_content page.now) state.old }
     requires some { 0 < wanted }
-    requires wanted { wanted ≤ length (D.left decoder.now (option_copied dict) (data_content page.now) state.old) }
+    requires wanted { wanted ≤ length
+        (D.left decoder.now (option_copied dict) (data_content page.now) state.old) }
     requires cut { IsCut chunk_size (map D.DecodedState.shown items.old.items) }
     requires own { All (D.is_own decoder.now) items.old.items }
     ensures some { IfOk result (λ taken. 0 < taken) }
     ensures within { IfOk result (λ taken. taken ≤ wanted) }
-    ensures rows { IfOk result (λ taken. map Given (joined (map D.DecodedState.shown items.new.items)) ≡ map Given (joined (map D.DecodedState.shown items.old.items)) ++ take taken (D.left decoder.now (option_copied dict.entry) (data_content page.now) state.old)) }
-    ensures state { OnOk result (D.is_state decoder.now (option_copied dict.entry) (data_content page.now) state.new) }
-    ensures left { IfOk result (λ taken. D.left decoder.now (option_copied dict.entry) (data_content page.now) state.new ≡ drop taken (D.left decoder.now (option_copied dict.entry) (data_content page.now) state.old)) }
+    ensures rows { IfOk result (λ taken.
+        map Given (joined (map D.DecodedState.shown items.new.items))
+        ≡ map Given (joined (map D.DecodedState.shown items.old.items))
+        ++ take taken (D.left decoder.now (option_copied dict.entry) (data_content page.now) state.old)) }
+    ensures state { OnOk result (D.is_state decoder.now (option_copied dict.entry)
+        (data_content page.now) state.new) }
+    ensures left { IfOk result (λ taken.
+        D.left decoder.now (option_copied dict.entry) (data_content page.now) state.new
+        ≡ drop taken (D.left decoder.now (option_copied dict.entry) (data_content page.now) state.old)) }
     ensures cut { OnOk result (IsCut chunk_size (map D.DecodedState.shown items.new.items)) }
     ensures own { OnOk result (All (D.is_own decoder.now) items.new.items) }
-    ensures cause { IfErr result (IsCausedByChunks (D.most_bytes decoder.now) chunk_size (map Given (joined (map D.DecodedState.shown items.old.items)) ++ take wanted (D.left decoder.now (option_copied dict.entry) (data_content page.now) state.old))) }
+    ensures cause { IfErr result (IsCausedByChunks (D.most_bytes decoder.now) chunk_size
+        (map Given (joined (map D.DecodedState.shown items.old.items))
+        ++ take wanted (D.left decoder.now (option_copied dict.entry) (data_content page.now) state.old))) }
 {
     let mut item = open_item(alloc, wanted, chunk_size, items, decoder)?;
     let taken = room(chunk_size, item.len(), wanted);
@@ -149,12 +160,19 @@ pub fn extend_from_new_page<D: Decoder>(
     requires state { D.is_state decoder.now (option_copied dict) (data_content page.now) state }
     requires cut { IsCut chunk_size (map D.DecodedState.shown items.old.items) }
     requires own { All (D.is_own decoder.now) items.old.items }
-    ensures rows { OnOk result (map Given (joined (map D.DecodedState.shown items.new.items)) ≡ map Given (joined (map D.DecodedState.shown items.old.items)) ++ take remaining.old (D.left decoder.now (option_copied dict.entry) (data_content page.now) state)) }
-    ensures remaining { OnOk result (remaining.new ≡ remaining.old - length (D.left decoder.now (option_copied dict.entry) (data_content page.now) state)) }
+    ensures rows { OnOk result (map Given (joined (map D.DecodedState.shown items.new.items))
+        ≡ map Given (joined (map D.DecodedState.shown items.old.items))
+        ++ take remaining.old (D.left decoder.now (option_copied dict.entry) (data_content page.now) state)) }
+    ensures remaining { OnOk result
+        (remaining.new ≡ remaining.old - length
+        (D.left decoder.now (option_copied dict.entry) (data_content page.now) state)) }
     ensures fewer { remaining.new ≤ remaining.old }
     ensures cut { OnOk result (IsCut chunk_size (map D.DecodedState.shown items.new.items)) }
     ensures own { OnOk result (All (D.is_own decoder.now) items.new.items) }
-    ensures cause { IfErr result (IsCausedByChunks (D.most_bytes decoder.now) chunk_size (map Given (joined (map D.DecodedState.shown items.old.items)) ++ take remaining.old (D.left decoder.now (option_copied dict.entry) (data_content page.now) state))) }
+    ensures cause { IfErr result (IsCausedByChunks (D.most_bytes decoder.now) chunk_size
+        (map Given (joined (map D.DecodedState.shown items.old.items))
+        ++ take remaining.old (D.left decoder.now (option_copied dict.entry)
+        (data_content page.now) state))) }
 {
     let mut wanted = decoder.state_len(&state).min(*remaining);
     while wanted > 0 {

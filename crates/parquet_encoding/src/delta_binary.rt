@@ -45,10 +45,12 @@ struct Header {
 impl DeltaBinary {
     /// Before the first of `count` numbers.
     pub fn try_new(bytes: &[u8], count: usize) -> Result<Self, Unspelled>
-        ensures values { IfOk result (λ decoder. delta_left decoder bytes.now ≡ option_map (λ read. read.0) (delta_binary count bytes.now)) }
+        ensures values { IfOk result (λ decoder.
+            delta_left decoder bytes.now ≡ option_map (λ read. read.0) (delta_binary count bytes.now)) }
         ensures exact { is_ok result ≡ is_some (delta_binary count bytes.now) }
         ensures counted { IfOk result (λ decoder. length (numbers decoder bytes.now) ≡ count) }
-        ensures end { IfOk result (λ decoder. after (delta_binary count bytes.now) ≡ Some (drop (delta_end decoder) bytes.now)) }
+        ensures end { IfOk result (λ decoder.
+            after (delta_binary count bytes.now) ≡ Some (drop (delta_end decoder) bytes.now)) }
         ensures within { IfOk result (λ decoder. delta_end decoder ≤ length bytes.now) }
     {
         let header = header_at(bytes)?;
@@ -128,7 +130,8 @@ impl DeltaBinary {
 /// The number behind the next delta, if there is one.
 fn next_value(walk: &mut DeltaWalk, bytes: &[u8], value: i64) -> Option<i64>
     requires { IsSome (deltas_left walk.old bytes.now) }
-    ensures { numbers_left result (deltas_left walk.new bytes.now) ≡ Some (drop 1 (running_sums value (deltas walk.old bytes.now))) }
+    ensures { numbers_left result (deltas_left walk.new bytes.now)
+        ≡ Some (drop 1 (running_sums value (deltas walk.old bytes.now))) }
 {
     if walk.left() == 0 {
         return None;
@@ -139,7 +142,8 @@ fn next_value(walk: &mut DeltaWalk, bytes: &[u8], value: i64) -> Option<i64>
 /// The number behind the next `n` deltas, if there are so many.
 fn value_behind(walk: &mut DeltaWalk, bytes: &[u8], value: i64, n: usize) -> Option<i64>
     requires { IsSome (deltas_left walk.old bytes.now) }
-    ensures { numbers_left result (deltas_left walk.new bytes.now) ≡ Some (drop n (running_sums value (deltas walk.old bytes.now))) }
+    ensures { numbers_left result (deltas_left walk.new bytes.now)
+        ≡ Some (drop n (running_sums value (deltas walk.old bytes.now))) }
 {
     if n > walk.left() {
         return None;
@@ -155,9 +159,12 @@ fn write_values(
     out: &mut [i64],
 ) -> (usize, Option<i64>)
     requires { IsSome (deltas_left walk.old bytes.now) }
-    ensures count { result.0 ≡ min (length out.old) (length (running_sums value (deltas walk.old bytes.now))) }
-    ensures values { out.new ≡ take result.0 (running_sums value (deltas walk.old bytes.now)) ++ drop result.0 out.old }
-    ensures rest { numbers_left result.1 (deltas_left walk.new bytes.now) ≡ Some (drop result.0 (running_sums value (deltas walk.old bytes.now))) }
+    ensures count { result.0 ≡ min (length out.old)
+        (length (running_sums value (deltas walk.old bytes.now))) }
+    ensures values { out.new ≡ take result.0 (running_sums value (deltas walk.old bytes.now))
+        ++ drop result.0 out.old }
+    ensures rest { numbers_left result.1 (deltas_left walk.new bytes.now)
+        ≡ Some (drop result.0 (running_sums value (deltas walk.old bytes.now))) }
 {
     let (room, left) = (out.len(), walk.left());
     if room <= left {

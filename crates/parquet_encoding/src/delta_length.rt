@@ -29,7 +29,8 @@ pub struct DeltaLength {
 impl DeltaLength {
     /// Before the first of `count` strings.
     pub fn try_new(bytes: &[u8], count: usize) -> Result<Self, Unspelled>
-        ensures values { IfOk result (λ decoder. joined_left decoder bytes.now ≡ delta_length_places bytes.now count) }
+        ensures values { IfOk result (λ decoder.
+            joined_left decoder bytes.now ≡ delta_length_places bytes.now count) }
         ensures exact { is_ok result ≡ is_some (delta_length bytes.now count) }
         ensures counted { IfOk result (λ decoder. length (joined_values decoder bytes.now) ≡ count) }
     {
@@ -60,9 +61,13 @@ impl DeltaLength {
     pub fn take<'a>(&mut self, bytes: &'a [u8], lengths: &mut [i64]) -> (usize, &'a [u8])
         requires { IsSome (joined_left self.old bytes.now) }
         ensures count { result.0 ≡ min (length lengths.old) (length (joined_values self.old bytes.now)) }
-        ensures lengths { lengths.new ≡ map (λ place. pos place.1) (take result.0 (joined_values self.old bytes.now)) ++ drop result.0 lengths.old }
-        ensures joined { result.1.now ≡ flat_map (bytes_in bytes.now) (take result.0 (joined_values self.old bytes.now)) }
-        ensures rest { joined_left self.new bytes.now ≡ Some (drop result.0 (joined_values self.old bytes.now)) }
+        ensures lengths { lengths.new ≡ map
+            (λ place. pos place.1) (take result.0 (joined_values self.old bytes.now))
+            ++ drop result.0 lengths.old }
+        ensures joined { result.1.now ≡ flat_map (bytes_in bytes.now)
+            (take result.0 (joined_values self.old bytes.now)) }
+        ensures rest { joined_left self.new bytes.now
+            ≡ Some (drop result.0 (joined_values self.old bytes.now)) }
     {
         let start = self.next;
         let count = self.lengths.fill(bytes, lengths);

@@ -47,7 +47,8 @@ impl DeltaWalk {
         ensures behind { (bytes : List ℕ) → start ≤ length bytes
             → deltas_behind result bytes ≡ blocks (length bytes) size parts count (drop start bytes) }
         ensures left { (bytes : List ℕ) → start ≤ length bytes
-            → deltas_left result bytes ≡ option_map (λ read. read.0) (blocks (length bytes) size parts count (drop start bytes)) }
+            → deltas_left result bytes ≡ option_map
+            (λ read. read.0) (blocks (length bytes) size parts count (drop start bytes)) }
         ensures within { (bytes : List ℕ) → start ≤ length bytes → IsWithin bytes result }
     {
         DeltaWalk {
@@ -70,7 +71,8 @@ impl DeltaWalk {
     /// The place behind the last miniblock.
     pub(crate) fn end(&self, bytes: &[u8]) -> Result<usize, Unspelled>
         requires { IsWithin bytes.now self.now }
-        ensures ok { IfOk result (λ end. after (deltas_behind self.now bytes.now) ≡ Some (drop end bytes.now)) }
+        ensures ok { IfOk result (λ end.
+            after (deltas_behind self.now bytes.now) ≡ Some (drop end bytes.now)) }
         ensures within { IfOk result (λ end. end ≤ length bytes.now) }
         ensures err { OnErr result (deltas_behind self.now bytes.now ≡ None) }
     {
@@ -83,7 +85,8 @@ impl DeltaWalk {
 
     /// How many deltas are left.
     pub(crate) fn left(&self) -> usize
-        ensures length { (bytes : List ℕ) → IfSome (deltas_left self.now bytes) (λ deltas. result ≡ length deltas) }
+        ensures length { (bytes : List ℕ)
+            → IfSome (deltas_left self.now bytes) (λ deltas. result ≡ length deltas) }
         ensures counted { result + 1 < 2 ^ 64 }
     {
         self.run.count + self.behind
@@ -123,7 +126,8 @@ impl DeltaWalk {
         requires enough { length out.old ≤ length (deltas self.old bytes.now) }
         ensures sums { out.new ≡ numbers_before value (take (length out.old) (deltas self.old bytes.now)) }
         ensures behind { result ≡ number_behind value (take (length out.old) (deltas self.old bytes.now)) }
-        ensures rest { deltas_left self.new bytes.now ≡ Some (drop (length out.old) (deltas self.old bytes.now)) }
+        ensures rest { deltas_left self.new bytes.now
+            ≡ Some (drop (length out.old) (deltas self.old bytes.now)) }
     {
         let mut value = value;
         let mut done = 0;
@@ -174,7 +178,8 @@ impl DeltaWalk {
         requires within { IsWithin bytes.now self.old }
         requires more { 0 < self.old.behind }
         ensures ok { OnOk result (deltas_behind self.old bytes.now
-            ≡ map_value (λ others. run_deltas self.new.run bytes.now ++ others) (deltas_behind self.new bytes.now)) }
+            ≡ map_value (λ others. run_deltas self.new.run bytes.now ++ others)
+            (deltas_behind self.new bytes.now)) }
         ensures lies { OnOk result (DeltasLieIn bytes.now self.new.run) }
         ensures some { OnOk result (0 < self.new.run.count) }
         ensures counted { OnOk result (self.new.run.count + self.new.behind ≡ self.old.behind) }
@@ -215,7 +220,8 @@ impl DeltaWalk {
         requires more { 0 < self.old.behind }
         requires some { 0 < self.old.parts_left }
         ensures ok { OnOk result (deltas_behind self.old bytes.now
-            ≡ map_value (λ others. run_deltas self.new.run bytes.now ++ others) (deltas_behind self.new bytes.now)) }
+            ≡ map_value (λ others. run_deltas self.new.run bytes.now ++ others)
+            (deltas_behind self.new bytes.now)) }
         ensures lies { OnOk result (DeltasLieIn bytes.now self.new.run) }
         ensures some { OnOk result (0 < self.new.run.count) }
         ensures counted { OnOk result (self.new.run.count + self.new.behind ≡ self.old.behind) }

@@ -31,7 +31,8 @@ impl HybridRle {
 
     /// Before the first of `count` numbers of `width` bits.
     pub fn try_new(bytes: &[u8], width: u32, count: usize) -> Result<Self, Unspelled>
-        ensures values { IfOk result (λ decoder. hybrid_left decoder bytes.now ≡ hybrid width bytes.now count) }
+        ensures values { IfOk result (λ decoder.
+            hybrid_left decoder bytes.now ≡ hybrid width bytes.now count) }
         ensures exact { is_ok result ≡ is_some (hybrid width bytes.now count) }
         ensures counted { IfOk result (λ decoder. length (hybrid_values decoder bytes.now) ≡ count) }
     {
@@ -71,11 +72,13 @@ impl HybridRle {
         requires spelled { IsSome (hybrid_left self.old bytes.now) }
         requires some { 0 < limit }
         ensures ended { IfNone result (hybrid_values self.old bytes.now ≡ []) }
-        ensures values { IfSome result (λ run. run_values run bytes.now ≡ take (count_of run) (hybrid_values self.old bytes.now)) }
+        ensures values { IfSome result
+            (λ run. run_values run bytes.now ≡ take (count_of run) (hybrid_values self.old bytes.now)) }
         ensures lies { IfSome result (λ run. IsIn bytes.now run) }
         ensures some { IfSome result (λ run. 0 < count_of run) }
         ensures most { IfSome result (λ run. count_of run ≤ limit) }
-        ensures rest { hybrid_left self.new bytes.now ≡ Some (drop (given_count result) (hybrid_values self.old bytes.now)) }
+        ensures rest { hybrid_left self.new bytes.now
+            ≡ Some (drop (given_count result) (hybrid_values self.old bytes.now)) }
     {
         self.open(bytes);
         let count = self.run.len().min(limit);
@@ -108,7 +111,8 @@ impl HybridRle {
         requires { IsSome (hybrid_left self.old bytes.now) }
         ensures count { result ≡ min (length out.old) (length (hybrid_values self.old bytes.now)) }
         ensures values { out.new ≡ take result (hybrid_values self.old bytes.now) ++ drop result out.old }
-        ensures rest { hybrid_left self.new bytes.now ≡ Some (drop result (hybrid_values self.old bytes.now)) }
+        ensures rest { hybrid_left self.new bytes.now
+            ≡ Some (drop result (hybrid_values self.old bytes.now)) }
     {
         let mut done = 0;
         while done < out.len() {

@@ -53,7 +53,8 @@ impl PackedRun {
     pub(crate) fn behind(&self, n: usize) -> PackedRun
         requires enough { n ≤ self.now.count }
         requires lies { (bytes : List ℕ) × (length bytes < 2 ^ 64) × LiesIn bytes self.now }
-        ensures values { (bytes : List ℕ) → packed_values result bytes ≡ drop n (packed_values self.now bytes) }
+        ensures values { (bytes : List ℕ)
+            → packed_values result bytes ≡ drop n (packed_values self.now bytes) }
         ensures lies { (bytes : List ℕ) → LiesIn bytes self.now → LiesIn bytes result }
         ensures count { result.count ≡ self.now.count - n }
     {

@@ -25,7 +25,8 @@ impl PlainBytes {
 
     /// Before the first of `count` strings.
     pub fn try_new(bytes: &[u8], count: usize) -> Result<Self, Unspelled>
-        ensures values { IfOk result (λ decoder. strings_left decoder bytes.now ≡ option_map (places_of 4 0) (plain_bytes bytes.now count)) }
+        ensures values { IfOk result (λ decoder.
+            strings_left decoder bytes.now ≡ option_map (places_of 4 0) (plain_bytes bytes.now count)) }
         ensures exact { is_ok result ≡ is_some (plain_bytes bytes.now count) }
         ensures counted { IfOk result (λ decoder. length (strings decoder bytes.now) ≡ count) }
     {

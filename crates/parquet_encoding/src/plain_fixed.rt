@@ -23,7 +23,8 @@ impl PlainFixed {
 
     /// Before the first of `count` values of `size` bytes.
     pub fn try_new(bytes: &[u8], size: usize, count: usize) -> Result<Self, Unspelled>
-        ensures values { IfOk result (λ decoder. fixed_left decoder bytes.now ≡ option_map (places_of 0 0) (plain_fixed size bytes.now count)) }
+        ensures values { IfOk result (λ decoder.
+            fixed_left decoder bytes.now ≡ option_map (places_of 0 0) (plain_fixed size bytes.now count)) }
         ensures exact { is_ok result ≡ is_some (plain_fixed size bytes.now count) }
         ensures counted { IfOk result (λ decoder. length (fixed_values decoder bytes.now) ≡ count) }
         ensures sized { IfOk result (λ decoder. value_size decoder ≡ size) }
@@ -62,8 +63,10 @@ impl PlainFixed {
     pub fn take<'a>(&mut self, bytes: &'a [u8], n: usize) -> &'a [u8]
         requires { IsSome (fixed_left self.old bytes.now) }
         ensures values { let count = min n (length (fixed_values self.old bytes.now)) in
-            first_chunks (value_size self.old) count result.now ≡ map (bytes_in bytes.now) (take n (fixed_values self.old bytes.now)) }
-        ensures whole { length result.now ≡ min n (length (fixed_values self.old bytes.now)) * value_size self.old }
+            first_chunks (value_size self.old) count result.now
+            ≡ map (bytes_in bytes.now) (take n (fixed_values self.old bytes.now)) }
+        ensures whole { length result.now
+            ≡ min n (length (fixed_values self.old bytes.now)) * value_size self.old }
         ensures rest { fixed_left self.new bytes.now ≡ Some (drop n (fixed_values self.old bytes.now)) }
         ensures sized { value_size self.new ≡ value_size self.old }
     {

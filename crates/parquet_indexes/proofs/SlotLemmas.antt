@@ -14,7 +14,7 @@ use Rattle.flat_values.specs.CellTypes.{is_cell_of}
 use Rattle.flat_values.specs.MostBytes.{most_bytes}
 use Rattle.flat_builders.specs.Flat.{Flat, flatness}
 use Rattle.flat_builders.specs.Kept.{cells_fit}
-use Rattle.column_ends.specs.Converted.{array_causes, end_bytes, page_array_causes}
+use Rattle.column_ends.specs.Converted.{array_causes, bytes_of_one_end, page_array_causes}
 use Rattle.column_ends.specs.Laws.{AreEndsOf, IsEndOf}
 use Rattle.parquet_indexes.specs.PageStatistics.{end_slot}
 use Rattle.parquet_indexes.specs.Sides.{end_on, ends_on}
@@ -37,15 +37,15 @@ on_side data_type High page typed = typed.1
 
 -- ---- bytes
 
-slot_bytes : (end : Option Cell) → cell_bytes (end_slot end) ≡ end_bytes end
+slot_bytes : (end : Option Cell) → cell_bytes (end_slot end) ≡ bytes_of_one_end end
 slot_bytes None = refl
 slot_bytes (Some cell) = refl
 
-bytes_of_slots : (ends : List (Option Cell)) → sum_by cell_bytes (map end_slot ends) ≡ sum_by end_bytes ends
+bytes_of_slots : (ends : List (Option Cell)) → sum_by cell_bytes (map end_slot ends) ≡ sum_by bytes_of_one_end ends
 bytes_of_slots [] = refl
 bytes_of_slots (end ∷ ends) =
-    sum_by-cons cell_bytes (end_slot end) (map end_slot ends) ∙ ap (λ n. n + sum_by cell_bytes (map end_slot ends)) (slot_bytes end) ∙ ap (λ n. end_bytes end + n) (bytes_of_slots ends)
-    ∙ sym (sum_by-cons end_bytes end ends)
+    sum_by-cons cell_bytes (end_slot end) (map end_slot ends) ∙ ap (λ n. n + sum_by cell_bytes (map end_slot ends)) (slot_bytes end) ∙ ap (λ n. bytes_of_one_end end + n) (bytes_of_slots ends)
+    ∙ sym (sum_by-cons bytes_of_one_end end ends)
 
 fewer_fit : (most : Option ℕ) (fewer all : ℕ) → fewer ≤ all → fits_most most all ≡ true → fits_most most fewer ≡ true
 fewer_fit None fewer all h e = refl
@@ -65,7 +65,7 @@ module _ (data_type : DataType) (pages : List (PageIndex Cell)) (flat : flatness
     all_fit : cells_fit data_type (map end_slot (ends_on side pages)) ≡ true
     all_fit =
         ap (λ n. fits_most (most_bytes data_type) n) (bytes_of_slots (ends_on side pages))
-        ∙ ap (λ (type : DataType). fits_most (most_bytes type) (sum_by end_bytes (ends_on side pages))) (sym (own_value_type data_type flat))
+        ∙ ap (λ (type : DataType). fits_most (most_bytes type) (sum_by bytes_of_one_end (ends_on side pages))) (sym (own_value_type data_type flat))
         ∙ no_cause _ (side_fits side)
 
     first_slots : (k : ℕ) → map end_slot (ends_on side (take k pages)) ≡ take k (map end_slot (ends_on side pages))

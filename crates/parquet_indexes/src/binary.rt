@@ -22,9 +22,11 @@ pub fn deserialize(
     ensures told { IfOk result
         (AreTold (required_type PhysicalType.ByteArray None) data_type.now (Index.ByteArray indexes.now)) }
     ensures ok { OnOk result
-        (statistics_causes (required_type PhysicalType.ByteArray None) data_type.now (Index.ByteArray indexes.now) ≡ []) }
+        (statistics_causes (required_type PhysicalType.ByteArray None) data_type.now
+        (Index.ByteArray indexes.now) ≡ []) }
     ensures cause { ComesOf result
-        (statistics_causes (required_type PhysicalType.ByteArray None) data_type.now (Index.ByteArray indexes.now)) }
+        (statistics_causes (required_type PhysicalType.ByteArray None) data_type.now
+        (Index.ByteArray indexes.now)) }
 {
     let index = Index::ByteArray(copy_of_byte_pages(alloc, indexes)?);
     told_statistics(

@@ -21,7 +21,8 @@ pub fn deserialize(
     ensures told { IfOk result
         (AreTold (required_type PhysicalType.Boolean None) Boolean (Index.Boolean indexes.now)) }
     ensures ok { OnOk result
-        (statistics_causes (required_type PhysicalType.Boolean None) Boolean (Index.Boolean indexes.now) ≡ []) }
+        (statistics_causes (required_type PhysicalType.Boolean None) Boolean (Index.Boolean indexes.now)
+        ≡ []) }
     ensures cause { ComesOf result
         (statistics_causes (required_type PhysicalType.Boolean None) Boolean (Index.Boolean indexes.now)) }
 {

@@ -50,7 +50,8 @@ impl ColumnChunkMetaData {
 
     /// The statistics in the type of the column, or None where there are none.
     pub fn statistics(&self, alloc: Global) -> Result<Option<RawStatistics>, Error>
-        ensures { GivesStatistics self.now.descriptor.primitive_type.physical_type self.now.statistics_bytes result }
+        ensures { GivesStatistics self.now.descriptor.primitive_type.physical_type self.now.statistics_bytes
+            result }
     {
         let physical_type = self.descriptor.primitive_type.physical_type;
         if !is_carried(physical_type) {

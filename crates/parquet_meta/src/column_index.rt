@@ -99,7 +99,8 @@ impl Make<ColumnIndex, Global> for ColumnIndexFields {
 /// A list of truth values, each of which is a byte.
 #[tactic(auto, using(crate::proofs::Rules::list_rules))]
 fn decode_truths(alloc: Global, kind: u8, compact: &mut Compact<'_>) -> Result<Seq<bool>, Fault>
-    ensures { ReadsOr true (λ s. s) (by_rule in_struct (list_of truth_element) kind) compact.old result compact.new }
+    ensures { ReadsOr true (λ s. s)
+        (by_rule in_struct (list_of truth_element) kind) compact.old result compact.new }
 {
     if kind != LIST {
         return Err(Fault::Unspelled);
@@ -115,7 +116,8 @@ fn decode_truth_elements(
     kind: u8,
     compact: &mut Compact<'_>,
 ) -> Result<Seq<bool>, Fault>
-    ensures { ReadsOr true (λ s. s) (elements_by_rule truth_element kind count) compact.old result compact.new }
+    ensures { ReadsOr true (λ s. s)
+        (elements_by_rule truth_element kind count) compact.old result compact.new }
 {
     let mut truths = Vec::new(alloc);
     'elements: for _ in 0..count {

@@ -17,7 +17,8 @@ pub(crate) trait Decode<M: Memory> {
     ghost rule: { Rule Self };
 
     fn decode(memory: M, kind: u8, compact: &mut Compact<'_>) -> Result<Self, Fault>
-        ensures { (context : Context) → ReadsOr M.may_want (λ x. x) (by_rule context rule kind) compact.old result compact.new };
+        ensures { (context : Context) → ReadsOr M.may_want
+            (λ x. x) (by_rule context rule kind) compact.old result compact.new };
 }
 
 impl<M: Memory> Decode<M> for i32 {
@@ -100,7 +101,8 @@ pub(crate) fn decode_struct<S: Structure<M> + Drop, M: Memory>(
     kind: u8,
     compact: &mut Compact<'_>,
 ) -> Result<S, Fault>
-    ensures { (context : Context) → ReadsOr M.may_want (λ s. s) (by_rule context (struct_of S.field start) kind) compact.old result compact.new }
+    ensures { (context : Context) → ReadsOr M.may_want
+        (λ s. s) (by_rule context (struct_of S.field start) kind) compact.old result compact.new }
 {
     if kind != STRUCT {
         return Err(Fault::Unspelled);
@@ -124,7 +126,8 @@ pub(crate) fn decode_made<A: Decode<M> + Make<T, M>, T, M: Memory>(
     kind: u8,
     compact: &mut Compact<'_>,
 ) -> Result<T, Fault>
-    ensures { (context : Context) → ReadsOr M.may_want (λ x. x) (by_rule context (made A.rule A.make) kind) compact.old result compact.new }
+    ensures { (context : Context) → ReadsOr M.may_want
+        (λ x. x) (by_rule context (made A.rule A.make) kind) compact.old result compact.new }
 {
     let read = A::decode(memory, kind, compact)?;
     read.make(memory)
@@ -137,7 +140,9 @@ pub(crate) fn decode_made_struct<S: Structure<M> + Make<T, M> + Drop, T, M: Memo
     kind: u8,
     compact: &mut Compact<'_>,
 ) -> Result<T, Fault>
-    ensures { (context : Context) → ReadsOr M.may_want (λ x. x) (by_rule context (made (struct_of S.field start) S.make) kind) compact.old result compact.new }
+    ensures { (context : Context) → ReadsOr M.may_want
+        (λ x. x) (by_rule context (made (struct_of S.field start) S.make) kind) compact.old result
+        compact.new }
 {
     let read = decode_struct(memory, start, kind, compact)?;
     read.make(memory)
@@ -150,7 +155,8 @@ pub(crate) fn decode_bool<M: Memory>(
     kind: u8,
     compact: &mut Compact<'_>,
 ) -> Result<bool, Fault>
-    ensures { ReadsOr M.may_want (λ b. b) (by_rule in_struct truth_value kind) compact.old result compact.new }
+    ensures { ReadsOr M.may_want (λ b. b)
+        (by_rule in_struct truth_value kind) compact.old result compact.new }
 {
     match kind {
         TRUE => Ok(true),
@@ -180,7 +186,8 @@ pub(crate) fn decode_list<T: Decode<Global> + Drop>(
     kind: u8,
     compact: &mut Compact<'_>,
 ) -> Result<Seq<T>, Fault>
-    ensures { (context : Context) → ReadsOr true (λ s. s) (by_rule context (list_of T.rule) kind) compact.old result compact.new }
+    ensures { (context : Context) → ReadsOr true
+        (λ s. s) (by_rule context (list_of T.rule) kind) compact.old result compact.new }
 {
     if kind != LIST {
         return Err(Fault::Unspelled);

@@ -37,7 +37,13 @@ fn is_listed(failing: &[u64], call: u64) -> bool
 
 impl FailingSource {
     pub fn new(bytes: Vec<u8>, failing: Vec<u64>) -> Self
-        ensures { result ≡ record { bytes = bytes.items; listed = failing.items; calls = 0; faults = 0; taken = 0 } }
+        ensures { result ≡ record {
+          bytes = bytes.items;
+          listed = failing.items;
+          calls = 0;
+          faults = 0;
+          taken = 0;
+        } }
     {
         FailingSource {
             bytes,

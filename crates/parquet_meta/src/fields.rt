@@ -25,7 +25,8 @@ pub fn get_field_columns<'a>(
     field_name: &str,
 ) -> Result<Vec<&'a ColumnChunkMetaData>, Error>
     ensures memory { IfErr result IsWantOfMemory }
-    ensures found { IfOk result (λ found. map (λ column. column.now) found.items ≡ field_columns field_name.now columns.now) }
+    ensures found { IfOk result (λ found.
+        map (λ column. column.now) found.items ≡ field_columns field_name.now columns.now) }
 {
     let mut found = Vec::new(alloc);
     for column in columns {
@@ -44,7 +45,8 @@ pub fn get_field_pages<'a, T>(
     field_name: &str,
 ) -> Result<Vec<&'a T>, Error>
     ensures memory { IfErr result IsWantOfMemory }
-    ensures found { IfOk result (λ found. map (λ item. item.now) found.items ≡ field_items field_name.now columns.now items.now) }
+    ensures found { IfOk result (λ found.
+        map (λ item. item.now) found.items ≡ field_items field_name.now columns.now items.now) }
 {
     let mut found = Vec::new(alloc);
     for (column, item) in columns.iter().zip(items) {

@@ -29,7 +29,8 @@ pub fn read_pages_locations<S: Source>(
 ) -> Result<Vec<Vec<PageLocation>>, Error>
     ensures keeps { Keeps S.Source source.old source.new }
     ensures quiet { OnOk result (S.faults source.new ≡ S.faults source.old) }
-    ensures found { Finds (λ lists. map (λ list. list.items) lists.items) (λ file. all_of (locations_of file) columns.now)
+    ensures found { Finds (λ lists. map (λ list. list.items) lists.items)
+        (λ file. all_of (locations_of file) columns.now)
         (S.told source.old) (S.faults source.old) (S.faults source.new) result }
     ensures taken { S.taken source.new ≤ S.taken source.old + sum_by offset_index_length columns.now }
 {

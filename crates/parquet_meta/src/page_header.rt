@@ -279,7 +279,9 @@ fn read_kind<S: Structure<NoMemory> + Make<PageKind, NoMemory> + Drop>(
     kind: u8,
     compact: &mut Compact<'_>,
 ) -> Result<PageKind, Fault>
-    ensures { ReadsOr false (λ x. x) (by_rule in_struct (made (struct_of S.Structure.field start) S.Make.make) kind) compact.old result compact.new }
+    ensures { ReadsOr false (λ x. x)
+        (by_rule in_struct (made (struct_of S.Structure.field start) S.Make.make) kind) compact.old result
+        compact.new }
 {
     decode_made_struct(NoMemory, start, kind, compact)
 }
@@ -298,7 +300,8 @@ fn read_data(kind: u8, compact: &mut Compact<'_>) -> Result<PageKind, Fault>
 
 #[tactic(auto, unfolding(crate::specs::PageHeader::dictionary_header))]
 fn read_dictionary(kind: u8, compact: &mut Compact<'_>) -> Result<PageKind, Fault>
-    ensures { ReadsOr false (λ x. x) (by_rule in_struct dictionary_header kind) compact.old result compact.new }
+    ensures { ReadsOr false (λ x. x)
+        (by_rule in_struct dictionary_header kind) compact.old result compact.new }
 {
     let start = DictionaryFields {
         num_values: None,
@@ -352,5 +355,6 @@ pub fn page_header_at(bytes: &[u8]) -> Result<(PageHeader, &[u8]), Unspelled>
 #[tactic(auto, using(crate::proofs::PageHeaderLemmas::page_header_laws))]
 pub fn page_headers_are_read_from_their_own_bytes()
     ensures own { ReadsFront 1 page_header }
-    ensures longer { (bytes more : List ℕ) (x : PageHeader × List ℕ) → page_header bytes ≡ Some x → page_header (bytes ++ more) ≡ Some (x.0, x.1 ++ more) }
+    ensures longer { (bytes more : List ℕ) (x : PageHeader × List ℕ) → page_header bytes ≡ Some x
+        → page_header (bytes ++ more) ≡ Some (x.0, x.1 ++ more) }
 {}

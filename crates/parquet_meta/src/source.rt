@@ -39,7 +39,8 @@ pub trait Source {
         ensures same { told self.new ≡ told self.old }
         ensures kept { Self.kept self.new ≡ Self.kept self.old }
         ensures at_most { IfOk result (λ n. n ≤ length out.new) }
-        ensures read { IfOk result (λ n. IfSome (told self.old) (λ bytes. take n out.new ≡ take n (drop place bytes))) }
+        ensures read { IfOk result (λ n.
+            IfSome (told self.old) (λ bytes. take n out.new ≡ take n (drop place bytes))) }
         ensures some { IfOk result (λ n. IfSome (told self.old) (λ bytes.
             place < length bytes → 0 < length out.old → 0 < n)) }
         ensures counted { faults self.new ≡ counted (faults self.old) result }

@@ -20,7 +20,8 @@ pub(crate) trait Structure<M: Memory> {
         header: FieldHeader,
         compact: &mut Compact<'_>,
     ) -> Result<(), Fault>
-        ensures { ReadsOr M.may_want (λ _. self.new) (by_rule in_struct (field self.old header.id) header.kind) compact.old result compact.new };
+        ensures { ReadsOr M.may_want (λ _. self.new)
+            (by_rule in_struct (field self.old header.id) header.kind) compact.old result compact.new };
 }
 
 /// Reads a struct's fields up to its end.
@@ -29,7 +30,8 @@ pub(crate) fn read_fields<S: Structure<M>, M: Memory>(
     into: &mut S,
     compact: &mut Compact<'_>,
 ) -> Result<(), Fault>
-    ensures { ReadsOr M.may_want (λ _. into.new) (fields_by S.field into.old (pos 0)) compact.old result compact.new }
+    ensures { ReadsOr M.may_want (λ _. into.new)
+        (fields_by S.field into.old (pos 0)) compact.old result compact.new }
 {
     let mut previous = 0;
     'fields: while let Some(header) = compact.next_field(previous)? {

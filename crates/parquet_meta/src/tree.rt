@@ -88,7 +88,8 @@ fn leaf_of(
     repetition: Repetition,
     code: TypeCode,
 ) -> Result<ColumnDescriptor, Fault>
-    ensures { MakesOr true result (leaf_of (path_of groups.now ++ element.now.name ∷ []) element.now repetition code) }
+    ensures { MakesOr true result (leaf_of
+        (path_of groups.now ++ element.now.name ∷ []) element.now repetition code) }
 {
     let physical_type = physical_type_of(code, element.type_length).ok_or(Fault::Unspelled)?;
     if children_of(element) != 0 {

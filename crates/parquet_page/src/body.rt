@@ -13,8 +13,12 @@ const LENGTH_BYTES: usize = 4;
 
 /// Repetition levels, definition levels and values. Levels that a page does not have are empty.
 pub fn split_buffer<'a>(page: &DataPage<'a>) -> Result<(&'a [u8], &'a [u8], &'a [u8]), Error>
-    ensures parts { IfOk result (λ parts. body_parts page.now.type_.now.repetition page.now.header page.now.buffer.now ≡ Some (body_of parts.0.now parts.1.now parts.2.now)) }
-    ensures refusal { IfErr result (λ error. (cause_of error ≡ Some ExternalFormat) × (body_parts page.now.type_.now.repetition page.now.header page.now.buffer.now ≡ None)) }
+    ensures parts { IfOk result (λ parts.
+        body_parts page.now.type_.now.repetition page.now.header page.now.buffer.now
+        ≡ Some (body_of parts.0.now parts.1.now parts.2.now)) }
+    ensures refusal { IfErr result
+        (λ error. (cause_of error ≡ Some ExternalFormat)
+        × (body_parts page.now.type_.now.repetition page.now.header page.now.buffer.now ≡ None)) }
 {
     let parts = match page.header {
         DataPageHeader::V1 { .. } => split_prefixed(page.type_.repetition, page.buffer),
@@ -29,7 +33,8 @@ pub fn split_buffer<'a>(page: &DataPage<'a>) -> Result<(&'a [u8], &'a [u8], &'a 
 
 /// Levels behind their lengths.
 fn split_prefixed(repetition: Repetition, body: &[u8]) -> Option<(&[u8], &[u8], &[u8])>
-    ensures { option_map (λ parts. body_of parts.0.now parts.1.now parts.2.now) result ≡ prefixed_parts repetition body.now }
+    ensures { option_map (λ parts. body_of parts.0.now parts.1.now parts.2.now) result
+        ≡ prefixed_parts repetition body.now }
 {
     let (empty, _) = body.split_at(0);
     match repetition {
@@ -64,7 +69,8 @@ fn split_at_lengths(
     repetition: usize,
     definition: usize,
 ) -> Option<(&[u8], &[u8], &[u8])>
-    ensures { option_map (λ parts. body_of parts.0.now parts.1.now parts.2.now) result ≡ parts_of_lengths repetition definition body.now }
+    ensures { option_map (λ parts. body_of parts.0.now parts.1.now parts.2.now) result
+        ≡ parts_of_lengths repetition definition body.now }
 {
     if repetition > body.len() {
         return None;

@@ -46,7 +46,9 @@ impl Cursor {
 
     /// The next page. Behind the last one and after an error there is none.
     pub(crate) fn next(&mut self) -> Result<Option<FoundPage>, Error>
-        ensures walks { (type : PrimitiveType) → Walks (found_content type None self.old.chunk.items) result (cursor_lent type self.old) (cursor_lent type self.new) (cursor_given self.old) (cursor_given self.new) }
+        ensures walks { (type : PrimitiveType)
+            → Walks (found_content type None self.old.chunk.items) result (cursor_lent type self.old)
+            (cursor_lent type self.new) (cursor_given self.old) (cursor_given self.new) }
         ensures chunk { self.new.chunk.items ≡ self.old.chunk.items }
         ensures count { self.new.count ≡ self.old.count }
         ensures inside { IfOk result (λ found. IfSome found (IsInside self.old.chunk.items)) }
@@ -66,13 +68,20 @@ impl Cursor {
     /// The next page, where values are still to come.
     fn open(&mut self) -> Result<FoundPage, Error>
         requires { 0 < self.old.left }
-        ensures opens { (type : PrimitiveType) → Opens (found_content type None self.old.chunk.items) result (cursor_lent type self.old) (cursor_lent type self.new) (cursor_given self.old) (cursor_given self.new) }
+        ensures opens { (type : PrimitiveType)
+            → Opens (found_content type None self.old.chunk.items) result (cursor_lent type self.old)
+            (cursor_lent type self.new) (cursor_given self.old) (cursor_given self.new) }
         ensures chunk { self.new.chunk.items ≡ self.old.chunk.items }
         ensures count { self.new.count ≡ self.old.count }
         ensures inside { IfOk result (IsInside self.old.chunk.items) }
     {
         let Some(found) = find_page(self.chunk.as_slice(), self.place) else {
-            return Err(Error::ExternalFormat(Part::Header));
+            let part = if self.place == self.chunk.len() {
+                Part::Chunk
+            } else {
+                Part::Header
+            };
+            return Err(Error::ExternalFormat(part));
         };
         let left = match found.kind {
             PageKind::Dictionary { .. } => {

@@ -38,13 +38,17 @@ impl IndexedPageReader {
     ) -> Result<Self, Error>
         ensures shaped { IfOk result (λ _. are_well_shaped pages.items ≡ true) }
         ensures lies { IfOk result (λ _. lie_within_by (length buffer.items) pages.items ≡ true) }
-        ensures lends { IfOk result (λ reader. indexed_lent reader ≡ located_chunk column.now.descriptor.primitive_type buffer.items pages.items) }
+        ensures lends { IfOk result (λ reader.
+            indexed_lent reader ≡ located_chunk column.now.descriptor.primitive_type buffer.items
+            pages.items) }
         ensures typed { IfOk result (λ r. AreOfType column.now.descriptor.primitive_type (indexed_pages r)) }
         ensures ordered { IfOk result (λ r. has_data_behind (indexed_pages r) ≡ true) }
         ensures rows { IfOk result (λ reader. indexed_rows reader ≡ selected_count pages.items) }
         ensures given { IfOk result (λ reader. indexed_given reader ≡ 0) }
         ensures lent { IfOk result (λ reader. indexed_count reader ≡ 0) }
-        ensures refusal { IfErr result (Refuses (are_well_shaped pages.items) (given (lie_within_by (length buffer.items) pages.items) pages.items)) }
+        ensures refusal { IfErr result
+            (Refuses (are_well_shaped pages.items)
+            (given (lie_within_by (length buffer.items) pages.items) pages.items)) }
     {
         let Some(count) = count_selected(&pages) else {
             return Err(Error::InvalidArgumentError(Part::Request));
@@ -72,14 +76,20 @@ impl IndexedPageReader {
         pages: Vec<FilteredPage>,
     ) -> Result<Self, Error>
         ensures shaped { IfOk result (λ _. are_well_shaped pages.items ≡ true) }
-        ensures all { IfOk result (λ _. has_parts pages.items (map (λ body. body.items) bodies.items) ≡ true) }
-        ensures lends { IfOk result (λ reader. indexed_lent reader ≡ located_parts column.now.descriptor.primitive_type (option_map (λ part. part.items) dictionary) pages.items (map (λ body. body.items) bodies.items)) }
+        ensures all { IfOk result (λ _.
+            has_parts pages.items (map (λ body. body.items) bodies.items) ≡ true) }
+        ensures lends { IfOk result (λ reader.
+            indexed_lent reader ≡ located_parts column.now.descriptor.primitive_type
+            (option_map (λ part. part.items) dictionary) pages.items
+            (map (λ body. body.items) bodies.items)) }
         ensures typed { IfOk result (λ r. AreOfType column.now.descriptor.primitive_type (indexed_pages r)) }
         ensures ordered { IfOk result (λ r. has_data_behind (indexed_pages r) ≡ true) }
         ensures rows { IfOk result (λ reader. indexed_rows reader ≡ selected_count pages.items) }
         ensures given { IfOk result (λ reader. indexed_given reader ≡ 0) }
         ensures lent { IfOk result (λ reader. indexed_count reader ≡ 0) }
-        ensures refusal { IfErr result (Refuses (are_well_shaped pages.items && has_parts pages.items (map (λ body. body.items) bodies.items)) (Some pages.items)) }
+        ensures refusal { IfErr result
+            (Refuses (are_well_shaped pages.items
+            && has_parts pages.items (map (λ body. body.items) bodies.items)) (Some pages.items)) }
     {
         let Some(count) = count_selected(&pages) else {
             return Err(Error::InvalidArgumentError(Part::Request));
@@ -101,7 +111,8 @@ impl IndexedPageReader {
     /// The page that was found.
     fn page_in(&self, page: LocatedPage) -> Page<'_>
         requires { IsLocated self.now.located.parts self.now.located.entries.items page }
-        ensures { content result ≡ located_content self.now.type_ self.now.located.parts self.now.located.entries.items page }
+        ensures { content result ≡ located_content self.now.type_ self.now.located.parts
+            self.now.located.entries.items page }
     {
         let buffer = self.located.body(&page);
         match page.found.kind {

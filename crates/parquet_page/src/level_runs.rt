@@ -54,7 +54,8 @@ fn packed_front(run: &PackedRun, bytes: &[u8]) -> Stretch
     ensures some { 0 < result.count }
     ensures within { result.count ≤ run.now.count }
     ensures same { take result.count (packed_values run.now bytes.now) ≡ replicate result.count result.level }
-    ensures ends { result.ends ≡ true → (result.count < run.now.count) × BeginsOtherwise result.level (drop result.count (packed_values run.now bytes.now)) }
+    ensures ends { result.ends ≡ true → (result.count < run.now.count)
+        × BeginsOtherwise result.level (drop result.count (packed_values run.now bytes.now)) }
 {
     if run.width != 1 {
         return Stretch {
@@ -79,7 +80,9 @@ fn packed_word(run: &PackedRun, bytes: &[u8]) -> Option<ValidityWord>
     ensures some { IfSome result (λ word. 0 < word.rows) }
     ensures within { IfSome result (λ word. word.rows ≤ run.now.count) }
     ensures both { IfSome result HasBothKinds }
-    ensures places { IfSome result (λ word. word_places word ≡ map (λ level. level == 1) (take word.rows (packed_values run.now bytes.now))) }
+    ensures places { IfSome result
+        (λ word. word_places word ≡ map
+        (λ level. level == 1) (take word.rows (packed_values run.now bytes.now))) }
 {
     if run.width != 1 {
         return None;
@@ -98,7 +101,8 @@ fn run_front(run: &HybridRun, bytes: &[u8]) -> Stretch
     ensures some { 0 < result.count }
     ensures within { result.count ≤ count_of run.now }
     ensures same { take result.count (run_values run.now bytes.now) ≡ replicate result.count result.level }
-    ensures ends { result.ends ≡ true → (result.count < count_of run.now) × BeginsOtherwise result.level (drop result.count (run_values run.now bytes.now)) }
+    ensures ends { result.ends ≡ true → (result.count < count_of run.now)
+        × BeginsOtherwise result.level (drop result.count (run_values run.now bytes.now)) }
 {
     match run {
         HybridRun::Packed(run) => packed_front(run, bytes),
@@ -115,7 +119,8 @@ fn next_run(levels: &HybridRle, bytes: &[u8], limit: usize) -> Option<HybridRun>
     requires spelled { IsSome (hybrid_left levels.now bytes.now) }
     requires some { 0 < limit }
     ensures ended { IfNone result (hybrid_values levels.now bytes.now ≡ []) }
-    ensures values { IfSome result (λ run. run_values run bytes.now ≡ take (count_of run) (hybrid_values levels.now bytes.now)) }
+    ensures values { IfSome result
+        (λ run. run_values run bytes.now ≡ take (count_of run) (hybrid_values levels.now bytes.now)) }
     ensures lies { IfSome result (IsIn bytes.now) }
     ensures some { IfSome result (λ run. 0 < count_of run) }
     ensures most { IfSome result (λ run. count_of run ≤ limit) }
@@ -131,8 +136,11 @@ fn next_same(levels: &HybridRle, bytes: &[u8], limit: usize) -> Option<Stretch>
     ensures ended { IfNone result (hybrid_values levels.now bytes.now ≡ []) }
     ensures some { IfSome result (λ same. 0 < same.count) }
     ensures most { IfSome result (λ same. same.count ≤ limit) }
-    ensures same { IfSome result (λ same. hybrid_values levels.now bytes.now ≡ replicate same.count same.level ++ drop same.count (hybrid_values levels.now bytes.now)) }
-    ensures ends { IfSome result (λ same. same.ends ≡ true → BeginsOtherwise same.level (drop same.count (hybrid_values levels.now bytes.now))) }
+    ensures same { IfSome result (λ same.
+        hybrid_values levels.now bytes.now
+        ≡ replicate same.count same.level ++ drop same.count (hybrid_values levels.now bytes.now)) }
+    ensures ends { IfSome result (λ same. same.ends ≡ true
+        → BeginsOtherwise same.level (drop same.count (hybrid_values levels.now bytes.now))) }
 {
     let run = next_run(levels, bytes, limit)?;
     Some(run_front(&run, bytes))
@@ -142,9 +150,12 @@ fn next_same(levels: &HybridRle, bytes: &[u8], limit: usize) -> Option<Stretch>
 fn skip_same(levels: &mut HybridRle, bytes: &[u8], first: Stretch, limit: usize) -> usize
     requires spelled { IsSome (hybrid_left levels.old bytes.now) }
     requires most { first.count ≤ limit }
-    requires same { hybrid_values levels.old bytes.now ≡ replicate first.count first.level ++ drop first.count (hybrid_values levels.old bytes.now) }
-    requires ends { first.ends ≡ true → BeginsOtherwise first.level (drop first.count (hybrid_values levels.old bytes.now)) }
-    ensures begins { BeginsWith limit first.level result (hybrid_values levels.old bytes.now) (hybrid_values levels.new bytes.now) }
+    requires same { hybrid_values levels.old bytes.now
+        ≡ replicate first.count first.level ++ drop first.count (hybrid_values levels.old bytes.now) }
+    requires ends { first.ends ≡ true
+        → BeginsOtherwise first.level (drop first.count (hybrid_values levels.old bytes.now)) }
+    ensures begins { BeginsWith limit first.level result (hybrid_values levels.old bytes.now)
+        (hybrid_values levels.new bytes.now) }
     ensures spelled { IsSome (hybrid_left levels.new bytes.now) }
     ensures some { first.count ≤ result }
 {
@@ -171,8 +182,10 @@ fn low_packed(run: &PackedRun, bytes: &[u8], top: u32) -> usize
     requires some { 0 < run.now.count }
     requires lies { LiesIn bytes.now run.now }
     ensures within { result ≤ run.now.count }
-    ensures low { list_all (λ level. nat_le level top) (take result (packed_values run.now bytes.now)) ≡ true }
-    ensures high { result ≡ 0 → list_all (λ level. nat_le level top) (packed_values run.now bytes.now) ≡ false }
+    ensures low { list_all (λ level. nat_le level top) (take result (packed_values run.now bytes.now))
+        ≡ true }
+    ensures high { result ≡ 0 → list_all (λ level. nat_le level top) (packed_values run.now bytes.now)
+        ≡ false }
 {
     if run.width == 1 && top > 0 {
         return run.count;
@@ -216,7 +229,8 @@ fn packed_tops(run: &PackedRun, bytes: &[u8], top: u32) -> (usize, usize)
     requires lies { LiesIn bytes.now run.now }
     ensures some { 0 < result.0 }
     ensures within { result.0 ≤ run.now.count }
-    ensures tops { result.1 ≡ count_by (λ level. level == top) (take result.0 (packed_values run.now bytes.now)) }
+    ensures tops { result.1 ≡ count_by
+        (λ level. level == top) (take result.0 (packed_values run.now bytes.now)) }
 {
     if run.width == 1 && top == 1 {
         let (bits, seen) = front_bits(run, bytes);
@@ -232,7 +246,8 @@ fn next_tops(levels: &HybridRle, bytes: &[u8], top: u32, limit: usize) -> Option
     ensures ended { IfNone result (hybrid_values levels.now bytes.now ≡ []) }
     ensures some { IfSome result (λ seen. 0 < seen.0) }
     ensures most { IfSome result (λ seen. seen.0 ≤ limit) }
-    ensures tops { IfSome result (λ seen. seen.1 ≡ count_by (λ level. level == top) (take seen.0 (hybrid_values levels.now bytes.now))) }
+    ensures tops { IfSome result (λ seen.
+        seen.1 ≡ count_by (λ level. level == top) (take seen.0 (hybrid_values levels.now bytes.now))) }
 {
     match next_run(levels, bytes, limit)? {
         HybridRun::Packed(run) => Some(packed_tops(&run, bytes, top)),
@@ -271,9 +286,12 @@ impl LevelRuns {
         repetition: Repetition,
         count: usize,
     ) -> Result<Self, Error>
-        ensures places { IfOk result (λ runs. places_left runs levels.now ≡ presence repetition levels.now count) }
+        ensures places { IfOk result (λ runs.
+            places_left runs levels.now ≡ presence repetition levels.now count) }
         ensures spelled { IfOk result (λ runs. IsSome (places_left runs levels.now)) }
-        ensures refusal { IfErr result (λ error. (cause_of error ≡ Some ExternalFormat) × (presence repetition levels.now count ≡ None)) }
+        ensures refusal { IfErr result
+            (λ error. (cause_of error ≡ Some ExternalFormat)
+            × (presence repetition levels.now count ≡ None)) }
     {
         let damaged = Error::ExternalFormat(Part::Levels);
         let Some(top) = top_level(repetition) else {
@@ -293,7 +311,8 @@ impl LevelRuns {
         requires spelled { IsSome (places_left self.old levels.now) }
         requires some { 0 < limit }
         ensures ended { IfNone result (places self.old levels.now ≡ []) }
-        ensures begins { IfSome result (λ run. BeginsWith limit run.0 run.1 (places self.old levels.now) (places self.new levels.now)) }
+        ensures begins { IfSome result
+            (λ run. BeginsWith limit run.0 run.1 (places self.old levels.now) (places self.new levels.now)) }
         ensures some { IfSome result (λ run. 0 < run.1) }
         ensures kept { IfNone result (self.new ≡ self.old) }
         ensures spelled { IsSome (places_left self.new levels.now) }
@@ -307,7 +326,9 @@ impl LevelRuns {
     pub(crate) fn next_word(&mut self, levels: &[u8], limit: usize) -> Option<ValidityWord>
         requires spelled { IsSome (places_left self.old levels.now) }
         requires some { 0 < limit }
-        ensures word { IfSome result (λ word. (places self.old levels.now ≡ word_places word ++ places self.new levels.now) × (0 < word.rows) × (word.rows ≤ limit)) }
+        ensures word { IfSome result (λ word.
+            (places self.old levels.now ≡ word_places word ++ places self.new levels.now) × (0 < word.rows)
+            × (word.rows ≤ limit)) }
         ensures both { IfSome result HasBothKinds }
         ensures kept { IfNone result (self.new ≡ self.old) }
         ensures spelled { IsSome (places_left self.new levels.now) }
@@ -345,7 +366,8 @@ impl LevelRuns {
 
     /// How many places are left.
     pub(crate) fn len(&self) -> usize
-        ensures { (levels : List ℕ) → IsSome (places_left self.now levels) → result ≡ length (places self.now levels) }
+        ensures { (levels : List ℕ) → IsSome (places_left self.now levels)
+            → result ≡ length (places self.now levels) }
     {
         self.levels.remaining()
     }

@@ -61,11 +61,15 @@ impl Located {
 
     /// The next page. Behind the last one and after an error there is none.
     pub(crate) fn next(&mut self) -> Result<Option<LocatedPage>, Error>
-        ensures walks { (type : PrimitiveType) → Walks (located_content type self.old.parts self.old.entries.items) result (located_left type self.old) (located_left type self.new) (located_given self.old) (located_given self.new) }
+        ensures walks { (type : PrimitiveType)
+            → Walks (located_content type self.old.parts self.old.entries.items) result
+            (located_left type self.old) (located_left type self.new) (located_given self.old)
+            (located_given self.new) }
         ensures parts { self.new.parts ≡ self.old.parts }
         ensures entries { self.new.entries.items ≡ self.old.entries.items }
         ensures count { self.new.count ≡ self.old.count }
-        ensures there { IfOk result (λ found. IfSome found (IsLocated self.old.parts self.old.entries.items)) }
+        ensures there { IfOk result (λ found.
+            IfSome found (IsLocated self.old.parts self.old.entries.items)) }
     {
         if self.next == self.entries.len() {
             return Ok(None);
@@ -82,7 +86,10 @@ impl Located {
     /// The next page, where one is still wanted.
     fn open(&mut self) -> Result<LocatedPage, Error>
         requires { self.old.next < length self.old.entries.items }
-        ensures opens { (type : PrimitiveType) → Opens (located_content type self.old.parts self.old.entries.items) result (located_left type self.old) (located_left type self.new) (located_given self.old) (located_given self.new) }
+        ensures opens { (type : PrimitiveType)
+            → Opens (located_content type self.old.parts self.old.entries.items) result
+            (located_left type self.old) (located_left type self.new) (located_given self.old)
+            (located_given self.new) }
         ensures parts { self.new.parts ≡ self.old.parts }
         ensures entries { self.new.entries.items ≡ self.old.entries.items }
         ensures count { self.new.count ≡ self.old.count }
@@ -125,7 +132,8 @@ impl Located {
     /// The body of a page.
     pub(crate) fn body(&self, page: &LocatedPage) -> &[u8]
         requires { IsLocated self.now.parts self.now.entries.items page.now }
-        ensures { result.now ≡ slice_range (bytes_of self.now.parts self.now.entries.items page.now) page.now.found.body page.now.found.end }
+        ensures { result.now ≡ slice_range
+            (bytes_of self.now.parts self.now.entries.items page.now) page.now.found.body page.now.found.end }
     {
         let part = match page.found.kind {
             PageKind::Data(_) => self.parts.part_of(self.entries.as_slice(), page.entry),

@@ -29,7 +29,9 @@ impl PageReader {
     /// Over the bytes of a column's chunk. Takes no memory.
     pub fn new(alloc: Global, buffer: Vec<u8>, column: &ColumnChunkMetaData) -> Result<Self, Error>
         ensures ok { IsOk result }
-        ensures lends { IfOk result (λ reader. reader_lent reader ≡ chunk_lent column.now.descriptor.primitive_type column.now.num_values buffer.items) }
+        ensures lends { IfOk result (λ reader.
+            reader_lent reader ≡ chunk_lent column.now.descriptor.primitive_type column.now.num_values
+            buffer.items) }
         ensures typed { IfOk result (λ r. AreOfType column.now.descriptor.primitive_type (reader_pages r)) }
         ensures ordered { IfOk result (λ r. has_data_behind (reader_pages r) ≡ true) }
         ensures rows { IfOk result (λ reader. reader_rows reader ≡ column.now.num_values) }

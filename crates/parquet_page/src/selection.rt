@@ -68,8 +68,11 @@ pub fn select_pages(
     num_rows: usize,
 ) -> Result<Vec<FilteredPage>, Error>
     ensures shaped { IfOk result (λ _. is_well_shaped_by intervals.now num_rows ≡ true) }
-    ensures pages { IfOk result (λ pages. selected_pages intervals.now locations.now num_rows ≡ Some pages.items) }
-    ensures refusal { IfErr result (Refuses (is_well_shaped_by intervals.now num_rows) (selected_pages intervals.now locations.now num_rows)) }
+    ensures pages { IfOk result (λ pages.
+        selected_pages intervals.now locations.now num_rows ≡ Some pages.items) }
+    ensures refusal { IfErr result
+        (Refuses (is_well_shaped_by intervals.now num_rows)
+        (selected_pages intervals.now locations.now num_rows)) }
 {
     if !is_well_shaped(intervals, num_rows) {
         return Err(Error::InvalidArgumentError(Part::Request));
@@ -102,7 +105,8 @@ fn filtered_pages(
     requires shaped { is_well_shaped_by intervals.now (2 ^ 64 - 1) ≡ true }
     requires rows { All (λ page. end page < 2 ^ 64) rows.now }
     requires all { length rows.now ≡ length locations.now }
-    ensures pages { IfOk result (λ pages. filtered_pages_by intervals.now locations.now rows.now ≡ Some pages.items) }
+    ensures pages { IfOk result (λ pages.
+        filtered_pages_by intervals.now locations.now rows.now ≡ Some pages.items) }
     ensures refusal { IfErr result (IsDamaged (filtered_pages_by intervals.now locations.now rows.now)) }
 {
     let mut pages = Vec::new(alloc);

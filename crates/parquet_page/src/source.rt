@@ -35,12 +35,14 @@ pub trait Pages: Drop {
         ensures steps { steps.new ≡ ticks steps.old result }
         ensures* after { sem 𝓛 (Rests Self.row self.entry (λ new.
             Leaves result (to_come self.old) (to_come new) (causes self.old) (causes new)
-            (row_count self.old) (row_count new) (given_rows self.old) (given_rows new) (lent_count self.old) (lent_count new))) };
+            (row_count self.old) (row_count new) (given_rows self.old) (given_rows new) (lent_count self.old)
+            (lent_count new))) };
 
     /// The rows that the pages together give, if all of them are lent.
     fn rows(&self) -> usize
         ensures rows { result ≡ row_count self.now }
-        ensures sum { causes self.now ≡ [] → row_count self.now ≡ given_rows self.now + sum_by content_rows (to_come self.now) };
+        ensures sum { causes self.now ≡ []
+            → row_count self.now ≡ given_rows self.now + sum_by content_rows (to_come self.now) };
 
     /// The number of pages that were lent, at most `usize::MAX`.
     fn lent(&self) -> usize

@@ -39,9 +39,11 @@ fn has_readable_levels(page: &DataPage<'_>) -> bool
 
 /// The walk over the levels of a page.
 pub(crate) fn level_runs(page: &DataPage<'_>) -> Result<LevelRuns, Error>
-    ensures places { IfOk result (λ runs. page_left runs (data_content page.now) ≡ page_places (data_content page.now)) }
+    ensures places { IfOk result (λ runs.
+        page_left runs (data_content page.now) ≡ page_places (data_content page.now)) }
     ensures ok { IfOk result (λ _. levels_causes (data_content page.now) ≡ []) }
-    ensures refusal { IfErr result (λ error. IsOneOf (levels_causes (data_content page.now)) (cause_of error)) }
+    ensures refusal { IfErr result
+        (λ error. IsOneOf (levels_causes (data_content page.now)) (cause_of error)) }
 {
     if !has_readable_levels(page) {
         return Err(Error::NotYetImplemented(Part::Levels));
@@ -62,9 +64,11 @@ impl OptionalPageValidity {
 
     /// Before the first row.
     pub fn try_new(page: &DataPage<'_>) -> Result<Self, Error>
-        ensures places { IfOk result (λ walk. optional_left walk (data_content page.now) ≡ page_places (data_content page.now)) }
+        ensures places { IfOk result (λ walk.
+            optional_left walk (data_content page.now) ≡ page_places (data_content page.now)) }
         ensures ok { IfOk result (λ _. levels_causes (data_content page.now) ≡ []) }
-        ensures refusal { IfErr result (λ error. IsOneOf (levels_causes (data_content page.now)) (cause_of error)) }
+        ensures refusal { IfErr result
+            (λ error. IsOneOf (levels_causes (data_content page.now)) (cause_of error)) }
     {
         Ok(OptionalPageValidity {
             runs: level_runs(page)?,
@@ -75,7 +79,8 @@ impl OptionalPageValidity {
     pub fn next(&mut self, page: &DataPage<'_>, limit: usize) -> Option<Run>
         requires page { IsSome (optional_left self.old (data_content page.now)) }
         requires limit { 0 < limit }
-        ensures run { GivesRun limit (optional_steps self.old (data_content page.now)) (optional_steps self.new (data_content page.now)) result }
+        ensures run { GivesRun limit (optional_steps self.old (data_content page.now))
+            (optional_steps self.new (data_content page.now)) result }
         ensures longest { IsLongest limit result (optional_steps self.new (data_content page.now)) }
         ensures page { IsSome (optional_left self.new (data_content page.now)) }
     {
@@ -91,7 +96,8 @@ impl OptionalPageValidity {
     pub fn next_part(&mut self, page: &DataPage<'_>, limit: usize) -> Option<ValidityPart>
         requires page { IsSome (optional_left self.old (data_content page.now)) }
         requires limit { 0 < limit }
-        ensures part { GivesPart limit (optional_steps self.old (data_content page.now)) (optional_steps self.new (data_content page.now)) result }
+        ensures part { GivesPart limit (optional_steps self.old (data_content page.now))
+            (optional_steps self.new (data_content page.now)) result }
         ensures longest { IsLongestPart limit result (optional_steps self.new (data_content page.now)) }
         ensures page { IsSome (optional_left self.new (data_content page.now)) }
     {
@@ -108,8 +114,10 @@ impl OptionalPageValidity {
     /// Passes over the next rows, at most so many, and tells how many of them have a value. The page is that of `try_new`.
     pub fn pass(&mut self, page: &DataPage<'_>, rows: usize) -> usize
         requires { IsSome (optional_left self.old (data_content page.now)) }
-        ensures present { result ≡ present_count (take rows (unwrap_or (optional_left self.old (data_content page.now)) [])) }
-        ensures left { unwrap_or (optional_left self.new (data_content page.now)) [] ≡ drop rows (unwrap_or (optional_left self.old (data_content page.now)) []) }
+        ensures present { result ≡ present_count
+            (take rows (unwrap_or (optional_left self.old (data_content page.now)) [])) }
+        ensures left { unwrap_or (optional_left self.new (data_content page.now)) []
+            ≡ drop rows (unwrap_or (optional_left self.old (data_content page.now)) []) }
         ensures page { IsSome (optional_left self.new (data_content page.now)) }
     {
         let Ok((_, levels, _)) = split_buffer(page) else {
@@ -120,7 +128,8 @@ impl OptionalPageValidity {
 
     /// How many rows are left.
     pub fn len(&self) -> usize
-        ensures { (page : DataContent) → IsSome (optional_left self.now page) → result ≡ length (optional_steps self.now page) }
+        ensures { (page : DataContent) → IsSome (optional_left self.now page)
+            → result ≡ length (optional_steps self.now page) }
     {
         self.runs.len()
     }

@@ -44,7 +44,8 @@ impl ValidityWord {
     /// Takes the rows of one kind off its front: whether they have a value, and how many they are.
     pub fn next_run(&mut self) -> Option<(bool, usize)>
         ensures ended { IfNone result (word_places self.old ≡ []) }
-        ensures begins { IfSome result (λ run. BeginsWith self.old.rows run.0 run.1 (word_places self.old) (word_places self.new)) }
+        ensures begins { IfSome result
+            (λ run. BeginsWith self.old.rows run.0 run.1 (word_places self.old) (word_places self.new)) }
         ensures some { IfSome result (λ run. 0 < run.1) }
         ensures kept { IfNone result (self.new ≡ self.old) }
     {

@@ -1,5 +1,17 @@
 pub mod AskLemmas
+pub mod AskedLemmas
+pub mod BeginLemmas
 pub mod ChunkLemmas
+pub mod ColumnLemmas
+pub mod CutLemmas
 pub mod FieldLemmas
+pub mod FoundLemmas
 pub mod GroupLemmas
+pub mod GroupListLemmas
+pub mod GroupReaderLemmas
+pub mod ListLemmas
 pub mod OpenLemmas
+pub mod OpenedGroupLemmas
+pub mod PartLemmas
+pub mod PlaceLemmas
+pub mod ReadableLemmas

@@ -16,7 +16,7 @@ use Rattle.parquet_meta.specs.declared.metadata.PhysicalType.{PhysicalType}
 use Rattle.parquet_meta.specs.declared.metadata.PrimitiveType.{PrimitiveType}
 use Rattle.parquet_page.specs.Content.{Content, DataOf, DictOf}
 use Rattle.parquet_page.specs.Indexed.{indexed_count, indexed_lent, indexed_pages, indexed_rows}
-use Rattle.parquet_page.specs.Lending.{AreOfType, DataPagesAre}
+use Rattle.parquet_page.specs.Lending.{AreOfType, DataPagesAre, has_data_behind}
 use Rattle.parquet_page.specs.Lent.{Lent, are_well_shaped, chunk_lent, lie_within, located_chunk, selected_count}
 use Rattle.parquet_page.specs.Reader.{reader_count, reader_lent, reader_pages, reader_rows}
 use Rattle.parquet_page.specs.declared.indexed.IndexedPageReader.{IndexedPageReader}
@@ -84,9 +84,10 @@ supply_fresh made lent count rows given same counted none = rw (same, counted, n
 
 pub whole_opens : (nulls : Bool) (chunk : ChunkBytes) (reader : PageReader)
     → reader_lent reader ≡ chunk_lent chunk.0.descriptor.primitive_type chunk.0.num_values chunk.1 → AreOfType chunk.0.descriptor.primitive_type (reader_pages reader)
-    → reader_rows reader ≡ chunk.0.num_values → reader_count reader ≡ 0 → OpensPages nulls chunk None (Ok (Whole reader))
-whole_opens nulls chunk reader lends typed rows none = record {
+    → has_data_behind (reader_pages reader) ≡ true → reader_rows reader ≡ chunk.0.num_values → reader_count reader ≡ 0 → OpensPages nulls chunk None (Ok (Whole reader))
+whole_opens nulls chunk reader lends typed ordered rows none = record {
   typed = typed;
+  ordered = ordered;
   rows = rows;
   supply = λ _. supply_fresh (reader_lent reader) (chunk_lent chunk.0.descriptor.primitive_type chunk.0.num_values chunk.1) (reader_rows reader) chunk.0.num_values (reader_count reader) lends rows none;
   shaped = tt;
@@ -97,14 +98,15 @@ whole_opens nulls chunk reader lends typed rows none = record {
 pub located_opens : (chunk : ChunkBytes) (entries placed : List FilteredPage) (reader : IndexedPageReader) → placed ≡ placed_in chunk.0 entries
     → start_behind (chunk_start chunk.0) entries ≡ true → are_well_shaped placed ≡ true → lie_within (length chunk.1) placed ≡ true
     → indexed_lent reader ≡ located_chunk chunk.0.descriptor.primitive_type chunk.1 placed → AreOfType chunk.0.descriptor.primitive_type (indexed_pages reader)
-    → indexed_rows reader ≡ selected_count placed → indexed_count reader ≡ 0 → OpensPages false chunk (Some entries) (Ok (Located reader))
-located_opens chunk entries placed reader is behind shaped within lends typed rows none =
+    → has_data_behind (indexed_pages reader) ≡ true → indexed_rows reader ≡ selected_count placed → indexed_count reader ≡ 0 → OpensPages false chunk (Some entries) (Ok (Located reader))
+located_opens chunk entries placed reader is behind shaped within lends typed ordered rows none =
     let start = chunk_start chunk.0 in
     let counted : indexed_rows reader ≡ selected_count entries = rows ∙ ap selected_count is ∙ counts_same start entries in
     let lies : lie_within (length chunk.1) (placed_in chunk.0 entries) ≡ true = sym (ap (lie_within (length chunk.1)) is) ∙ within in
     let inside : are_in_chunk chunk entries ≡ true = and_from _ _ behind lies in
     record {
       typed = typed;
+      ordered = ordered;
       rows = counted;
       supply = λ _. supply_fresh (indexed_lent reader) (located_chunk chunk.0.descriptor.primitive_type chunk.1 (placed_in chunk.0 entries)) (indexed_rows reader) (selected_count entries) (indexed_count reader)
           (lends ∙ ap (located_chunk chunk.0.descriptor.primitive_type chunk.1) is) counted none;
@@ -154,10 +156,10 @@ misfit entries e (inl memory) = inl memory
 misfit entries e (inr own) = inr (inl own)
 
 pub nulls_open : (chunk : ChunkBytes) (entries : List FilteredPage) (result : Result ColumnPages Error) → IfOk result (λ pages. AreOfType chunk.0.descriptor.primitive_type (column_pages pages))
-    → IfOk result (λ pages. rows_to_lend pages ≡ selected_count entries) → OnOk result (are_well_shaped entries ≡ true) → IfErr result (λ e. IsWantOfMemory e ⊎ IsMisfit (are_well_shaped entries ≡ true) e)
+    → IfOk result (λ pages. has_data_behind (column_pages pages) ≡ true) → IfOk result (λ pages. rows_to_lend pages ≡ selected_count entries) → OnOk result (are_well_shaped entries ≡ true) → IfErr result (λ e. IsWantOfMemory e ⊎ IsMisfit (are_well_shaped entries ≡ true) e)
     → OpensPages true chunk (Some entries) result
-nulls_open chunk entries (Ok pages) typed rows shaped err = record { typed = typed; rows = rows; supply = λ own. absurd (let bad : true ≡ false = own in cc); shaped = shaped; sound = refl; refused = tt }
-nulls_open chunk entries (Err e) typed rows shaped err = record { typed = tt; rows = tt; supply = tt; shaped = tt; sound = tt; refused = misfit entries e err }
+nulls_open chunk entries (Ok pages) typed ordered rows shaped err = record { typed = typed; ordered = ordered; rows = rows; supply = λ own. absurd (let bad : true ≡ false = own in cc); shaped = shaped; sound = refl; refused = tt }
+nulls_open chunk entries (Err e) typed ordered rows shaped err = record { typed = tt; ordered = tt; rows = tt; supply = tt; shaped = tt; sound = tt; refused = misfit entries e err }
 
 -- ---- arrays
 

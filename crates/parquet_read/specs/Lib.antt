@@ -1,6 +1,9 @@
 pub mod AllChunks
+pub mod Asked
 pub mod ColumnPages
 pub mod Columns
+pub mod GroupReader
+pub mod Groups
 pub mod Opening
 pub mod RowGroup
 pub mod Rows

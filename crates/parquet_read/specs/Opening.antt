@@ -7,14 +7,15 @@ use Rattle.columns_core.specs.declared.data_type.DataType.{DataType}
 use Rattle.columns_core.specs.declared.error.Error.{Error}
 use Rattle.parquet_meta.specs.Chunks.{chunk_start}
 use Rattle.parquet_meta.specs.declared.metadata.ColumnChunkMetaData.{ColumnChunkMetaData}
-use Rattle.parquet_page.specs.Lending.{AreOfType}
+use Rattle.parquet_page.specs.Lending.{AreOfType, has_data_behind}
 use Rattle.parquet_page.specs.Lent.{Lent, are_well_shaped, chunk_lent, is_wanted, lie_within, located_chunk, selected_count}
 use Rattle.parquet_page.specs.declared.page.FilteredPage.{FilteredPage}
 use Rattle.page_decoding.specs.Queue.{IsChunkSize}
 use Rattle.flat_values.specs.ColumnLeft.{ColumnLeft}
+use Rattle.flat_values.specs.Pairs.{conversion}
 use Rattle.flat_binary.specs.Left.{Supply, supply_of}
 use Rattle.flat_binary.specs.Paged.{is_null_type}
-use Rattle.column_arrays.specs.Begun.{begun_conversion, column_left}
+use Rattle.column_arrays.specs.Begun.{column_left}
 use Rattle.parquet_read.specs.ColumnPages.{column_causes, column_count, column_pages, rows_to_lend}
 use Rattle.parquet_read.specs.declared.column_pages.ColumnPages.{ColumnPages}
 
@@ -79,7 +80,7 @@ column_causes_of column = unless column.descriptor.flat NotYetImplemented ++ cod
 
 -- It is read as the type.
 abbrev pub type_causes : DataType → ColumnChunkMetaData → List Cause
-type_causes data_type column = unless (is_some (begun_conversion column.descriptor.primitive_type data_type)) NotYetImplemented
+type_causes data_type column = unless (is_some (conversion column.descriptor.primitive_type data_type)) NotYetImplemented
 
 abbrev pub chunk_causes_for : DataType → Option (List FilteredPage) → ChunkBytes → List Cause
 chunk_causes_for data_type entries chunk =
@@ -94,7 +95,7 @@ opening_causes data_type lists chunks =
 abbrev pub opened_left : DataType → Option ℕ → ℕ → Option (List FilteredPage) → ChunkBytes → Option ColumnLeft
 opened_left data_type size num_rows entries chunk =
     let stored = chunk.0.descriptor.primitive_type in
-    option_map (column_left stored.physical_type data_type (size_within num_rows size) num_rows (chunk_supply chunk entries)) (begun_conversion stored data_type)
+    option_map (column_left stored.physical_type data_type (size_within num_rows size) num_rows (chunk_supply chunk entries)) (conversion stored data_type)
 
 abbrev pub field_left : DataType → Option ℕ → ℕ → Option (List (List FilteredPage)) → List ChunkBytes → Option ColumnLeft
 field_left data_type size num_rows lists chunks =
@@ -116,9 +117,11 @@ pub record IsLegalOpening (size : Option ℕ) (columns : ℕ) (lists : Option (L
 abbrev pub IsRefusal : Type 0 → List Cause → Error → Type 0
 IsRefusal Legal causes error = IsWantOfMemory error ⊎ (IsMisfit Legal error ⊎ IsOneOf causes (cause_of error))
 
--- Pages of the column's type, as many rows as there are, and those of the chunk where they are looked at.
+-- Pages of the column's type, of which only the first may be a dictionary page, as many rows as there are, and those of the chunk where they
+-- are looked at.
 pub record OpensPages (is_null : Bool) (chunk : ChunkBytes) (entries : Option (List FilteredPage)) (result : Result ColumnPages Error) : Type 0 where
   pub typed : IfOk result (λ pages. AreOfType chunk.0.descriptor.primitive_type (column_pages pages))
+  pub ordered : IfOk result (λ pages. has_data_behind (column_pages pages) ≡ true)
   pub rows : IfOk result (λ pages. rows_to_lend pages ≡ (chunk_supply chunk entries).row_count)
   pub supply : IfOk result (λ pages. is_null ≡ false → opened_supply pages ≡ chunk_supply chunk entries)
   pub shaped : OnOk result (AreShaped entries)

@@ -50,7 +50,7 @@ fn are_here(columns: &[&ColumnChunkMetaData]) -> bool
 }
 
 /// Whether a chunk stands in this file, not encrypted.
-fn is_here(column: &ColumnChunkMetaData) -> bool
+pub(crate) fn is_here(column: &ColumnChunkMetaData) -> bool
     ensures { result ≡ spec.is_here column.now }
 {
     !column.foreign && !column.encrypted
@@ -96,7 +96,11 @@ fn read_chunk<'a, S: Source>(
 }
 
 /// The bytes of the range that the metadata tells of a chunk.
-fn read_range<S: Source>(alloc: Global, source: &mut S, range: Place) -> Result<Vec<u8>, Error>
+pub(crate) fn read_range<S: Source>(
+    alloc: Global,
+    source: &mut S,
+    range: Place,
+) -> Result<Vec<u8>, Error>
     ensures keeps { Keeps S.Source source.old source.new }
     ensures quiet { OnOk result (S.faults source.new ≡ S.faults source.old) }
     ensures part { Finds (λ bytes. bytes.items) (λ file. part_at file range)

@@ -1,7 +1,7 @@
 //! Pages that are located in a chunk.
 ghost use Rattle.std.specs.Prelude.{◌≡◌, ◌⊎◌, Some, true, false, map, length, filter, IfOk, IfErr, OnOk};
 ghost use Rattle.columns_core.specs.Causes.{IsMisfit, IsWantOfMemory};
-ghost use Rattle.parquet_page.specs.Lending.{AreOfType};
+ghost use Rattle.parquet_page.specs.Lending.{AreOfType, has_data_behind};
 ghost use Rattle.parquet_page.specs.Lent.{are_well_shaped, is_wanted as is_wanted_by, selected_count};
 ghost use Rattle.parquet_read.specs.ColumnPages.{column_pages, rows_to_lend};
 ghost use Rattle.parquet_read.specs.Opening as spec;
@@ -38,6 +38,7 @@ pub(crate) fn open_nulls(
 ) -> Result<ColumnPages, Error>
     ensures typed { IfOk result (λ nulls.
         AreOfType column.now.descriptor.primitive_type (column_pages nulls)) }
+    ensures ordered { IfOk result (λ nulls. has_data_behind (column_pages nulls) ≡ true) }
     ensures rows { IfOk result (λ nulls. rows_to_lend nulls ≡ selected_count pages.items) }
     ensures shaped { OnOk result (are_well_shaped pages.items ≡ true) }
     ensures err { IfErr result (λ e. IsWantOfMemory e ⊎ IsMisfit (are_well_shaped pages.items ≡ true) e) }
@@ -62,14 +63,14 @@ fn no_bodies(alloc: Global, pages: &[FilteredPage]) -> Result<Vec<Vec<u8>>, Erro
 }
 
 /// Whether some row of a page is selected.
-fn is_wanted(page: &FilteredPage) -> bool
+pub(crate) fn is_wanted(page: &FilteredPage) -> bool
     ensures { result ≡ is_wanted_by page.now }
 {
     !page.selected_rows.as_slice().is_empty()
 }
 
 /// Whether each page with selected rows starts at a place or behind it.
-fn start_behind(pages: &[FilteredPage], start: u64) -> bool
+pub(crate) fn start_behind(pages: &[FilteredPage], start: u64) -> bool
     ensures { result ≡ spec.start_behind start pages.now }
 {
     pages
@@ -79,7 +80,7 @@ fn start_behind(pages: &[FilteredPage], start: u64) -> bool
 }
 
 /// Pages by their starts from a place on. One that lies before it starts at 0.
-fn counted_from(pages: Vec<FilteredPage>, start: u64) -> Vec<FilteredPage>
+pub(crate) fn counted_from(pages: Vec<FilteredPage>, start: u64) -> Vec<FilteredPage>
     ensures { result.items ≡ map (spec.counted_from start) pages.items }
 {
     let mut pages = pages;

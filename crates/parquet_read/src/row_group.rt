@@ -33,7 +33,12 @@ impl RowGroupDeserializer {
         limit: Option<usize>,
     ) -> Result<Self, Error>
         ensures group { IfOk result (λ group. group_left group
-            ≡ record { columns = map iter_left column_chunks.items; num_rows = num_rows; wanted = limited limit num_rows }) }
+            ≡ record {
+              columns = map iter_left column_chunks.items;
+              num_rows = num_rows;
+              wanted = limited
+                  limit num_rows;
+            }) }
         ensures ok { IfOk result (λ _. 0 < length column_chunks.items) }
         ensures err { IfErr result (λ e. IsTrue (is_invalid_argument e) × (column_chunks.items ≡ [])) }
     {

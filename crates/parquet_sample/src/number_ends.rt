@@ -1,6 +1,6 @@
 //! The least and the greatest of the sample's numbers.
 
-ghost use Rattle.std.specs.Prelude.{◌≡◌, ◌<◌, ◌+◌, ◌^◌, [], ◌∷◌, pos, None};
+ghost use Rattle.std.specs.Prelude.{◌≡◌, ◌<◌, ◌≤◌, ◌+◌, ◌*◌, ◌^◌, [], ◌∷◌, pos, None};
 ghost use Rattle.parquet_plain.specs.Bodies.{present};
 ghost use Rattle.parquet_sample.specs.Ends.{bounds_at, numbers_after, names_after, row_bounds};
 ghost use Rattle.parquet_sample.specs.Sample.{name_text, qty_item, texts_at_most};
@@ -103,7 +103,34 @@ fn with_name(ends: Option<NumberEnds>, n: u64) -> Option<NumberEnds>
     }
 }
 
+/// How many digits a number has behind its first.
+fn more_digits(n: u64) -> u32
+    ensures least { 0 < result → 10 ^ result ≤ n }
+    ensures most { n < 10 * 10 ^ result }
+    ensures few { result < 20 }
+{
+    n.max(1).ilog10()
+}
+
+/// Names of numbers with equally many digits come in the order of the numbers.
 fn name_ends(first: u64, rows: u32) -> Option<NumberEnds>
+    requires fits { first + rows < 2 ^ 63 }
+    ensures { bounds_at Name result ≡ names_after None (present (items_from Name first rows)) }
+{
+    if rows > 0 {
+        let last = first + u64::from(rows) - 1;
+        if more_digits(first) == more_digits(last) {
+            return Some(NumberEnds {
+                least: first,
+                greatest: last,
+            });
+        }
+    }
+    compared_name_ends(first, rows)
+}
+
+/// The same, by comparing each name.
+fn compared_name_ends(first: u64, rows: u32) -> Option<NumberEnds>
     requires fits { first + rows < 2 ^ 63 }
     ensures { bounds_at Name result ≡ names_after None (present (items_from Name first rows)) }
 {

@@ -14,10 +14,10 @@ use Rattle.parquet_meta.specs.File.{footer}
 use Rattle.parquet_meta.specs.Source.{Finds}
 use Rattle.parquet_meta.specs.declared.metadata.FileMetaData.{FileMetaData}
 use Rattle.parquet_scan.specs.Causes.{IsValid, causes, file_causes}
-use Rattle.parquet_scan.specs.Cells.{columns_of, given_chunks}
+use Rattle.parquet_scan.specs.Cells.{columns_of_chunk, given_chunks}
 use Rattle.parquet_scan.specs.Request.{Request, is_legal}
-use Rattle.parquet_scan.specs.Rows.{file_with, given_count}
-use Rattle.parquet_scan.specs.Scan.{Answers, FailsBy, IsApart, IsSound, OnFile, Refuses, kept_groups, kept_of, rows_in}
+use Rattle.parquet_scan.specs.Rows.{file_with, given_row_count}
+use Rattle.parquet_scan.specs.Scan.{Answers, FailsBy, IsApart, IsSound, OnFile, RefusesScan, kept_groups, kept_of, rows_in}
 use Rattle.parquet_scan.specs.declared.scanning.Scan.{Scan}
 use Rattle.parquet_scan.proofs.CauseLemmas.{TellsOf}
 use Rattle.parquet_scan.proofs.GivenCells.{own_chunks}
@@ -35,8 +35,8 @@ legal_told request (Some bytes) metadata at legal = subst (λ (o : Option FileMe
 pub answers : (request : Request) (told : Option (List ℕ)) (r : Result Scan Error)
     → IfSome told (λ bytes. IsTrue (is_legal request (footer bytes))) → IfOk r (λ _. IfSome told (IsValid request))
     → IfOk r (λ scan. OnFile told (λ file. map kept_of scan.kept ≡ kept_groups request file))
-    → IfOk r (λ scan. OnFile told (λ file. given_chunks request file ≡ Some (map columns_of scan.chunks)))
-    → IfOk r (λ scan. OnFile told (λ file. scan.rows ≡ given_count request file))
+    → IfOk r (λ scan. OnFile told (λ file. given_chunks request file ≡ Some (map columns_of_chunk scan.chunks)))
+    → IfOk r (λ scan. OnFile told (λ file. scan.rows ≡ given_row_count request file))
     → IfOk r (λ scan. OnFile told (λ file. IsSound request file (map kept_of scan.kept)))
     → IfOk r (λ scan. All IsApart scan.kept) → IfOk r (λ scan. All AreEqualLengths scan.chunks) → IfOk r (λ scan. scan.rows ≡ rows_in scan.chunks)
     → IfOk r (Answers request told)
@@ -46,7 +46,7 @@ answers request told (Ok scan) legal valid kept chunks rows sound apart even own
   valid = valid;
   kept = kept;
   chunks = chunks;
-  as_cells = own_chunks request (Ok scan) told (λ (scan : Scan). map columns_of scan.chunks) chunks;
+  as_cells = own_chunks request (Ok scan) told (λ (scan : Scan). map columns_of_chunk scan.chunks) chunks;
   rows = rows;
   sound = sound;
   apart = apart;
@@ -82,7 +82,7 @@ completes request (Some bytes) before now error.OutOfMemory argument cause io = 
 
 -- an error of a legal request
 pub refused : (request : Request) (told : Option (List ℕ)) (before now : ℕ) (e : Error) → (IsTrue (is_invalid_argument e) → ⊥) → (e ≡ error.Io → MayFail before now)
-    → IfSome (cause_of e) (λ _. AsksLegally request told) → Caused request told e → Refuses request told before now e
+    → IfSome (cause_of e) (λ _. AsksLegally request told) → Caused request told e → RefusesScan request told before now e
 refused request told before now e argument io legal cause = record {
   argument = λ h. absurd (argument h);
   legal_first = legal;
@@ -93,7 +93,7 @@ refused request told before now e argument io legal cause = record {
 
 -- a request that is not legal
 pub illegal : (request : Request) (told : Option (List ℕ)) (metadata : FileMetaData) (before now : ℕ) (part : Part) → IfSome told (λ bytes. footer bytes ≡ Some metadata) → is_legal request (Some metadata) ≡ false
-    → Refuses request told before now (error.InvalidArgumentError part)
+    → RefusesScan request told before now (error.InvalidArgumentError part)
 illegal request None metadata before now part at legal = record {
   argument = λ h. tt;
   legal_first = tt;
@@ -113,7 +113,7 @@ illegal request (Some bytes) metadata before now part at legal =
 
 -- of the footer
 pub refused_by_footer : (request : Request) (told : Option (List ℕ)) (before now : ℕ) (e : Error) → Finds (λ (metadata : FileMetaData). metadata) footer told before now (Err e)
-    → IfSome (cause_of e) (λ _. AsksLegally request told) → Refuses request told before now e
+    → IfSome (cause_of e) (λ _. AsksLegally request told) → RefusesScan request told before now e
 refused_by_footer request told before now e finds legal = refused request told before now e (argument e finds) (io e finds) legal (caused told e finds) where
   argument : (e : Error) → Finds (λ (metadata : FileMetaData). metadata) footer told before now (Err e) → IsTrue (is_invalid_argument e) → ⊥
   argument (error.InvalidArgumentError p) finds h = finds
@@ -146,7 +146,7 @@ refused_by_footer request told before now e finds legal = refused request told b
 
 -- of causes that are known
 pub refused_by_causes : (request : Request) (told : Option (List ℕ)) (before now : ℕ) (e : Error) (found : List Cause) → TellsOf found e
-    → IfSome (cause_of e) (λ _. AsksLegally request told) → Caused request told e → Refuses request told before now e
+    → IfSome (cause_of e) (λ _. AsksLegally request told) → Caused request told e → RefusesScan request told before now e
 refused_by_causes request told before now e found tells legal cause = refused request told before now e (argument e tells) (io e tells) legal cause where
   argument : (e : Error) → TellsOf found e → IsTrue (is_invalid_argument e) → ⊥
   argument e (inl h) k = false≢true (subst (λ x. IsTrue (is_invalid_argument x)) h k)
@@ -164,7 +164,7 @@ refused_by_causes request told before now e found tells legal cause = refused re
 
 -- of the groups
 pub refused_by_groups : (request : Request) (r : Result Scan Error) (told : Option (List ℕ)) (before mid now : ℕ) (found : List ℕ → List Cause) → before ≤ mid → IfErr r (FailsBy told mid now found)
-    → IfErr r (λ e. IfSome (cause_of e) (λ _. AsksLegally request told)) → IfErr r (Caused request told) → IfErr r (Refuses request told before now)
+    → IfErr r (λ e. IfSome (cause_of e) (λ _. AsksLegally request told)) → IfErr r (Caused request told) → IfErr r (RefusesScan request told before now)
 refused_by_groups request (Ok scan) told before mid now found le fails legal cause = tt
 refused_by_groups request (Err e) told before mid now found le fails legal cause = refused request told before now e (argument e fails) (io e fails) legal cause where
   argument : (e : Error) → FailsBy told mid now found e → IsTrue (is_invalid_argument e) → ⊥

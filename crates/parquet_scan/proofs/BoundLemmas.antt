@@ -15,12 +15,12 @@ use Rattle.parquet_meta.specs.declared.metadata.RowGroupMetaData.{RowGroupMetaDa
 use Rattle.page_decoding.proofs.NextLemmas.{nothing_wrong}
 use Rattle.parquet_page.proofs.SpelledLemmas.{none_of}
 use Rattle.column_ends.specs.Converted.{group_array_causes, high_of, low_of}
-use Rattle.column_ends.specs.Counted.{count_of, counted, fit}
+use Rattle.column_ends.specs.Counted.{bytes_of_ends, with_one_more, fit}
 use Rattle.column_ends.proofs.CountLemmas.{counted-more, fit-ok, unfit-told}
 use Rattle.parquet_scan.specs.declared.bound.Bound.{Bound}
 use Rattle.parquet_scan.specs.Causes.{array_causes_of_bound, bounded_cells, bounded_causes_of_group, causes_of_bound}
 use Rattle.parquet_scan.specs.Counting.{causes_of_bytes, counts_by, with_ends}
-use Rattle.parquet_scan.specs.Request.{bound_type, field_of}
+use Rattle.parquet_scan.specs.Request.{bound_type, bounded_field}
 use Rattle.parquet_scan.specs.Rows.{group_keeps}
 use Rattle.parquet_scan.proofs.CauseLemmas.{TellsOf, tells_left, tells_right}
 use Rattle.parquet_scan.proofs.PairLemmas.{map_behind}
@@ -82,12 +82,12 @@ nothing_more f xs i x h at none own =
 -- ---- the bytes of ends
 
 abbrev pub bytes_of : List (Ends Cell) → ℕ × ℕ
-bytes_of ends = count_of (map low_of ends) (map high_of ends)
+bytes_of ends = bytes_of_ends (map low_of ends) (map high_of ends)
 
-one_counted : (all : List (Ends Cell)) (ends : Ends Cell) → counted (bytes_of all) ends.min_value ends.max_value ≡ bytes_of (all ++ ends ∷ [])
+one_counted : (all : List (Ends Cell)) (ends : Ends Cell) → with_one_more (bytes_of all) ends.min_value ends.max_value ≡ bytes_of (all ++ ends ∷ [])
 one_counted all ends =
     counted-more (map low_of all) (map high_of all) ends.min_value ends.max_value
-    ∙ (λ i. count_of (sym (map-append low_of all (ends ∷ [])) i) (sym (map-append high_of all (ends ∷ [])) i))
+    ∙ (λ i. bytes_of_ends (sym (map-append low_of all (ends ∷ [])) i) (sym (map-append high_of all (ends ∷ [])) i))
 
 with_one : (all : List (Ends Cell)) (o : Option (Ends Cell)) → with_ends (bytes_of all) o ≡ bytes_of (all ++ cons_option o [])
 with_one all None = ap bytes_of (sym (append-nil all))
@@ -118,14 +118,14 @@ module _ (fields : List Field) (bound : Bound) (cells : List (Ends Cell)) where
   abbrev side_causes : Option Field → List Cause
   side_causes field = option_map_or (λ (field : Field). group_array_causes (bound_type field) cells) field []
 
-  pub bytes_fit : causes_of_bytes (bytes_of cells) fields bound ≡ [] → side_causes (field_of fields bound) ≡ []
-  bytes_fit = by (field_of fields bound) where
+  pub bytes_fit : causes_of_bytes (bytes_of cells) fields bound ≡ [] → side_causes (bounded_field fields bound) ≡ []
+  bytes_fit = by (bounded_field fields bound) where
     by : (field : Option Field) → counted_causes field ≡ [] → side_causes field ≡ []
     by None none = refl
     by (Some field) none = fit-ok (bound_type field) (map low_of cells) (map high_of cells) (none_of _ Overflow none)
 
-  pub bytes_tell : (e : Error) → TellsOf (causes_of_bytes (bytes_of cells) fields bound) e → TellsOf (side_causes (field_of fields bound)) e
-  bytes_tell e = by (field_of fields bound) where
+  pub bytes_tell : (e : Error) → TellsOf (causes_of_bytes (bytes_of cells) fields bound) e → TellsOf (side_causes (bounded_field fields bound)) e
+  bytes_tell e = by (bounded_field fields bound) where
     by : (field : Option Field) → TellsOf (counted_causes field) e → TellsOf (side_causes field) e
     by None tells = tells
     by (Some field) (inl memory) = inl memory

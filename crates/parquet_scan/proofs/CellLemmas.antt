@@ -44,7 +44,7 @@ use Rattle.flat_values.specs.Pairs.{conversion}
 use Rattle.flat_values.proofs.OutcomeLemmas.{cells_in-given}
 use Rattle.column_ends.specs.Converted.{item_causes}
 use Rattle.parquet_scan.specs.Causes.{begins_below, causes_of_chunk, causes_of_data, causes_of_dictionary, causes_of_walk, given_causes, has_dictionary, pair_causes, piece_causes, row_causes, rows_held, walked_causes}
-use Rattle.parquet_scan.specs.Cells.{Reading, chunk_of, dictionary_content, item_among, item_in, items_in, rows_of, walked_item, walked_reading}
+use Rattle.parquet_scan.specs.Cells.{Reading, chunk_of, dictionary_content, item_among, item_in, items_in, rows_of_placed, walked_item, walked_reading}
 use Rattle.parquet_scan.specs.Costs.{lent_of_chunk, with_dictionary_page}
 use Rattle.flat_binary.specs.PagesWanted.{pages_wanted}
 use Rattle.parquet_scan.specs.Decoded.{column_entries, column_outcomes, column_rows, pages_by, pages_for, rows_by}
@@ -111,11 +111,11 @@ items_among reading start row (page ∷ pages) =
     let left = sum_by values_of pages in
     let own : map (item_among reading (placed ∷ others)) (range_with_len row count) ≡ row_items reading page
     = map_rows (item_among reading (placed ∷ others)) (λ r. item_in reading r placed) row count
-    (λ r above below. ap (λ b. option_and_then (item_in reading r) (cond b (Some placed) (find (λ (other : PlacedPage). holds (rows_of other) r) others))) (holds_inside (rows_of placed) r above below))
+    (λ r above below. ap (λ b. option_and_then (item_in reading r) (cond b (Some placed) (find (λ (other : PlacedPage). holds (rows_of_placed other) r) others))) (holds_inside (rows_of_placed placed) r above below))
     ∙ items_in_page reading start row page in
     let behind : map (item_among reading (placed ∷ others)) (range_with_len (row + count) left) ≡ flat_map (row_items reading) pages
     = map_rows (item_among reading (placed ∷ others)) (item_among reading others) (row + count) left
-    (λ r above below. ap (λ b. option_and_then (item_in reading r) (cond b (Some placed) (find (λ (other : PlacedPage). holds (rows_of other) r) others))) (holds_after (rows_of placed) r above))
+    (λ r above below. ap (λ b. option_and_then (item_in reading r) (cond b (Some placed) (find (λ (other : PlacedPage). holds (rows_of_placed other) r) others))) (holds_after (rows_of_placed placed) r above))
     ∙ items_among reading (start + page.size) (row + count) pages in
     ap (λ n. map (item_among reading (placed ∷ others)) (range_with_len row n)) (sum_by-cons values_of page pages)
     ∙ ap (map (item_among reading (placed ∷ others))) (range-split row count left)

@@ -28,7 +28,7 @@ use Rattle.parquet_page.specs.declared.page.FilteredPage.{FilteredPage}
 use Rattle.parquet_encoding.proofs.StepLemmas.{given_some}
 use Rattle.parquet_scan.specs.Causes.{begins_below}
 use Rattle.parquet_scan.specs.Cells.{Reading, chunk_of, dictionary_by_locations, first_location, is_null_type, walked_dictionary, walked_pages}
-use Rattle.parquet_scan.specs.Costs.{is_walked, lent_of_chunk, lent_of_read, located_bytes, location_length, most_of_chunk, most_of_read, names_some, offset_index_of, opened_locations, opened_walked, pages_walked, taken_of_chunk, taken_of_column, taken_of_read, with_dictionary_page}
+use Rattle.parquet_scan.specs.Costs.{is_walked, lent_of_chunk, lent_of_read, located_bytes, location_length, most_of_chunk, most_of_read, names_some, location_bytes_of, opened_locations, opened_walked, pages_walked, taken_of_chunk, taken_of_column, taken_of_read, with_dictionary_page}
 use Rattle.parquet_scan.specs.Counting.{column_taken}
 use Rattle.parquet_scan.specs.Located.{entry_place}
 use Rattle.parquet_scan.specs.Pages.{locations, rows_at}
@@ -211,11 +211,11 @@ pub taken_named : (told : Option (List ℕ)) (by_pages : Bool) (group : RowGroup
     → IfSome told (λ bytes. (if by_pages then offset_index_length column else 0) + taken_of_read by_pages bytes group rows field.data_type column ≤ column_taken by_pages bytes group rows field)
 taken_named None by_pages group rows field column named = tt
 taken_named (Some bytes) by_pages group rows field column named =
-    let index : offset_index_of group field ≡ offset_index_length column = ap (λ o. option_map_or offset_index_length o 0) named in
+    let index : location_bytes_of group field ≡ offset_index_length column = ap (λ o. option_map_or offset_index_length o 0) named in
     let own : taken_of_column by_pages bytes group rows field ≡ taken_of_read by_pages bytes group rows field.data_type column = ap (λ o. option_map_or (taken_of_read by_pages bytes group rows field.data_type) o 0) named in
     by by_pages index own where
-      by : (b : Bool) → offset_index_of group field ≡ offset_index_length column → taken_of_column by_pages bytes group rows field ≡ taken_of_read by_pages bytes group rows field.data_type column
-          → (if b then offset_index_length column else 0) + taken_of_read by_pages bytes group rows field.data_type column ≤ (if b then offset_index_of group field else 0) + taken_of_column by_pages bytes group rows field
+      by : (b : Bool) → location_bytes_of group field ≡ offset_index_length column → taken_of_column by_pages bytes group rows field ≡ taken_of_read by_pages bytes group rows field.data_type column
+          → (if b then offset_index_length column else 0) + taken_of_read by_pages bytes group rows field.data_type column ≤ (if b then location_bytes_of group field else 0) + taken_of_column by_pages bytes group rows field
       by true index own = omega (arith, index, own)
       by false index own = omega (arith, own)
 

@@ -14,7 +14,7 @@ use Rattle.parquet_scan.specs.declared.bound.Scalar.{Scalar}
 use Rattle.parquet_scan.specs.declared.bound.Scalar.TheVariants as scalar
 use Rattle.parquet_scan.specs.declared.bound.Bound.{Bound}
 use Rattle.parquet_scan.specs.Bound.{value_of, is_past, is_above, is_within, meets, has_value, keeps}
-use Rattle.parquet_scan.specs.Exact.{is_byte, IsValueOf, IsItemOf, MayBeMet, KeepsExactly, TrueEndsKeep, is_item_of, is_end_of}
+use Rattle.parquet_scan.specs.Exact.{is_byte, IsValueOf, IsItemOf, MayBeMet, KeepsExactly, TrueEndsKeep, is_one_of_type, is_end_of}
 use Rattle.parquet_scan.specs.Request.{is_value_of}
 use Rattle.columns_core.specs.Types.{Layer, number_range_at, is_text_at, takes_bytes_at, is_ordered_at, is_ordered}
 use Rattle.parquet_scan.specs.Truth.{is_null, is_between, are_true_ends}
@@ -393,10 +393,10 @@ item_from : (data_type : DataType) (o : Option Scalar) (null : Bool) → option_
 item_from data_type None null h = h
 item_from data_type (Some v) null h = h
 
-items_from : (data_type : DataType) (items : List Cell) → list_all (is_item_of data_type) items ≡ true → AllByRecursion (IsItemIn (HasType data_type)) items
+items_from : (data_type : DataType) (items : List Cell) → list_all (is_one_of_type data_type) items ≡ true → AllByRecursion (IsItemIn (HasType data_type)) items
 items_from data_type [] h = tt
 items_from data_type (item ∷ items) h =
-    let parts = and_parts (is_item_of data_type item) (list_all (is_item_of data_type) items) h in
+    let parts = and_parts (is_one_of_type data_type item) (list_all (is_one_of_type data_type) items) h in
     (item_from data_type (value_of item) (is_null item) parts.0, items_from data_type items parts.1)
 
 pub true_ends_keep : TrueEndsKeep

@@ -16,8 +16,8 @@ use Rattle.parquet_meta.specs.declared.metadata.ColumnChunkMetaData.{ColumnChunk
 use Rattle.parquet_meta.specs.declared.metadata.FileMetaData.{FileMetaData}
 use Rattle.parquet_meta.specs.declared.metadata.RowGroupMetaData.{RowGroupMetaData}
 use Rattle.parquet_scan.specs.Causes.{IsValid}
-use Rattle.parquet_scan.specs.Costs.{all_index_bytes, bytes_behind_footer, index_bytes, lent_of_column, lent_of_group, lent_of_read, most_bytes_taken, most_of_column, most_of_group, most_of_read, most_pages, offset_index_of, pages_lent, taken_of_column, taken_of_group}
-use Rattle.parquet_scan.specs.Counting.{are_shaped, column_taken, columns_taken, indexes_taken, indexes_taken_of_groups, is_read, is_shaped, lent_of_groups, taken_if_read, taken_of_groups}
+use Rattle.parquet_scan.specs.Costs.{all_index_bytes, bytes_behind_footer, index_bytes, lent_of_column, lent_of_group, lent_of_read, most_bytes_taken, most_of_column, most_of_group, most_of_read, most_pages, location_bytes_of, pages_lent, taken_of_column, taken_of_group}
+use Rattle.parquet_scan.specs.Counting.{lie_in_groups, column_taken, columns_taken, indexes_taken, indexes_taken_of_groups, gives_a_row, lies_in_group, lent_of_groups, taken_if_read, taken_of_groups}
 use Rattle.parquet_scan.specs.Request.{Request, is_legal}
 use Rattle.parquet_scan.specs.Rows.{File, column_named, file_of, file_with, first_rows, gives_rows, group_counts, groups_of, groups_read, intervals, kept, kept_rows, pages_keep, prunes_pages}
 use Rattle.parquet_scan.specs.Scan.{HoldsMet, IsSound, OnFile, RisesBy, RisesJustBy, kept_groups}
@@ -40,17 +40,17 @@ sum_filter {X} f test (x ∷ xs) = by (test x) (sum_filter f test xs) ∙ sym (s
   by false rest = rest ∙ omega arith
 
 -- the groups that give rows are those that are read
-sum_read : (give : RowGroupMetaData × List ℕ → ℕ) (groups : List RowGroupMetaData) (given : List (List Interval)) → are_shaped groups given ≡ true
-    → sum_by give (filter gives_rows (zip groups (map rows_of given))) ≡ sum_by (λ (group : RowGroupMetaData × List Interval). if is_read group then give (group.0, rows_of group.1) else 0) (zip groups given)
+sum_read : (give : RowGroupMetaData × List ℕ → ℕ) (groups : List RowGroupMetaData) (given : List (List Interval)) → lie_in_groups groups given ≡ true
+    → sum_by give (filter gives_rows (zip groups (map rows_of given))) ≡ sum_by (λ (group : RowGroupMetaData × List Interval). if gives_a_row group then give (group.0, rows_of group.1) else 0) (zip groups given)
 sum_read give [] given shaped = refl
 sum_read give (group ∷ groups) [] shaped = refl
 sum_read give (group ∷ groups) (runs ∷ given) shaped =
     let parts = and_parts _ _ shaped in
     ap (λ b. sum_by give (cond b ((group, rows_of runs) ∷ filter gives_rows (zip groups (map rows_of given))) (filter gives_rows (zip groups (map rows_of given))))) (gives_as group runs parts.0)
-    ∙ by (is_read (group, runs)) (sum_read give groups given parts.1)
+    ∙ by (gives_a_row (group, runs)) (sum_read give groups given parts.1)
     ∙ sym (sum_by-cons if_read (group, runs) (zip groups given)) where
       if_read : RowGroupMetaData × List Interval → ℕ
-      if_read = λ (group : RowGroupMetaData × List Interval). if is_read group then give (group.0, rows_of group.1) else 0
+      if_read = λ (group : RowGroupMetaData × List Interval). if gives_a_row group then give (group.0, rows_of group.1) else 0
 
       others : List (RowGroupMetaData × List ℕ)
       others = filter gives_rows (zip groups (map rows_of given))
@@ -63,12 +63,12 @@ sum_read give (group ∷ groups) (runs ∷ given) shaped =
 
 -- what is taken of columns is their offset indexes, where rows are pruned by pages, and their chunks
 columns_split : (by_pages : Bool) (bytes : List ℕ) (group : RowGroupMetaData) (rows : List ℕ) (fields : List Field)
-    → columns_taken by_pages fields bytes (group, rows) ≡ (if by_pages then sum_by (offset_index_of group) fields else 0) + taken_of_group by_pages fields bytes (group, rows)
+    → columns_taken by_pages fields bytes (group, rows) ≡ (if by_pages then sum_by (location_bytes_of group) fields else 0) + taken_of_group by_pages fields bytes (group, rows)
 columns_split true bytes group rows [] = refl
 columns_split false bytes group rows [] = refl
 columns_split true bytes group rows (field ∷ fields) =
     let rest = columns_split true bytes group rows fields in
-    omega (arith, rest, sum_by-cons (column_taken true bytes group rows) field fields, sum_by-cons (offset_index_of group) field fields, sum_by-cons (taken_of_column true bytes group rows) field fields)
+    omega (arith, rest, sum_by-cons (column_taken true bytes group rows) field fields, sum_by-cons (location_bytes_of group) field fields, sum_by-cons (taken_of_column true bytes group rows) field fields)
 columns_split false bytes group rows (field ∷ fields) =
     let rest = columns_split false bytes group rows fields in
     omega (arith, rest, sum_by-cons (column_taken false bytes group rows) field fields, sum_by-cons (taken_of_column false bytes group rows) field fields)
@@ -95,14 +95,14 @@ module _ (request : Request) (metadata : FileMetaData) (bytes : List ℕ) where
   is_pruned = pruned request metadata
 
   -- a group that gives rows counts
-  read_counts : (group : RowGroupMetaData) (runs : List Interval) (kept : List ℕ) → is_shaped (group, runs) ≡ true → kept ≡ kept_rows request this group → (nat_lt 0 (length (rows_of runs)) ≡ true → nat_lt 0 (length kept) ≡ true) → is_read (group, runs) ≡ true → group_counts request group ≡ true
+  read_counts : (group : RowGroupMetaData) (runs : List Interval) (kept : List ℕ) → lies_in_group (group, runs) ≡ true → kept ≡ kept_rows request this group → (nat_lt 0 (length (rows_of runs)) ≡ true → nat_lt 0 (length kept) ≡ true) → gives_a_row (group, runs) ≡ true → group_counts request group ≡ true
   read_counts group runs kept shaped are from read =
       counts_by request this group (group_counts request group) refl (ap (λ kept. nat_lt 0 (length kept)) (sym are) ∙ from (gives_as group runs shaped ∙ read))
 
   abbrev take_all : List RowGroupMetaData → List (List Interval) → ℕ
-  take_all groups given = sum_by (λ (group : RowGroupMetaData × List Interval). if is_read group then taken_of_group is_pruned request.fields bytes (group.0, rows_of group.1) else 0) (zip groups given)
+  take_all groups given = sum_by (λ (group : RowGroupMetaData × List Interval). if gives_a_row group then taken_of_group is_pruned request.fields bytes (group.0, rows_of group.1) else 0) (zip groups given)
 
-  one_taken : (group : RowGroupMetaData) (runs : List Interval) (groups : List RowGroupMetaData) (given : List (List Interval)) → (is_read (group, runs) ≡ true → group_counts request group ≡ true)
+  one_taken : (group : RowGroupMetaData) (runs : List Interval) (groups : List RowGroupMetaData) (given : List (List Interval)) → (gives_a_row (group, runs) ≡ true → group_counts request group ≡ true)
       → indexes_taken_of_groups is_pruned request.fields request.bounds groups (map (group_counts request) groups) + taken_of_groups is_pruned request.fields bytes groups given
       ≤ sum_by (index_if request is_pruned) groups + take_all groups given
       → indexes_taken_of_groups is_pruned request.fields request.bounds (group ∷ groups) (map (group_counts request) (group ∷ groups)) + taken_of_groups is_pruned request.fields bytes (group ∷ groups) (runs ∷ given)
@@ -111,16 +111,16 @@ module _ (request : Request) (metadata : FileMetaData) (bytes : List ℕ) where
       let counts = map (group_counts request) groups in
       omega (
         arith,
-        group_taken request bytes is_pruned group runs (group_counts request group) (is_read (group, runs)) needs,
+        group_taken request bytes is_pruned group runs (group_counts request group) (gives_a_row (group, runs)) needs,
         others,
         sum_by-cons (indexes_taken is_pruned request.fields request.bounds) (group, group_counts request group) (zip groups counts),
         sum_by-cons (taken_if_read is_pruned request.fields bytes) (group, runs) (zip groups given),
         sum_by-cons (index_if request is_pruned) group groups,
-        sum_by-cons (λ (group : RowGroupMetaData × List Interval). if is_read group then taken_of_group is_pruned request.fields bytes (group.0, rows_of group.1) else 0) (group, runs) (zip groups given),
+        sum_by-cons (λ (group : RowGroupMetaData × List Interval). if gives_a_row group then taken_of_group is_pruned request.fields bytes (group.0, rows_of group.1) else 0) (group, runs) (zip groups given),
       )
 
   -- of all groups
-  groups_taken : (limit : Option ℕ) (groups : List RowGroupMetaData) (given : List (List Interval)) → are_shaped groups given ≡ true → map rows_of given ≡ first_rows limit (map (kept_rows request this) groups)
+  groups_taken : (limit : Option ℕ) (groups : List RowGroupMetaData) (given : List (List Interval)) → lie_in_groups groups given ≡ true → map rows_of given ≡ first_rows limit (map (kept_rows request this) groups)
       → indexes_taken_of_groups is_pruned request.fields request.bounds groups (map (group_counts request) groups) + taken_of_groups is_pruned request.fields bytes groups given
       ≤ sum_by (index_if request is_pruned) groups + take_all groups given
   groups_taken limit [] given shaped e = omega arith

@@ -22,10 +22,10 @@ use Rattle.parquet_meta.specs.declared.metadata.FileMetaData.{FileMetaData}
 use Rattle.parquet_meta.specs.declared.metadata.RowGroupMetaData.{RowGroupMetaData}
 use Rattle.parquet_page.specs.Values.{all_some}
 use Rattle.parquet_scan.specs.Causes.{causes, causes_of_group, file_causes, index_causes, index_causes_of_group, metadata_causes, read_causes, IsValid}
-use Rattle.parquet_scan.specs.Cells.{columns_of, given_chunks, group_chunks}
-use Rattle.parquet_scan.specs.Counting.{are_pruned, are_shaped, causes_of_groups, chunks_of_groups, given_of_groups, index_causes_of_groups, is_read, is_shaped, kept_of_groups, rows_of_groups, shown}
+use Rattle.parquet_scan.specs.Cells.{columns_of_chunk, given_chunks, group_chunks}
+use Rattle.parquet_scan.specs.Counting.{are_pruned, lie_in_groups, causes_of_groups, chunks_of_groups, given_of_groups, index_causes_of_groups, gives_a_row, lies_in_group, kept_of_groups, rows_of_groups, shown}
 use Rattle.parquet_scan.specs.Request.{Request, is_legal}
-use Rattle.parquet_scan.specs.Rows.{File, file_with, first_rows, given_count, given_rows, gives_rows, group_counts, intervals, kept, kept_rows, prunes_pages}
+use Rattle.parquet_scan.specs.Rows.{File, file_with, first_rows, given_row_count, given_rows, gives_rows, group_counts, intervals, kept, kept_rows, prunes_pages}
 use Rattle.parquet_scan.specs.Scan.{FailsBy, OnFile, kept_of, kept_groups}
 use Rattle.parquet_scan.specs.declared.scanning.GroupKept.{GroupKept}
 use Rattle.parquet_scan.proofs.CauseLemmas.{TellsOf, among_first, then_next}
@@ -63,22 +63,22 @@ index_by request bytes false groups = none groups where
 -- ---- groups beside the rows that they give
 
 -- a group gives rows where it has runs
-pub gives_as : (group : RowGroupMetaData) (runs : List Interval) → is_shaped (group, runs) ≡ true → gives_rows (group, rows_of runs) ≡ is_read (group, runs)
+pub gives_as : (group : RowGroupMetaData) (runs : List Interval) → lies_in_group (group, runs) ≡ true → gives_rows (group, rows_of runs) ≡ gives_a_row (group, runs)
 gives_as group runs shaped = some_rows 0 runs group.num_rows shaped
 
-flat_read : {Z : Type 0} (f : RowGroupMetaData × List ℕ → List Z) (groups : List RowGroupMetaData) (given : List (List Interval)) → are_shaped groups given ≡ true
-    → flat_map f (filter gives_rows (zip groups (map rows_of given))) ≡ flat_map (λ (group : RowGroupMetaData × List Interval). if is_read group then f (group.0, rows_of group.1) else []) (zip groups given)
+flat_read : {Z : Type 0} (f : RowGroupMetaData × List ℕ → List Z) (groups : List RowGroupMetaData) (given : List (List Interval)) → lie_in_groups groups given ≡ true
+    → flat_map f (filter gives_rows (zip groups (map rows_of given))) ≡ flat_map (λ (group : RowGroupMetaData × List Interval). if gives_a_row group then f (group.0, rows_of group.1) else []) (zip groups given)
 flat_read f [] given shaped = refl
 flat_read f (group ∷ groups) [] shaped = refl
 flat_read {Z} f (group ∷ groups) (runs ∷ given) shaped =
     let parts = and_parts _ _ shaped in
     ap (λ b. flat_map f (cond b ((group, rows_of runs) ∷ filter gives_rows (zip groups (map rows_of given))) (filter gives_rows (zip groups (map rows_of given))))) (gives_as group runs parts.0)
-    ∙ by (is_read (group, runs)) (flat_read f groups given parts.1) where
+    ∙ by (gives_a_row (group, runs)) (flat_read f groups given parts.1) where
       others : List (RowGroupMetaData × List ℕ)
       others = filter gives_rows (zip groups (map rows_of given))
 
       rest : List Z
-      rest = flat_map (λ (group : RowGroupMetaData × List Interval). if is_read group then f (group.0, rows_of group.1) else []) (zip groups given)
+      rest = flat_map (λ (group : RowGroupMetaData × List Interval). if gives_a_row group then f (group.0, rows_of group.1) else []) (zip groups given)
 
       by : (b : Bool) → flat_map f others ≡ rest → flat_map f (cond b ((group, rows_of runs) ∷ others) others) ≡ (if b then f (group, rows_of runs) else []) ++ rest
       by true e = ap (λ found. f (group, rows_of runs) ++ found) e
@@ -133,7 +133,7 @@ module _ (request : Request) (metadata : FileMetaData) where
   pub record AreGiven (told : Option (List ℕ)) (kept : List GroupKept) (given : List (List Interval)) : Type 0 where
     pub runs : IfSome told (λ bytes. kept ≡ kept_of_groups pruned request.fields request.bounds bytes metadata.row_groups counting)
     pub rows : map rows_of given ≡ given_of_groups request.limit kept
-    pub shaped : are_shaped metadata.row_groups given ≡ true
+    pub shaped : lie_in_groups metadata.row_groups given ≡ true
 
   pub given_of : (told : Option (List ℕ)) (b : Bool) (fields : List Field) (groups : List RowGroupMetaData) (counts : List Bool) (kept again : List GroupKept) (given : List (List Interval))
       → b ≡ pruned → fields ≡ request.fields → groups ≡ metadata.row_groups → counts ≡ counting → again ≡ kept
@@ -145,7 +145,7 @@ module _ (request : Request) (metadata : FileMetaData) where
         (subst (λ (fields : List Field). IfSome told (λ bytes. kept ≡ kept_of_groups pruned fields request.bounds bytes groups counts)) f
         (subst (λ (b : Bool). IfSome told (λ bytes. kept ≡ kept_of_groups b fields request.bounds bytes groups counts)) p are)));
     rows = first ∙ ap (given_of_groups request.limit) k;
-    shaped = ap (λ groups. are_shaped groups given) (sym g)
+    shaped = ap (λ groups. lie_in_groups groups given) (sym g)
         ∙ groups_shaped groups kept given rows (ap (λ kept. list_all (λ (group : GroupKept × List Interval). is_well_shaped group.1 (group.0).rows) (zip kept given)) (sym k) ∙ shaped);
   }
 
@@ -175,15 +175,15 @@ module _ (request : Request) (metadata : FileMetaData) where
     kept_told (Some bytes) are = ap (map kept_of) are.runs ∙ runs_kept bytes metadata.row_groups
 
     pub chunks_told : (told : Option (List ℕ)) (chunks : List (List Array)) → AreGiven told kept given → IfSome told (λ bytes. shown chunks ≡ chunks_of_groups pruned request.chunk_size request.fields bytes metadata.row_groups given)
-        → IfSome told (λ bytes. given_chunks request (file_with bytes metadata) ≡ Some (map columns_of chunks))
+        → IfSome told (λ bytes. given_chunks request (file_with bytes metadata) ≡ Some (map columns_of_chunk chunks))
     chunks_told None chunks are e = tt
     chunks_told (Some bytes) chunks are e =
         let file = file_with bytes metadata in
         ap (λ rows. all_some (flat_map (group_chunks request file) (zip metadata.row_groups rows))) (rows_given bytes are)
         ∙ ap all_some (flat_given (group_chunks request file) metadata.row_groups given ∙ sym e)
-        ∙ all_there columns_of chunks
+        ∙ all_there columns_of_chunk chunks
 
-    pub rows_told : (told : Option (List ℕ)) (rows : ℕ) → AreGiven told kept given → rows ≡ min (rows_of_groups given) (2 ^ 64 - 1) → IfSome told (λ bytes. rows ≡ min (given_count request (file_with bytes metadata)) (2 ^ 64 - 1))
+    pub rows_told : (told : Option (List ℕ)) (rows : ℕ) → AreGiven told kept given → rows ≡ min (rows_of_groups given) (2 ^ 64 - 1) → IfSome told (λ bytes. rows ≡ min (given_row_count request (file_with bytes metadata)) (2 ^ 64 - 1))
     rows_told None rows are e = tt
     rows_told (Some bytes) rows are e = e ∙ ap (λ n. min n (2 ^ 64 - 1)) (sym (ap (sum_by length) (rows_given bytes are) ∙ count_given given))
 
@@ -302,11 +302,11 @@ module _ (request : Request) (metadata : FileMetaData) (none : metadata_causes r
   has_cause (Err e) told before now at k = cause_in e told before now at k
 
 pub are_counted : {X : Type 0} (request : Request) (metadata : FileMetaData) (r : Result X Error) (told : Option (List ℕ)) (rows : X → ℕ) → IfSome told (λ bytes. footer bytes ≡ Some metadata)
-    → IfOk r (λ x. IfSome told (λ bytes. rows x ≡ min (given_count request (file_with bytes metadata)) (2 ^ 64 - 1))) → IfOk r (λ x. OnFile told (λ file. rows x ≡ given_count request file))
+    → IfOk r (λ x. IfSome told (λ bytes. rows x ≡ min (given_row_count request (file_with bytes metadata)) (2 ^ 64 - 1))) → IfOk r (λ x. OnFile told (λ file. rows x ≡ given_row_count request file))
 are_counted request metadata (Err e) told rows at k = tt
 are_counted request metadata (Ok x) None rows at k = tt
 are_counted request metadata (Ok x) (Some bytes) rows at k =
     let few = few_rows bytes metadata at in
     let file = file_with bytes metadata in
-    subst (λ (o : Option FileMetaData). IfSome (option_map (file_with bytes) o) (λ file. rows x ≡ given_count request file)) (sym at)
+    subst (λ (o : Option FileMetaData). IfSome (option_map (file_with bytes) o) (λ file. rows x ≡ given_row_count request file)) (sym at)
     (omega (arith, k, few, fewer_kept request file metadata.row_groups, fewer_given request.limit (map (kept_rows request file) metadata.row_groups)))

@@ -17,7 +17,7 @@ use Rattle.parquet_base.specs.Reading.{◌>>=◌}
 use Rattle.parquet_meta.specs.declared.metadata.ColumnChunkMetaData.{ColumnChunkMetaData}
 use Rattle.parquet_meta.specs.declared.metadata.RowGroupMetaData.{RowGroupMetaData}
 use Rattle.parquet_page.specs.Values.{all_some}
-use Rattle.parquet_scan.specs.Cells.{column_cell, columns_of, given_chunk, given_column}
+use Rattle.parquet_scan.specs.Cells.{column_cell, columns_of_chunk, given_chunk, given_column}
 use Rattle.parquet_scan.specs.Chunks.{side_by_side, turned}
 use Rattle.parquet_scan.specs.Counting.{shown}
 use Rattle.parquet_scan.specs.Rows.{column_named}
@@ -231,6 +231,6 @@ told_chunks None by_pages fields group pieces items columns before some are e = 
 told_chunks (Some bytes) by_pages fields group pieces items columns before some are e =
     let lists = map items columns in
     let count : length (map (length {A = ℕ}) pieces) ≡ length pieces = length-map pieces length in
-    map-append (λ arrays. Some (columns_of arrays)) before (side_by_side lists)
+    map-append (λ arrays. Some (columns_of_chunk arrays)) before (side_by_side lists)
     ∙ ap (λ chunks. shown before ++ shown chunks) (sides (map length pieces) lists (some_lists items columns some) (columns_long items (map length pieces) columns are) ∙ ap (λ n. turned n lists) count)
     ∙ ap (λ chunks. shown before ++ chunks) (sym (chunks_are by_pages fields bytes group pieces lists (e ∙ sym (map-map (map (λ array. Some (column_of array))) items columns))))

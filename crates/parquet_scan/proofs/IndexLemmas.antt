@@ -30,7 +30,7 @@ use Rattle.flat_values.specs.Pairs.{page_conversion, page_end_at, page_from_phys
 use Rattle.column_ends.specs.Converted.{causes_of_index, cell_page, index_cells, index_rule}
 use Rattle.column_ends.specs.Told.{stored_pages}
 use Rattle.parquet_scan.specs.Pages.{column_index_causes, count_causes}
-use Rattle.parquet_scan.specs.Request.{begins, is_first}
+use Rattle.parquet_scan.specs.Request.{begins, begins_a_path}
 use Rattle.parquet_scan.specs.Scan.{FailsBy}
 use Rattle.parquet_scan.proofs.CauseLemmas.{TellsOf, tells_left, tells_right}
 use Rattle.parquet_scan.proofs.LocationLemmas.{one_of}
@@ -38,7 +38,7 @@ use Rattle.parquet_scan.proofs.ScanLemmas.{fails_telling}
 
 -- ---- the one column of a name
 
-same_name : (name : List ℕ) (path : List (List ℕ)) → is_first name path ≡ true → is_first_of name path ≡ true
+same_name : (name : List ℕ) (path : List (List ℕ)) → begins_a_path name path ≡ true → is_first_of name path ≡ true
 same_name name [] e = absurd (true≢false (sym e))
 same_name name (first ∷ others) e =
     let same : name ≡ first = same_text name first (sym e) in

@@ -12,7 +12,7 @@ use Rattle.parquet_base.proofs.RowLemmas.{rows_of-length, rows_of-passing}
 use Rattle.parquet_base.proofs.SegmentLemmas.{covers-maximal_runs, runs_apart}
 use Rattle.parquet_base.proofs.ShapeLemmas.{shape-cons, shape-weaker}
 use Rattle.parquet_meta.specs.declared.metadata.RowGroupMetaData.{RowGroupMetaData}
-use Rattle.parquet_scan.specs.Counting.{AreFirst, are_shaped}
+use Rattle.parquet_scan.specs.Counting.{AreFirst, lie_in_groups}
 use Rattle.parquet_scan.specs.declared.scanning.GroupKept.{GroupKept}
 
 -- ---- maximal runs are well shaped
@@ -94,7 +94,7 @@ rows_done groups kept i done so_far = sym (so_far ∙ ap (λ groups. kept_rows k
 
 -- where the runs lie in the rows that stand beside them, they lie in their groups
 pub groups_shaped : (groups : List RowGroupMetaData) (kept : List GroupKept) (given : List (List Interval)) → kept_rows kept ≡ group_rows groups
-    → list_all (λ (group : GroupKept × List Interval). is_well_shaped group.1 (group.0).rows) (zip kept given) ≡ true → are_shaped groups given ≡ true
+    → list_all (λ (group : GroupKept × List Interval). is_well_shaped group.1 (group.0).rows) (zip kept given) ≡ true → lie_in_groups groups given ≡ true
 groups_shaped [] kept given same shaped = refl
 groups_shaped (group ∷ groups) [] given same shaped = absurd cc
 groups_shaped (group ∷ groups) (one ∷ kept) [] same shaped = refl

@@ -27,11 +27,11 @@ use Rattle.parquet_page.proofs.AloneLemmas.{dictionary_alone, pages_alone}
 use Rattle.parquet_page.proofs.HeaderLemmas.{dictionary_measured}
 use Rattle.flat_values.specs.Conversion.{Value}
 use Rattle.column_ends.specs.Converted.{as_cell}
-use Rattle.parquet_scan.specs.Cells.{Reading, dictionary_by_locations, chunk_of, column_cell, column_item, dictionary_before, is_null_type, item_among, item_at, item_in, item_located, located_item, located_pages, located_reading, rows_of, walked_dictionary, walked_item, walked_pages, walked_reading}
+use Rattle.parquet_scan.specs.Cells.{Reading, dictionary_by_locations, chunk_of, column_cell, column_item, dictionary_before, is_null_type, item_among, item_at, item_in, item_located, located_item, located_pages, located_reading, rows_of_placed, walked_dictionary, walked_item, walked_pages, walked_reading}
 use Rattle.parquet_scan.specs.Laws.{LocatedCellsAreCells}
 use Rattle.parquet_scan.specs.Pages.{location_rows, locations}
 use Rattle.parquet_scan.proofs.CellLemmas.{sum-placed}
-use Rattle.parquet_scan.specs.Truth.{AreTrueCounts, AreTrueLocations, location_of}
+use Rattle.parquet_scan.specs.Truth.{AreTrueCounts, AreTrueLocations, location_of_page}
 
 -- ---- lists
 
@@ -61,16 +61,16 @@ abbrev placed_values : PlacedPage → ℕ
 placed_values placed = values placed.page
 
 -- a page ends at the first row of what stands behind it
-row_behind : (from start row rows : ℕ) (pages : List ChunkPage) → row + sum_by values pages ≡ rows → next_row (map (location_of from) (placed_pages start row pages)) rows ≡ pos row
+row_behind : (from start row rows : ℕ) (pages : List ChunkPage) → row + sum_by values pages ≡ rows → next_row (map (location_of_page from) (placed_pages start row pages)) rows ≡ pos row
 row_behind from start row rows [] e = let same : rows ≡ row = omega (arith, e) in ap pos same
 row_behind from start row rows (page ∷ pages) e = refl
 
 rows_named : (from start row rows : ℕ) (pages : List ChunkPage) → row + sum_by values pages ≡ rows
-    → page_intervals (map (location_of from) (placed_pages start row pages)) rows ≡ Some (map rows_of (placed_pages start row pages))
+    → page_intervals (map (location_of_page from) (placed_pages start row pages)) rows ≡ Some (map rows_of_placed (placed_pages start row pages))
 unfolding page_intervals
 rows_named from start row rows [] e = refl
 rows_named from start row rows (page ∷ pages) e =
-    let behind = map (location_of from) (placed_pages (start + page.size) (row + values page) pages) in
+    let behind = map (location_of_page from) (placed_pages (start + page.size) (row + values page) pages) in
     let left : row + values page + sum_by values pages ≡ rows = omega (arith, e, sum_by-cons values page pages) in
     let below : nat_le row (row + values page) ≡ true = le-leb row (row + values page) (omega arith) in
     let own : row + values page - row ≡ values page = omega arith in
@@ -81,7 +81,7 @@ rows_named from start row rows (page ∷ pages) e =
 
 -- ---- the page that a location names
 
-located_there : (from : ℕ) (chunk : List ℕ) (placed : PlacedPage) → IsReadAlone chunk placed → located from chunk (location_of from placed) (placed_values placed) ≡ Some placed.page
+located_there : (from : ℕ) (chunk : List ℕ) (placed : PlacedPage) → IsReadAlone chunk placed → located from chunk (location_of_page from placed) (placed_values placed) ≡ Some placed.page
 unfolding located
 located_there from chunk placed alone =
     let behind : nat_le from (from + placed.start) ≡ true = le-leb from (from + placed.start) (omega arith) in
@@ -103,7 +103,7 @@ located_at_end chunk = by (dictionary_at chunk) refl where
 
 -- where the first location names the first page, it is the part before that page
 before_first : (from : ℕ) (chunk : List ℕ) (start row : ℕ) (page : ChunkPage) (pages : List ChunkPage)
-    → dictionary_before from chunk (map (location_of from) (placed_pages start row (page ∷ pages))) ≡ located_dictionary chunk start
+    → dictionary_before from chunk (map (location_of_page from) (placed_pages start row (page ∷ pages))) ≡ located_dictionary chunk start
 before_first from chunk start row page pages = let own : from + start - from ≡ start = omega arith in ap (located_dictionary chunk) own
 
 -- ---- the place of a chunk
@@ -123,7 +123,7 @@ is_chunk_by size rows column chunk true is e =
 
 module _ (bytes : List ℕ) (group : RowGroupMetaData) (column : ColumnChunkMetaData) (chunk : Place) (there : chunk_of bytes group column ≡ Some chunk)
     (all_values : sum_by placed_values (walked_pages bytes group column) ≡ column.num_values)
-    (true_locations : locations bytes column ≡ map (location_of (chunk_start column)) (walked_pages bytes group column)) where
+    (true_locations : locations bytes column ≡ map (location_of_page (chunk_start column)) (walked_pages bytes group column)) where
   abbrev C : List ℕ
   C = bytes_at bytes chunk
 
@@ -139,13 +139,13 @@ module _ (bytes : List ℕ) (group : RowGroupMetaData) (column : ColumnChunkMeta
   walked_are : walked_pages bytes group column ≡ pages
   walked_are = ap (λ (o : Option Place). option_map_or (λ (place : Place). pages_of_chunk column.num_values (bytes_at bytes place)) o []) there
 
-  locations_are : locations bytes column ≡ map (location_of chunk.offset) pages
-  locations_are = true_locations ∙ ap (map (location_of (chunk_start column))) walked_are ∙ ap (λ (place : Place). map (location_of place.offset) pages) is_chunk.range
+  locations_are : locations bytes column ≡ map (location_of_page chunk.offset) pages
+  locations_are = true_locations ∙ ap (map (location_of_page (chunk_start column))) walked_are ∙ ap (λ (place : Place). map (location_of_page place.offset) pages) is_chunk.range
 
   all_rows : 0 + sum_by values contents ≡ group.num_rows
   all_rows = let total = ap (sum_by placed_values) walked_are in omega (arith, total, is_chunk.same_rows, all_values, sum-placed (dictionary_size C) 0 contents)
 
-  rows_are : location_rows bytes group column ≡ map rows_of pages
+  rows_are : location_rows bytes group column ≡ map rows_of_placed pages
   rows_are = ap (λ found. unwrap_or (page_intervals found group.num_rows) []) locations_are
       ∙ ap (λ (o : Option (List Interval)). unwrap_or o []) (rows_named chunk.offset (dictionary_size C) 0 group.num_rows contents all_rows)
 
@@ -153,16 +153,16 @@ module _ (bytes : List ℕ) (group : RowGroupMetaData) (column : ColumnChunkMeta
   named page = (page.0, located chunk.offset C page.1 (page.0).length)
 
   abbrev whole : PlacedPage → Interval × Option ChunkPage
-  whole placed = (rows_of placed, Some placed.page)
+  whole placed = (rows_of_placed placed, Some placed.page)
 
   located_are : located_pages bytes group column ≡ map whole pages
   located_are =
       ap (λ (o : Option Place). option_map_or (λ (place : Place). map (λ (page : Interval × PageLocation). (page.0, located place.offset (bytes_at bytes place) page.1 (page.0).length)) (zip (location_rows bytes group column) (locations bytes column))) o []) there
       ∙ ap (λ rows. map named (zip rows (locations bytes column))) rows_are
-      ∙ ap (λ found. map named (zip (map rows_of pages) found)) locations_are
-      ∙ ap (map named) (zip-maps rows_of (location_of chunk.offset) pages)
-      ∙ map-map named (λ placed. (rows_of placed, location_of chunk.offset placed)) pages
-      ∙ same_maps (IsReadAlone C) _ whole (λ placed alone. ap (λ page. (rows_of placed, page)) (located_there chunk.offset C placed alone)) pages (pages_alone C column.num_values)
+      ∙ ap (λ found. map named (zip (map rows_of_placed pages) found)) locations_are
+      ∙ ap (map named) (zip-maps rows_of_placed (location_of_page chunk.offset) pages)
+      ∙ map-map named (λ placed. (rows_of_placed placed, location_of_page chunk.offset placed)) pages
+      ∙ same_maps (IsReadAlone C) _ whole (λ placed alone. ap (λ page. (rows_of_placed placed, page)) (located_there chunk.offset C placed alone)) pages (pages_alone C column.num_values)
 
   module _ (reading : Reading) (row : ℕ) where
     of_found : (o : Option PlacedPage) → option_and_then (λ (page : Interval × Option ChunkPage). option_and_then (item_at reading (row - (page.0).start)) page.1) (option_map whole o) ≡ option_and_then (item_in reading row) o
@@ -172,9 +172,9 @@ module _ (bytes : List ℕ) (group : RowGroupMetaData) (column : ColumnChunkMeta
     same_items : item_located reading (map whole pages) row ≡ item_among reading pages row
     same_items =
         ap (option_and_then (λ (page : Interval × Option ChunkPage). option_and_then (item_at reading (row - (page.0).start)) page.1)) (find-map (λ (page : Interval × Option ChunkPage). holds page.0 row) whole pages)
-        ∙ of_found (find (λ (placed : PlacedPage). holds (rows_of placed) row) pages)
+        ∙ of_found (find (λ (placed : PlacedPage). holds (rows_of_placed placed) row) pages)
 
-  before_are : dictionary_by_locations bytes group column ≡ dictionary_before chunk.offset C (map (location_of chunk.offset) pages)
+  before_are : dictionary_by_locations bytes group column ≡ dictionary_before chunk.offset C (map (location_of_page chunk.offset) pages)
   before_are =
       ap (λ (o : Option Place). option_map_or (λ (place : Place). dictionary_before place.offset (bytes_at bytes place) (locations bytes column)) o NoDictionary) there
       ∙ ap (dictionary_before chunk.offset C) locations_are
@@ -187,7 +187,7 @@ module _ (bytes : List ℕ) (group : RowGroupMetaData) (column : ColumnChunkMeta
     over dictionary = record { stored = column.descriptor.primitive_type; dictionary = dictionary; data_type = data_type }
 
     -- where there is a page, the dictionaries are one, and without a page there is no item
-    same_dictionaries : (found : List ChunkPage) → dictionary_before chunk.offset C (map (location_of chunk.offset) (placed_pages (dictionary_size C) 0 found)) ≡ dictionary_by_locations bytes group column
+    same_dictionaries : (found : List ChunkPage) → dictionary_before chunk.offset C (map (location_of_page chunk.offset) (placed_pages (dictionary_size C) 0 found)) ≡ dictionary_by_locations bytes group column
         → item_among (over (dictionary_by_locations bytes group column)) (placed_pages (dictionary_size C) 0 found) row ≡ item_among (over (walked_dictionary bytes group column)) (placed_pages (dictionary_size C) 0 found) row
     same_dictionaries [] e = refl
     same_dictionaries (page ∷ others) e =

@@ -18,7 +18,7 @@ use Rattle.parquet_scan.specs.declared.bound.Bound.{Bound}
 use Rattle.parquet_scan.specs.Bound.{KnownEnds}
 use Rattle.parquet_scan.specs.Causes.{index_causes_of_bound}
 use Rattle.parquet_scan.specs.Pages.{column_index_causes, keeps_row, locations, page_ends, row_keeps, rows_at}
-use Rattle.parquet_scan.specs.Request.{are_values_of, begins, bound_type, field_of, is_legal_bound_of}
+use Rattle.parquet_scan.specs.Request.{are_values_of, begins, bound_type, bounded_field, is_legal_bound_of}
 use Rattle.parquet_scan.specs.Rows.{bound_keeps, bounded_column, column_named, field_locations, is_named, only_one, pages_keep}
 
 -- ---- the column of a name
@@ -55,7 +55,7 @@ typed_by field column = do
   Some (bound_type found, own)
 
 pub bound_column : (fields : List Field) (group : RowGroupMetaData) (bound : Bound) (data_type : DataType) (column : ColumnChunkMetaData) → bounded_column fields group bound ≡ Some (data_type, column) → column_named group bound.field ≡ Some column
-bound_column fields group bound data_type column e = by (field_of fields bound) (column_named group bound.field) e where
+bound_column fields group bound data_type column e = by (bounded_field fields bound) (column_named group bound.field) e where
   by : (field : Option Field) (found : Option ColumnChunkMetaData) → typed_by field found ≡ Some (data_type, column) → found ≡ Some column
   by None found e = absurd cc
   by (Some field) None e = absurd cc
@@ -130,8 +130,8 @@ locations_at (Some bytes) group (field ∷ fields) items lists bound i d same h 
 
 -- ---- the field of a legal bound
 
-pub field_there : (fields : List Field) (bound : Bound) → is_legal_bound_of fields bound ≡ true → is_some (field_of fields bound) ≡ true
-field_there fields bound legal = by (field_of fields bound) legal where
+pub field_there : (fields : List Field) (bound : Bound) → is_legal_bound_of fields bound ≡ true → is_some (bounded_field fields bound) ≡ true
+field_there fields bound legal = by (bounded_field fields bound) legal where
   by : (o : Option Field) → option_map_or (λ (field : Field). are_values_of (bound_type field) bound) o false ≡ true → is_some o ≡ true
   by None legal = legal
   by (Some field) legal = refl

@@ -35,9 +35,9 @@ use Rattle.parquet_scan.specs.Bound.{KnownEnds}
 use Rattle.parquet_scan.specs.Causes.{causes_of_chunk, causes_of_column, causes_of_opened, causes_of_walk, chunk_read_causes, index_causes_of_bound, index_causes_of_group, is_opened, located_causes, offset_causes_of_field, opened_located, pair_causes, walked_causes}
 use Rattle.parquet_scan.specs.Cells.{Reading, dictionary_by_locations, chunk_of, dictionary_before, first_location, given_cell, is_null_type, item_among, item_at, item_located, located_item, located_pages, located_reading, named_page, walked_item, walked_reading}
 use Rattle.parquet_scan.specs.Costs.{holds_any, names_some, opened_locations}
-use Rattle.parquet_scan.specs.LookedAt.{AgreeAt, AgreeOn, bound_parts, chunk_parts, column_parts, dictionary_length, dictionary_part, front_of, index_parts_of_group, located_parts, offset_parts, part_in_chunk, parts_if, walked_length, walked_parts, with_dictionary}
+use Rattle.parquet_scan.specs.LookedAt.{AgreeAt, AgreeOn, bound_parts, chunk_parts, column_parts, dictionary_length, dictionary_part, front_of_part, index_parts_of_group, parts_by_locations, offset_parts, part_in_chunk, parts_if, walked_length, walked_parts, with_dictionary}
 use Rattle.parquet_scan.specs.Pages.{column_index_causes, count_causes, ends_of_page, keeps_row, location_rows, locations, locations_causes, row_keeps, rows_at}
-use Rattle.parquet_scan.specs.Request.{Request, bound_type, field_of}
+use Rattle.parquet_scan.specs.Request.{Request, bound_type, bounded_field}
 use Rattle.parquet_scan.specs.Rows.{bound_keeps, column_named}
 use Rattle.parquet_scan.proofs.CellLemmas.{same_given}
 use Rattle.parquet_scan.proofs.LocatedLemmas.{any_row, chunk_length, located_by, page_there}
@@ -191,7 +191,7 @@ module _ (first second : List ℕ) (long : length second ≡ length first) where
   index_causes_by bytes typed = column_index_causes typed.0 (length (locations bytes typed.1)) bytes typed.1
 
   bound_causes_same : (fields : List Field) (group : RowGroupMetaData) (bound : Bound) → AgreeOn first second (bound_parts group bound) → index_causes_of_bound fields second group bound ≡ index_causes_of_bound fields first group bound
-  bound_causes_same fields group bound h = by (field_of fields bound) (column_named group bound.field) h where
+  bound_causes_same fields group bound h = by (bounded_field fields bound) (column_named group bound.field) h where
     by : (field : Option Field) (o : Option ColumnChunkMetaData) → AgreeOn first second (option_map_or (λ (column : ColumnChunkMetaData). parts_if column.column_index ++ parts_if column.offset_index) o [])
         → option_map_or (index_causes_by second) (typed_by field o) (ExternalFormat ∷ []) ≡ option_map_or (index_causes_by first) (typed_by field o) (ExternalFormat ∷ [])
     by None o h = refl
@@ -204,7 +204,7 @@ module _ (first second : List ℕ) (long : length second ≡ length first) where
         (option_map_or (λ index. causes_of_index stored data_type index ++ count_causes (length (locations_same column both.1 i)) index) (index_same (type_of column) column.column_index both.0 i) (ExternalFormat ∷ []))
 
   bound_keeps_same : (fields : List Field) (group : RowGroupMetaData) (row : ℕ) (bound : Bound) → AgreeOn first second (bound_parts group bound) → bound_keeps fields second group row bound ≡ bound_keeps fields first group row bound
-  bound_keeps_same fields group row bound h = by (field_of fields bound) (column_named group bound.field) h where
+  bound_keeps_same fields group row bound h = by (bounded_field fields bound) (column_named group bound.field) h where
     keeps_by : List ℕ → DataType × ColumnChunkMetaData → Bool
     keeps_by bytes typed = row_keeps typed.0 bytes group bound typed.1 row
 
@@ -248,7 +248,7 @@ module _ (first second : List ℕ) (long : length second ≡ length first) where
         inside part true lies h = ap (λ o. o >>= λ body. page_in body rows) (part_same part (subst (AgreeAt first second) (within_is chunk part lies) h))
         inside part false lies h = refl
 
-        by : (o : Option Place) → AgreeAt first second (option_map_or (within chunk) o (front_of chunk 0)) → (o >>= λ part. page_there second chunk part rows) ≡ (o >>= λ part. page_there first chunk part rows)
+        by : (o : Option Place) → AgreeAt first second (option_map_or (within chunk) o (front_of_part chunk 0)) → (o >>= λ part. page_there second chunk part rows) ≡ (o >>= λ part. page_there first chunk part rows)
         by None h = refl
         by (Some part) h = inside part (lies_in chunk part) refl h
 
@@ -284,23 +284,23 @@ module _ (first second : List ℕ) (long : length second ≡ length first) where
     up e = ap (λ n. if nat_le k n then dictionary_in other else Undefined) same_size ∙ ap whole e
 
     -- as many bytes of the parts are the same as of the chunks
-    front_same : (n : ℕ) → n ≤ length part → AgreeAt first second (front_of chunk n) → take n other ≡ take n part
+    front_same : (n : ℕ) → n ≤ length part → AgreeAt first second (front_of_part chunk n) → take n other ≡ take n part
     front_same n few h =
         let less : n ≤ k = omega (arith, few, length-take k (bytes_at first chunk)) in
         let low : n ≤ chunk.length = omega (arith, few, length-take k (bytes_at first chunk), chunk_length first chunk fits) in
         take-take n k (bytes_at second chunk) less ∙ take-take n chunk.length (drop chunk.offset second) low ∙ h
         ∙ sym (take-take n chunk.length (drop chunk.offset first) low) ∙ sym (take-take n k (bytes_at first chunk) less)
 
-    by : (o : Option (DictionaryPage × List ℕ)) → dictionary_at part ≡ o → AgreeAt first second (front_of chunk (option_map_or (λ (read : DictionaryPage × List ℕ). read.0.size) o (length part)))
+    by : (o : Option (DictionaryPage × List ℕ)) → dictionary_at part ≡ o → AgreeAt first second (front_of_part chunk (option_map_or (λ (read : DictionaryPage × List ℕ). read.0.size) o (length part)))
         → (dictionary_by second chunk (Some k) ≡ dictionary_by first chunk (Some k)) × (dictionary_part second chunk (Some k) ≡ dictionary_part first chunk (Some k))
     by None e h =
         let equal : other ≡ part = sym (take_all (length part) other (omega (arith, same_length))) ∙ front_same (length part) (omega arith) h ∙ take_all (length part) part (omega arith) in
-        (up (ap dictionary_in equal), ap (λ found. front_of chunk (dictionary_length found)) equal)
+        (up (ap dictionary_in equal), ap (λ found. front_of_part chunk (dictionary_length found)) equal)
     by (Some read) e h =
         let measured = (dictionary_measured part read e).size in
         let there = same_dictionary part other read.0 read.1 e (front_same read.0.size (omega (arith, measured)) h) in (
           up ((λ i. if same_length i == 0 then NoDictionary else if_defined (there i) Undefined) ∙ sym (ap (λ o. if length part == 0 then NoDictionary else if_defined o Undefined) e)),
-          (λ i. front_of chunk (option_map_or (λ (read : DictionaryPage × List ℕ). read.0.size) (there i) (length other))) ∙ sym (ap (λ o. front_of chunk (option_map_or (λ (read : DictionaryPage × List ℕ). read.0.size) o (length part))) e),
+          (λ i. front_of_part chunk (option_map_or (λ (read : DictionaryPage × List ℕ). read.0.size) (there i) (length other))) ∙ sym (ap (λ o. front_of_part chunk (option_map_or (λ (read : DictionaryPage × List ℕ). read.0.size) o (length part))) e),
         )
 
   -- ---- a chunk
@@ -336,7 +336,7 @@ module _ (first second : List ℕ) (long : length second ≡ length first) where
       fits : after chunk ≤ length first
       fits = chunk_fits first group column chunk at_first
 
-      module _ (told : locations second column ≡ locations first column) (h : AgreeOn first second (located_parts first group rows column chunk)) where
+      module _ (told : locations second column ≡ locations first column) (h : AgreeOn first second (parts_by_locations first group rows column chunk)) where
         in_opened : AgreeOn first second (map (part_in_chunk chunk) (opened_locations first group rows column))
         in_opened = with_parts first second (dictionary_part first chunk (first_place chunk)) (map (part_in_chunk chunk) (opened_locations first group rows column)) h
 
@@ -381,7 +381,7 @@ module _ (first second : List ℕ) (long : length second ≡ length first) where
             (same_among rows (located_item second group data_type column) (located_item first group data_type column) located_items_same) in
             λ i. and_then (unless (has_shape (told i) group.num_rows) ExternalFormat) (of_pages i ++ of_rows i)
 
-        located_parts_same : located_parts second group rows column chunk ≡ located_parts first group rows column chunk
+        located_parts_same : parts_by_locations second group rows column chunk ≡ parts_by_locations first group rows column chunk
         located_parts_same =
             ap (λ found. with_dictionary (dictionary_part second chunk (first_location chunk.offset found)) (map (part_in_chunk chunk) (map (λ (named : Interval × PageLocation). named.1) (filter (names_some rows) (zip (rows_at found group.num_rows) found))))) told
             ∙ same_with (dictionary_part second chunk (first_place chunk)) (dictionary_part first chunk (first_place chunk)) (map (part_in_chunk chunk) (opened_locations first group rows column))
@@ -413,7 +413,7 @@ module _ (first second : List ℕ) (long : length second ≡ length first) where
     opened_causes_by by_pages bytes chunk = if by_pages then located_causes size bytes group rows data_type column else walked_causes size bytes group rows data_type column chunk
 
     abbrev parts_by : Bool → List ℕ → Place → List Place
-    parts_by by_pages bytes chunk = if by_pages then located_parts bytes group rows column chunk else walked_parts bytes rows column chunk
+    parts_by by_pages bytes chunk = if by_pages then parts_by_locations bytes group rows column chunk else walked_parts bytes rows column chunk
 
     -- a chunk of the second file is as in the first
     pub record IsSameChunk (by_pages : Bool) : Type 0 where
@@ -465,7 +465,7 @@ module _ (first second : List ℕ) (long : length second ≡ length first) where
       }
       go false front told (Some chunk) same at h = record {
         causes = causes_from false (Some chunk) (same ∙ at) at (walked_causes_same chunk (same ∙ at) at (front refl) h);
-        parts = parts_from false (Some chunk) (same ∙ at) at (ap (λ size. front_of chunk size ∷ []) (walk chunk (same ∙ at) at (front refl) h).size);
+        parts = parts_from false (Some chunk) (same ∙ at) at (ap (λ size. front_of_part chunk size ∷ []) (walk chunk (same ∙ at) at (front refl) h).size);
         items = walked_items_same chunk (same ∙ at) at (front refl) h;
       }
 

@@ -21,7 +21,7 @@ use Rattle.parquet_page.proofs.AloneLemmas.{before_rest, data_front, dictionary_
 use Rattle.parquet_page.proofs.HeaderLemmas.{dictionary_measured}
 use Rattle.parquet_page.proofs.RowSums.{page_values as values_of}
 use Rattle.parquet_scan.specs.Causes.{begins_below, causes_of_data, causes_of_dictionary, causes_of_walk, rows_held}
-use Rattle.parquet_scan.specs.Cells.{Reading, item_among, item_in, rows_of}
+use Rattle.parquet_scan.specs.Cells.{Reading, item_among, item_in, rows_of_placed}
 use Rattle.parquet_scan.specs.LookedAt.{walked_length}
 use Rattle.parquet_scan.proofs.CellLemmas.{opened_none, opened_pages, opened_placed, sum-placed}
 
@@ -103,14 +103,14 @@ opened_fewer (suc more) (page ∷ pages) =
 
 -- the rows of a placed page
 abbrev rows_hold : ℕ → PlacedPage → Bool
-rows_hold row placed = holds (rows_of placed) row
+rows_hold row placed = holds (rows_of_placed placed) row
 
 none_behind : (start first row : ℕ) (pages : List ChunkPage) → row < first → find (rows_hold row) (placed_pages start first pages) ≡ None
 none_behind start first row [] low = refl
 none_behind start first row (page ∷ pages) low =
     let placed : PlacedPage = record { start = start; first_row = first; page = page } in
     let others = placed_pages (start + page.size) (first + header_values page.header) pages in
-    ap (λ b. cond b (Some placed) (find (rows_hold row) others)) (holds_before (rows_of placed) row low)
+    ap (λ b. cond b (Some placed) (find (rows_hold row) others)) (holds_before (rows_of_placed placed) row low)
     ∙ none_behind (start + page.size) (first + header_values page.header) row pages (omega (arith, low))
 
 -- a row below the last stands in one of them

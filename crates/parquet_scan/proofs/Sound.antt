@@ -29,7 +29,7 @@ use Rattle.parquet_scan.specs.Causes.{file_causes, index_causes, index_causes_of
 use Rattle.parquet_scan.specs.Cells.{cell, column_cell}
 use Rattle.parquet_scan.specs.Laws.{LosesNoRowOfValidFiles}
 use Rattle.parquet_scan.specs.Pages.{column_index_causes, location_rows, locations, locations_causes, page_ends, page_keeps, row_keeps}
-use Rattle.parquet_scan.specs.Request.{Request, are_values_of, bound_type, field_of, is_legal, is_legal_bound_of}
+use Rattle.parquet_scan.specs.Request.{Request, are_values_of, bound_type, bounded_field, is_legal, is_legal_bound_of}
 use Rattle.parquet_scan.specs.Rows.{File, bound_keeps, bounded_column, column_named, file_with, group_counts, group_keeps, groups_of, kept, prunes_pages}
 use Rattle.parquet_scan.specs.Statistics.{group_ends}
 use Rattle.parquet_scan.specs.Truth.{HasTrueStatistics, LosesNoRow, MeetsAll, OnBound, are_true, has_true_index, has_true_statistics, is_true_of_page, items_of}
@@ -86,7 +86,7 @@ page_found row bound P is_true keep (page ∷ pages) (first ∷ ends) same there
 -- the bound's field, its column, and the row's item
 record Met (fields : List Field) (bytes : List ℕ) (group : RowGroupMetaData) (row : ℕ) (bound : Bound) : Type 0 where
   field : Field
-  found : field_of fields bound ≡ Some field
+  found : bounded_field fields bound ≡ Some field
   item : Cell
   is_item : cell bytes group field row ≡ Some item
   is_met : meets bound item ≡ true
@@ -98,14 +98,14 @@ of_column None f y e = cc
 of_column (Some x) f y e = (x, refl)
 
 met_by : (fields : List Field) (bytes : List ℕ) (group : RowGroupMetaData) (row : ℕ) (bound : Bound) (field : Field) (o : Option Cell)
-    → field_of fields bound ≡ Some field → cell bytes group field row ≡ o → IsSomeAnd o (λ item. IsTrue (meets bound item)) → Met fields bytes group row bound
+    → bounded_field fields bound ≡ Some field → cell bytes group field row ≡ o → IsSomeAnd o (λ item. IsTrue (meets bound item)) → Met fields bytes group row bound
 met_by fields bytes group row bound field None found e h = absurd h
 met_by fields bytes group row bound field (Some item) found e h =
     let there = of_column (column_named group field.name) (λ column. column_cell false bytes group field.data_type column row) item e in
     record { field = field; found = found; item = item; is_item = e; is_met = h; column = there.0; is_column = there.1 }
 
 met_in : (fields : List Field) (bytes : List ℕ) (group : RowGroupMetaData) (row : ℕ) (bound : Bound) (o : Option Field)
-    → field_of fields bound ≡ o → IsSomeAnd (option_and_then (λ field. cell bytes group field row) o) (λ item. IsTrue (meets bound item)) → Met fields bytes group row bound
+    → bounded_field fields bound ≡ o → IsSomeAnd (option_and_then (λ field. cell bytes group field row) o) (λ item. IsTrue (meets bound item)) → Met fields bytes group row bound
 met_in fields bytes group row bound None found h = absurd h
 met_in fields bytes group row bound (Some field) found h = met_by fields bytes group row bound field (cell bytes group field row) found refl h
 
@@ -139,7 +139,7 @@ module _ (fields : List Field) (bytes : List ℕ) (group : RowGroupMetaData) (ro
   true_here : (fact : RowGroupMetaData → Field → ColumnChunkMetaData → Bool) → OnBound fact fields group bound → fact group met.field met.column ≡ true
   true_here fact h =
       if_some (λ column. IsTrue (fact group met.field column)) (column_named group met.field.name) met.column met.is_column
-      (if_some (λ (field : Field). IfSome (column_named group field.name) (λ column. IsTrue (fact group field column))) (field_of fields bound) met.field met.found h)
+      (if_some (λ (field : Field). IfSome (column_named group field.name) (λ column. IsTrue (fact group field column))) (bounded_field fields bound) met.field met.found h)
 
   group_kept : OnBound (has_true_statistics bytes) fields group bound → group_keeps fields group bound ≡ true
   group_kept h =

@@ -34,11 +34,11 @@ use Rattle.column_ends.proofs.EndTypes.{group_ends_have_type, page_ends_have_typ
 use Rattle.parquet_scan.specs.declared.bound.Bound.{Bound}
 use Rattle.parquet_scan.specs.declared.bound.Scalar.{Scalar}
 use Rattle.parquet_scan.specs.Bound.{KnownEnds}
-use Rattle.parquet_scan.specs.Cells.{Reading, cell, column_cell, column_item, content_of, dictionary_content, is_null_type, item_at, item_in, items_in, rows_of, walked_item, walked_pages, walked_reading}
+use Rattle.parquet_scan.specs.Cells.{Reading, cell, column_cell, column_item, content_of, dictionary_content, is_null_type, item_at, item_in, items_in, rows_of_placed, walked_item, walked_pages, walked_reading}
 use Rattle.parquet_scan.specs.Pages.{column_index_causes, count_causes, ends_of_page, locations, page_ends}
 use Rattle.parquet_scan.specs.Request.{are_values_of, bound_type, is_value_of}
 use Rattle.parquet_scan.specs.Rows.{column_named}
-use Rattle.parquet_scan.specs.Statistics.{group_ends, known_ends, known_value, unknown}
+use Rattle.parquet_scan.specs.Statistics.{group_ends, known_ends, known_value, no_ends_known}
 use Rattle.parquet_scan.specs.Truth.{items_of}
 use Rattle.parquet_scan.proofs.Exact.{IsItemIn, kind-bytes, kind-int, kind-of_value, kind_at}
 use Rattle.parquet_scan.proofs.Order.{kind}
@@ -103,7 +103,7 @@ item_of_type reading place page = by (items_in reading page) refl where
 walked_of_type : (bytes : List ℕ) (group : RowGroupMetaData) (data_type : DataType) (column : ColumnChunkMetaData) (row : ℕ) → IfSome (walked_item bytes group data_type column row) (λ item. is_item_of data_type item ≡ true)
 walked_of_type bytes group data_type column row =
     let reading = walked_reading bytes group data_type column in
-    and_then_all (find (λ (placed : PlacedPage). holds (rows_of placed) row) (walked_pages bytes group column)) (item_in reading row) (λ item. is_item_of data_type item ≡ true)
+    and_then_all (find (λ (placed : PlacedPage). holds (rows_of_placed placed) row) (walked_pages bytes group column)) (item_in reading row) (λ item. is_item_of data_type item ≡ true)
     (λ placed. item_of_type reading (row - placed.first_row) placed.page)
 
 column_of_type : (bytes : List ℕ) (group : RowGroupMetaData) (data_type : DataType) (column : ColumnChunkMetaData) (row : ℕ) → IfSome (column_item false bytes group data_type column row) (λ item. is_item_of data_type item ≡ true)
@@ -156,7 +156,7 @@ module _ (data_type : DataType) (ordered : is_ordered data_type ≡ true) where
 
   pub group_ends_are_of_kind : (column : ColumnChunkMetaData) → AreKind data_type (group_ends data_type column)
   group_ends_are_of_kind column = by (group_cells data_type column) refl where
-    by : (o : Option (Ends Cell)) → group_cells data_type column ≡ o → AreKind data_type (option_map_or known_ends o unknown)
+    by : (o : Option (Ends Cell)) → group_cells data_type column ≡ o → AreKind data_type (option_map_or known_ends o no_ends_known)
     by None e = (tt, tt)
     by (Some ends) e =
         let typed = group_ends_have_type data_type column ends own e in

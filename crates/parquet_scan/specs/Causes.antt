@@ -33,7 +33,7 @@ use Rattle.parquet_scan.specs.declared.bound.Bound.{Bound}
 use Rattle.parquet_scan.specs.Cells.{Reading, chunk_of, content_of, dictionary_content, is_null_type, located_item, located_pages, located_reading, walked_item, walked_reading}
 use Rattle.flat_binary.specs.Decoding.{key_limit_of}
 use Rattle.parquet_scan.specs.Decoded.{column_entries}
-use Rattle.parquet_scan.specs.Request.{Request, begins, bound_type, field_of}
+use Rattle.parquet_scan.specs.Request.{Request, begins, bound_type, bounded_field}
 use Rattle.parquet_scan.specs.Pages.{column_index_causes, locations, locations_causes}
 use Rattle.parquet_scan.specs.Rows.{File, bounded_column, file_of, groups_of, column_named, group_counts, prunes_pages, groups_read}
 
@@ -66,7 +66,7 @@ bounded_cells fields bound group =
 -- The ends of all groups are one array for the low ones and one for the high ones.
 abbrev pub array_causes_of_bound : List Field → List RowGroupMetaData → Bound → List Cause
 array_causes_of_bound fields groups bound =
-    option_map_or (λ (field : Field). group_array_causes (bound_type field) (filter_map (bounded_cells fields bound) groups)) (field_of fields bound) []
+    option_map_or (λ (field : Field). group_array_causes (bound_type field) (filter_map (bounded_cells fields bound) groups)) (bounded_field fields bound) []
 
 abbrev pub causes_of_bound : List Field → List RowGroupMetaData → Bound → List Cause
 causes_of_bound fields groups bound = flat_map (bounded_causes_of_group fields bound) groups ++ array_causes_of_bound fields groups bound

@@ -71,12 +71,12 @@ item_in reading row placed = item_at reading (row - placed.first_row) placed.pag
 
 -- ---- pages that stand one after another
 
-abbrev pub rows_of : PlacedPage → Interval
-rows_of placed = interval placed.first_row (header_values placed.page.header)
+abbrev pub rows_of_placed : PlacedPage → Interval
+rows_of_placed placed = interval placed.first_row (header_values placed.page.header)
 
 -- the item of a row, in the page that holds it
 abbrev pub item_among : Reading → List PlacedPage → ℕ → Option Item
-item_among reading pages row = option_and_then (item_in reading row) (find (λ (placed : PlacedPage). holds (rows_of placed) row) pages)
+item_among reading pages row = option_and_then (item_in reading row) (find (λ (placed : PlacedPage). holds (rows_of_placed placed) row) pages)
 
 -- the dictionary page that a column's chunk begins with
 abbrev pub walked_dictionary : List ℕ → RowGroupMetaData → ColumnChunkMetaData → Dictionary
@@ -172,5 +172,5 @@ abbrev pub file_chunks : Request → File → Option (List (List (DataType × Li
 file_chunks request file = all_some (flat_map (file_chunks_of_group request file) (given_groups request file))
 
 -- a chunk by its types and cells
-abbrev pub columns_of : List Array → List (DataType × List Cell)
-columns_of arrays = map column_of arrays
+abbrev pub columns_of_chunk : List Array → List (DataType × List Cell)
+columns_of_chunk arrays = map column_of arrays

@@ -17,7 +17,7 @@ use Rattle.parquet_page.specs.Content.{header_values}
 use Rattle.parquet_page.specs.Locations.{part_of}
 use Rattle.parquet_scan.specs.declared.bound.Bound.{Bound}
 use Rattle.parquet_scan.specs.Causes.{begins_below}
-use Rattle.parquet_scan.specs.Cells.{dictionary_by_locations, first_location, is_null_type, rows_of, walked_dictionary, walked_pages}
+use Rattle.parquet_scan.specs.Cells.{dictionary_by_locations, first_location, is_null_type, rows_of_placed, walked_dictionary, walked_pages}
 use Rattle.parquet_scan.specs.Pages.{location_rows, locations}
 use Rattle.parquet_scan.specs.Request.{Request}
 use Rattle.parquet_scan.specs.Rows.{File, column_named, group_counts, groups_of, groups_read, prunes_pages}
@@ -30,7 +30,7 @@ holds_any rows run = list_any (holds run) rows
 
 -- The data pages of a chunk that are walked over: those that hold one of the rows, and those without rows.
 abbrev pub is_walked : List ℕ → PlacedPage → Bool
-is_walked rows page = header_values page.page.header == 0 || holds_any rows (rows_of page)
+is_walked rows page = header_values page.page.header == 0 || holds_any rows (rows_of_placed page)
 
 abbrev pub pages_walked : List ℕ → RowGroupMetaData → List ℕ → ColumnChunkMetaData → List PlacedPage
 pages_walked bytes group rows column = filter (is_walked rows) (walked_pages bytes group column)
@@ -98,15 +98,15 @@ most_pages request file = sum_by (most_of_group (prunes_pages request (groups_of
 
 -- ---- how many bytes of indexes
 
-abbrev pub column_index_of : RowGroupMetaData → Bound → ℕ
-column_index_of group bound = option_map_or column_index_length (column_named group bound.field) 0
+abbrev pub index_bytes_of : RowGroupMetaData → Bound → ℕ
+index_bytes_of group bound = option_map_or column_index_length (column_named group bound.field) 0
 
-abbrev pub offset_index_of : RowGroupMetaData → Field → ℕ
-offset_index_of group field = option_map_or offset_index_length (column_named group field.name) 0
+abbrev pub location_bytes_of : RowGroupMetaData → Field → ℕ
+location_bytes_of group field = option_map_or offset_index_length (column_named group field.name) 0
 
 -- of a group that counts the column indexes of bounded fields, and twice the offset indexes of requested fields
 abbrev pub index_bytes : Request → RowGroupMetaData → ℕ
-index_bytes request group = sum_by (column_index_of group) request.bounds + 2 * sum_by (offset_index_of group) request.fields
+index_bytes request group = sum_by (index_bytes_of group) request.bounds + 2 * sum_by (location_bytes_of group) request.fields
 
 -- ---- how many bytes of chunks
 

@@ -12,13 +12,13 @@ use Rattle.parquet_base.specs.Intervals.{is_well_shaped, maximal_runs, row_count
 use Rattle.parquet_base.specs.Pieces.{cut}
 use Rattle.parquet_meta.specs.declared.metadata.Ends.{Ends}
 use Rattle.parquet_meta.specs.declared.metadata.RowGroupMetaData.{RowGroupMetaData}
-use Rattle.column_ends.specs.Counted.{counted, fit}
+use Rattle.column_ends.specs.Counted.{with_one_more, fit}
 use Rattle.parquet_scan.specs.declared.bound.Bound.{Bound}
 use Rattle.parquet_scan.specs.declared.scanning.GroupKept.{GroupKept}
 use Rattle.parquet_scan.specs.Causes.{causes_of_group, index_causes_of_group}
-use Rattle.parquet_scan.specs.Cells.{columns_of, given_chunk}
-use Rattle.parquet_scan.specs.Costs.{column_index_of, lent_of_group, offset_index_of, taken_of_column}
-use Rattle.parquet_scan.specs.Request.{bound_type, field_of}
+use Rattle.parquet_scan.specs.Cells.{columns_of_chunk, given_chunk}
+use Rattle.parquet_scan.specs.Costs.{index_bytes_of, lent_of_group, location_bytes_of, taken_of_column}
+use Rattle.parquet_scan.specs.Request.{bound_type, bounded_field}
 use Rattle.parquet_scan.specs.Rows.{first_rows, group_keeps, has_column_index, has_offset_index, pages_keep}
 
 -- a group counts where it did by the bounds so far, and one more keeps it
@@ -28,11 +28,11 @@ counts_by fields bound group = group.1 && group_keeps fields group.0 bound
 -- the bytes of low and of high ends, with those of one more group, if its column is there
 abbrev pub with_ends : ℕ × ℕ → Option (Ends Cell) → ℕ × ℕ
 with_ends bytes None = bytes
-with_ends bytes (Some ends) = counted bytes ends.min_value ends.max_value
+with_ends bytes (Some ends) = with_one_more bytes ends.min_value ends.max_value
 
 -- what is wrong with so many bytes of a bound's ends
 abbrev pub causes_of_bytes : ℕ × ℕ → List Field → Bound → List Cause
-causes_of_bytes bytes fields bound = option_map_or (λ (field : Field). unless (fit (bound_type field) bytes) Overflow) (field_of fields bound) []
+causes_of_bytes bytes fields bound = option_map_or (λ (field : Field). unless (fit (bound_type field) bytes) Overflow) (bounded_field fields bound) []
 
 abbrev pub has_indexes_for : List Bound → List Field → RowGroupMetaData → Bool
 has_indexes_for bounds fields group =
@@ -69,11 +69,11 @@ abbrev pub given_of_groups : Option ℕ → List GroupKept → List (List ℕ)
 given_of_groups limit kept = first_rows limit (map (λ (group : GroupKept). rows_of group.intervals) kept)
 
 -- the runs lie in their group
-abbrev pub is_shaped : RowGroupMetaData × List Interval → Bool
-is_shaped group = is_well_shaped group.1 (group.0).num_rows
+abbrev pub lies_in_group : RowGroupMetaData × List Interval → Bool
+lies_in_group group = is_well_shaped group.1 (group.0).num_rows
 
-abbrev pub are_shaped : List RowGroupMetaData → List (List Interval) → Bool
-are_shaped groups given = list_all is_shaped (zip groups given)
+abbrev pub lie_in_groups : List RowGroupMetaData → List (List Interval) → Bool
+lie_in_groups groups given = list_all lies_in_group (zip groups given)
 
 -- Where rows are not pruned by pages, those that are given are the first of their group.
 abbrev pub AreFirst : Bool → List Interval → Type 0
@@ -81,12 +81,12 @@ AreFirst true runs = Unit {0}
 AreFirst false runs = rows_of runs ≡ range_with_len 0 (row_count runs)
 
 -- a group that gives a row is read
-abbrev pub is_read : RowGroupMetaData × List Interval → Bool
-is_read group = nat_lt 0 (length group.1)
+abbrev pub gives_a_row : RowGroupMetaData × List Interval → Bool
+gives_a_row group = nat_lt 0 (length group.1)
 
 -- what is wrong with a group, if it is read
 abbrev pub causes_if_read : Bool → Option ℕ → List Field → List ℕ → RowGroupMetaData × List Interval → List Cause
-causes_if_read by_pages size fields bytes group = if is_read group then causes_of_group by_pages size fields bytes (group.0, rows_of group.1) else []
+causes_if_read by_pages size fields bytes group = if gives_a_row group then causes_of_group by_pages size fields bytes (group.0, rows_of group.1) else []
 
 abbrev pub causes_of_groups : Bool → Option ℕ → List Field → List ℕ → List RowGroupMetaData → List (List Interval) → List Cause
 causes_of_groups by_pages size fields bytes groups given = flat_map (causes_if_read by_pages size fields bytes) (zip groups given)
@@ -104,7 +104,7 @@ rows_of_groups given = sum_by row_count given
 
 -- the pages that are lent of a group, if it is read
 abbrev pub lent_if_read : Bool → List Field → List ℕ → RowGroupMetaData × List Interval → ℕ
-lent_if_read by_pages fields bytes group = if is_read group then lent_of_group by_pages fields bytes (group.0, rows_of group.1) else 0
+lent_if_read by_pages fields bytes group = if gives_a_row group then lent_of_group by_pages fields bytes (group.0, rows_of group.1) else 0
 
 abbrev pub lent_of_groups : Bool → List Field → List ℕ → List RowGroupMetaData → List (List Interval) → ℕ
 lent_of_groups by_pages fields bytes groups given = sum_by (lent_if_read by_pages fields bytes) (zip groups given)
@@ -114,21 +114,21 @@ lent_of_groups by_pages fields bytes groups given = sum_by (lent_if_read by_page
 -- the indexes of a group, if they are read
 abbrev pub indexes_taken : Bool → List Field → List Bound → RowGroupMetaData × Bool → ℕ
 indexes_taken by_pages fields bounds group =
-    if by_pages && group.1 then sum_by (offset_index_of group.0) fields + sum_by (column_index_of group.0) bounds else 0
+    if by_pages && group.1 then sum_by (location_bytes_of group.0) fields + sum_by (index_bytes_of group.0) bounds else 0
 
 abbrev pub indexes_taken_of_groups : Bool → List Field → List Bound → List RowGroupMetaData → List Bool → ℕ
 indexes_taken_of_groups by_pages fields bounds groups counts = sum_by (indexes_taken by_pages fields bounds) (zip groups counts)
 
 -- a column that is read, and before it its offset index where rows are pruned by pages
 abbrev pub column_taken : Bool → List ℕ → RowGroupMetaData → List ℕ → Field → ℕ
-column_taken by_pages bytes group rows field = (if by_pages then offset_index_of group field else 0) + taken_of_column by_pages bytes group rows field
+column_taken by_pages bytes group rows field = (if by_pages then location_bytes_of group field else 0) + taken_of_column by_pages bytes group rows field
 
 abbrev pub columns_taken : Bool → List Field → List ℕ → RowGroupMetaData × List ℕ → ℕ
 columns_taken by_pages fields bytes read = sum_by (column_taken by_pages bytes read.0 read.1) fields
 
 -- the columns of a group, if it is read
 abbrev pub taken_if_read : Bool → List Field → List ℕ → RowGroupMetaData × List Interval → ℕ
-taken_if_read by_pages fields bytes group = if is_read group then columns_taken by_pages fields bytes (group.0, rows_of group.1) else 0
+taken_if_read by_pages fields bytes group = if gives_a_row group then columns_taken by_pages fields bytes (group.0, rows_of group.1) else 0
 
 abbrev pub taken_of_groups : Bool → List Field → List ℕ → List RowGroupMetaData → List (List Interval) → ℕ
 taken_of_groups by_pages fields bytes groups given = sum_by (taken_if_read by_pages fields bytes) (zip groups given)
@@ -137,4 +137,4 @@ taken_of_groups by_pages fields bytes groups given = sum_by (taken_if_read by_pa
 
 -- chunks that were read, each as its columns
 abbrev pub shown : List (List Array) → List (Option (List (DataType × List Cell)))
-shown chunks = map (λ arrays. Some (columns_of arrays)) chunks
+shown chunks = map (λ arrays. Some (columns_of_chunk arrays)) chunks

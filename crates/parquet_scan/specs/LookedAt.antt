@@ -45,8 +45,8 @@ index_parts request file =
 -- ---- chunks whose pages are walked over
 
 -- the front of a part
-abbrev pub front_of : Place → ℕ → Place
-front_of place size = record { offset = place.offset; length = size }
+abbrev pub front_of_part : Place → ℕ → Place
+front_of_part place size = record { offset = place.offset; length = size }
 
 -- The dictionary of a chunk and the pages that are opened for so many rows; where no page stands at a place that is to be opened, all of the chunk.
 abbrev pub walked_length : ℕ → ℕ → List ℕ → ℕ
@@ -56,13 +56,13 @@ walked_length (suc more) num_values chunk =
     if nat_le (suc more) (rows_held pages) then dictionary_size chunk + sum_by (λ (placed : PlacedPage). placed.page.size) (filter (begins_below (suc more)) pages) else length chunk
 
 abbrev pub walked_parts : List ℕ → List ℕ → ColumnChunkMetaData → Place → List Place
-walked_parts bytes rows column chunk = front_of chunk (walked_length (length rows) column.num_values (bytes_at bytes chunk)) ∷ []
+walked_parts bytes rows column chunk = front_of_part chunk (walked_length (length rows) column.num_values (bytes_at bytes chunk)) ∷ []
 
 -- ---- chunks whose pages are located
 
 -- the part that a location names, as far as it lies in the chunk
 abbrev pub part_in_chunk : Place → PageLocation → Place
-part_in_chunk chunk location = option_map_or (within chunk) (part_of location) (front_of chunk 0)
+part_in_chunk chunk location = option_map_or (within chunk) (part_of location) (front_of_part chunk 0)
 
 -- the dictionary page that begins a part and, where none is defined, all of the part
 abbrev pub dictionary_length : List ℕ → ℕ
@@ -70,22 +70,22 @@ dictionary_length part = option_map_or (λ (read : DictionaryPage × List ℕ). 
 
 -- in the part of a chunk before the first page, as far as it lies in the chunk
 abbrev pub dictionary_part : List ℕ → Place → Option ℕ → Place
-dictionary_part bytes chunk first = front_of chunk (option_map_or (λ size. dictionary_length (take size (bytes_at bytes chunk))) first 0)
+dictionary_part bytes chunk first = front_of_part chunk (option_map_or (λ size. dictionary_length (take size (bytes_at bytes chunk))) first 0)
 
 -- Where a page is opened, so is the dictionary.
 abbrev pub with_dictionary : Place → List Place → List Place
 with_dictionary before [] = []
 with_dictionary before (part ∷ parts) = before ∷ part ∷ parts
 
-abbrev pub located_parts : List ℕ → RowGroupMetaData → List ℕ → ColumnChunkMetaData → Place → List Place
-located_parts bytes group rows column chunk =
+abbrev pub parts_by_locations : List ℕ → RowGroupMetaData → List ℕ → ColumnChunkMetaData → Place → List Place
+parts_by_locations bytes group rows column chunk =
     with_dictionary (dictionary_part bytes chunk (first_location chunk.offset (locations bytes column))) (map (part_in_chunk chunk) (opened_locations bytes group rows column))
 
 -- ---- groups that are read
 
 abbrev pub chunk_parts : Bool → List ℕ → RowGroupMetaData → List ℕ → ColumnChunkMetaData → List Place
 chunk_parts by_pages bytes group rows column =
-    option_map_or (λ chunk. if by_pages then located_parts bytes group rows column chunk else walked_parts bytes rows column chunk) (chunk_of bytes group column) []
+    option_map_or (λ chunk. if by_pages then parts_by_locations bytes group rows column chunk else walked_parts bytes rows column chunk) (chunk_of bytes group column) []
 
 -- Of a column that is read as nulls only the place of its chunk counts.
 abbrev pub column_parts : Bool → List ℕ → RowGroupMetaData → List ℕ → Field → List Place

@@ -20,21 +20,21 @@ pub record Request : Type 0 where
 
 -- ---- names
 
-abbrev pub is_first : List ℕ → List (List ℕ) → Bool
-is_first name [] = false
-is_first name (first ∷ rest) = bytes_eq name first
+abbrev pub begins_a_path : List ℕ → List (List ℕ) → Bool
+begins_a_path name [] = false
+begins_a_path name (first ∷ rest) = bytes_eq name first
 
 -- a name begins the path of a column
 abbrev pub begins : List ℕ → ColumnDescriptor → Bool
-begins name column = is_first name column.path_in_schema
+begins name column = begins_a_path name column.path_in_schema
 
 -- no name comes twice
 abbrev pub are_distinct : {X : Type 0} → (X → List ℕ) → List X → Bool
 are_distinct name [] = true
 are_distinct name (x ∷ xs) = not (list_any (λ y. bytes_eq (name x) (name y)) xs) && are_distinct name xs
 
-abbrev pub name_of : Field → List ℕ
-name_of field = field.name
+abbrev pub name_of_field : Field → List ℕ
+name_of_field field = field.name
 
 abbrev pub bounded_name : Bound → List ℕ
 bounded_name bound = bound.field
@@ -58,12 +58,12 @@ abbrev pub are_values_of : DataType → Bound → Bool
 are_values_of data_type bound = is_ordered data_type && option_map_or (is_value_of data_type) bound.low true && option_map_or (is_value_of data_type) bound.high true
 
 -- the first field that a bound names
-abbrev pub field_of : List Field → Bound → Option Field
-field_of fields bound = find (λ (field : Field). bytes_eq bound.field field.name) fields
+abbrev pub bounded_field : List Field → Bound → Option Field
+bounded_field fields bound = find (λ (field : Field). bytes_eq bound.field field.name) fields
 
 -- The bound's field is requested, and its values are of the field's type.
 abbrev pub is_legal_bound_of : List Field → Bound → Bool
-is_legal_bound_of fields bound = option_map_or (λ (field : Field). are_values_of (bound_type field) bound) (field_of fields bound) false
+is_legal_bound_of fields bound = option_map_or (λ (field : Field). are_values_of (bound_type field) bound) (bounded_field fields bound) false
 
 -- Where a file has no metadata, what is said of its columns counts as met.
 abbrev pub names_columns : Request → Option FileMetaData → Bool
@@ -74,6 +74,6 @@ names_columns request (Some metadata) = list_all (λ (field : Field). list_any (
 -- bound for a field, with values of its type.
 abbrev pub is_legal : Request → Option FileMetaData → Bool
 is_legal request metadata =
-    nat_lt 0 (length request.fields) && names_columns request metadata && are_distinct name_of request.fields
+    nat_lt 0 (length request.fields) && names_columns request metadata && are_distinct name_of_field request.fields
     && option_map_or (nat_lt 0) request.chunk_size true
     && list_all (is_legal_bound_of request.fields) request.bounds && are_distinct bounded_name request.bounds

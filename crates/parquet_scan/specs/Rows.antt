@@ -14,7 +14,7 @@ use Rattle.parquet_meta.specs.declared.metadata.PageLocation.{PageLocation}
 use Rattle.parquet_meta.specs.declared.metadata.RowGroupMetaData.{RowGroupMetaData}
 use Rattle.parquet_scan.specs.declared.bound.Bound.{Bound}
 use Rattle.parquet_scan.specs.Bound.{ends_keep}
-use Rattle.parquet_scan.specs.Request.{Request, begins, bound_type, field_of}
+use Rattle.parquet_scan.specs.Request.{Request, begins, bound_type, bounded_field}
 use Rattle.parquet_scan.specs.Pages.{locations, row_keeps}
 use Rattle.parquet_scan.specs.Statistics.{group_ends}
 
@@ -59,7 +59,7 @@ field_locations bytes group name = option_map_or (locations bytes) (column_named
 -- the type of a bound's values, which is that of its field, and the field's column in a group
 abbrev pub bounded_column : List Field → RowGroupMetaData → Bound → Option (DataType × ColumnChunkMetaData)
 bounded_column fields group bound = do
-  field ← field_of fields bound
+  field ← bounded_field fields bound
   column ← column_named group bound.field
   Some (bound_type field, column)
 
@@ -130,5 +130,5 @@ abbrev pub groups_read : Request → File → List (RowGroupMetaData × List ℕ
 groups_read request file = filter gives_rows (given_groups request file)
 
 -- how many rows a scan gives
-abbrev pub given_count : Request → File → ℕ
-given_count request file = sum_by length (given_rows request file)
+abbrev pub given_row_count : Request → File → ℕ
+given_row_count request file = sum_by length (given_rows request file)

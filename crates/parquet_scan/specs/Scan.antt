@@ -16,9 +16,9 @@ use Rattle.parquet_scan.specs.declared.bound.Bound.{Bound}
 use Rattle.parquet_scan.specs.declared.scanning.GroupKept.{GroupKept}
 use Rattle.parquet_scan.specs.declared.scanning.Scan.{Scan}
 use Rattle.parquet_scan.specs.Causes.{IsValid, causes}
-use Rattle.parquet_scan.specs.Cells.{columns_of, file_chunks, given_chunks}
+use Rattle.parquet_scan.specs.Cells.{columns_of_chunk, file_chunks, given_chunks}
 use Rattle.parquet_scan.specs.Request.{Request, is_legal}
-use Rattle.parquet_scan.specs.Rows.{File, file_of, given_count, groups_of, intervals}
+use Rattle.parquet_scan.specs.Rows.{File, file_of, given_row_count, groups_of, intervals}
 use Rattle.parquet_scan.specs.Truth.{HasTrueCountsAndLocations, HasTrueStatistics, MeetsAll}
 
 abbrev pub request_of : Schema → List Bound → Option ℕ → Option ℕ → Request
@@ -79,10 +79,10 @@ pub record Answers (request : Request) (told : Option (List ℕ)) (scan : Scan) 
   -- For each group it has the runs of the rows that are kept, whatever the limit,
   pub kept : OnFile told (λ file. map kept_of scan.kept ≡ kept_groups request file)
   -- and in its chunks the given rows: where counts and locations are true, each cell as it stands in the chunk's own order.
-  pub chunks : OnFile told (λ file. given_chunks request file ≡ Some (map columns_of scan.chunks))
+  pub chunks : OnFile told (λ file. given_chunks request file ≡ Some (map columns_of_chunk scan.chunks))
   pub as_cells : OnFile told (λ file.
-      HasTrueCountsAndLocations request file → file_chunks request file ≡ Some (map columns_of scan.chunks))
-  pub rows : OnFile told (λ file. scan.rows ≡ given_count request file)
+      HasTrueCountsAndLocations request file → file_chunks request file ≡ Some (map columns_of_chunk scan.chunks))
+  pub rows : OnFile told (λ file. scan.rows ≡ given_row_count request file)
   -- Where the statistics of a group are true, none of its rows that meets all bounds lies outside its runs.
   pub sound : OnFile told (λ file. IsSound request file (map kept_of scan.kept))
   -- This holds even over a source that does not tell its bytes.
@@ -91,7 +91,7 @@ pub record Answers (request : Request) (told : Option (List ℕ)) (scan : Scan) 
   pub own_rows : scan.rows ≡ rows_in scan.chunks
 
 -- When a scan answers an error, with the count of the source's faults before and behind the call. Want of memory may come at any time.
-pub record Refuses (request : Request) (told : Option (List ℕ)) (before now : ℕ) (e : Error) : Type 0 where
+pub record RefusesScan (request : Request) (told : Option (List ℕ)) (before now : ℕ) (e : Error) : Type 0 where
   -- The arguments are refused only where the request is not legal,
   pub argument : IsTrue (is_invalid_argument e) → IfSome told (λ bytes. IsFalse (is_legal request (footer bytes)))
   -- what is wrong behind the footer is told of a legal request alone,

@@ -10,8 +10,8 @@ use Rattle.parquet_scan.specs.declared.bound.Scalar.{Scalar}
 use Rattle.parquet_scan.specs.Bound.{KnownEnds, value_of}
 
 -- What is not told is not known.
-abbrev pub unknown : KnownEnds
-unknown = record { low = None; high = None; nulls = None }
+abbrev pub no_ends_known : KnownEnds
+no_ends_known = record { low = None; high = None; nulls = None }
 
 abbrev pub known_value : Option Cell → Option Scalar
 known_value end = option_and_then value_of end
@@ -21,4 +21,4 @@ known_ends ends = record { low = known_value ends.min_value; high = known_value 
 
 -- the ends of a column in a group as values of a type; of statistics without a cause
 abbrev pub group_ends : DataType → ColumnChunkMetaData → KnownEnds
-group_ends data_type column = option_map_or known_ends (group_cells data_type column) unknown
+group_ends data_type column = option_map_or known_ends (group_cells data_type column) no_ends_known

@@ -16,7 +16,7 @@ use Rattle.parquet_scan.specs.declared.bound.Scalar.{Scalar}
 use Rattle.parquet_scan.specs.Bound.{KnownEnds, value_of, is_within, meets}
 use Rattle.parquet_scan.specs.Cells.{cell, chunk_of, walked_pages}
 use Rattle.parquet_scan.specs.Pages.{location_rows, locations, page_ends}
-use Rattle.parquet_scan.specs.Request.{Request, bound_type, field_of}
+use Rattle.parquet_scan.specs.Request.{Request, bound_type, bounded_field}
 use Rattle.parquet_scan.specs.Rows.{File, column_named, group_counts, groups_of, groups_read, kept, prunes_pages}
 use Rattle.parquet_scan.specs.Statistics.{group_ends}
 
@@ -63,12 +63,12 @@ pub record AreTrueCounts (bytes : List ℕ) (group : RowGroupMetaData) (column :
   pub all_values : sum_by (λ (placed : PlacedPage). header_values placed.page.header) (walked_pages bytes group column) ≡ column.num_values
 
 -- what a location says of a page, where the chunk begins at a place of the file
-abbrev pub location_of : ℕ → PlacedPage → PageLocation
-location_of chunk_start placed = record { offset = pos (chunk_start + placed.start); compressed_page_size = pos placed.page.size; first_row_index = pos placed.first_row }
+abbrev pub location_of_page : ℕ → PlacedPage → PageLocation
+location_of_page chunk_start placed = record { offset = pos (chunk_start + placed.start); compressed_page_size = pos placed.page.size; first_row_index = pos placed.first_row }
 
 -- there is a location for each data page, with its place, its whole length and its first row, and no other
 pub record AreTrueLocations (bytes : List ℕ) (group : RowGroupMetaData) (column : ColumnChunkMetaData) : Type 0 where
-  pub same : locations bytes column ≡ map (location_of (chunk_start column)) (walked_pages bytes group column)
+  pub same : locations bytes column ≡ map (location_of_page (chunk_start column)) (walked_pages bytes group column)
 
 -- ---- of what a scan looks at
 
@@ -84,7 +84,7 @@ pub record HasTrueCountsAndLocations (request : Request) (file : File) : Type 0 
 
 -- a fact about the field of a bound and its column in a group
 abbrev pub OnBound : (RowGroupMetaData → Field → ColumnChunkMetaData → Bool) → List Field → RowGroupMetaData → Bound → Type 0
-OnBound fact fields group bound = IfSome (field_of fields bound) (λ field. IfSome (column_named group field.name) (λ column. IsTrue (fact group field column)))
+OnBound fact fields group bound = IfSome (bounded_field fields bound) (λ field. IfSome (column_named group field.name) (λ column. IsTrue (fact group field column)))
 
 -- The statistics of bounded columns are true of a group and, where rows are pruned by pages and it counts, their column indexes are
 -- true of its pages.
@@ -97,7 +97,7 @@ pub record HasTrueStatistics (request : Request) (file : File) (group : RowGroup
 
 -- the cell of a bound's field meets it
 abbrev pub MeetsBound : List Field → List ℕ → RowGroupMetaData → ℕ → Bound → Type 0
-MeetsBound fields bytes group row bound = IsSomeAnd (option_and_then (λ field. cell bytes group field row) (field_of fields bound)) (λ item. IsTrue (meets bound item))
+MeetsBound fields bytes group row bound = IsSomeAnd (option_and_then (λ field. cell bytes group field row) (bounded_field fields bound)) (λ item. IsTrue (meets bound item))
 
 -- a row of a group meets every bound
 abbrev pub MeetsAll : Request → List ℕ → RowGroupMetaData → ℕ → Type 0

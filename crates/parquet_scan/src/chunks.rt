@@ -25,7 +25,8 @@ pub(crate) fn add_chunks(
 ) -> Result<(), Error>
     requires { All AreEqualLengths (side_by_side (map (λ column. column.items) columns.old)) }
     ensures chunks { OnOk result (
-        read.new.chunks.items ≡ read.old.chunks.items ++ side_by_side (map (λ column. column.items) columns.old)) }
+        read.new.chunks.items ≡ read.old.chunks.items
+        ++ side_by_side (map (λ column. column.items) columns.old)) }
     ensures rows { OnOk result (
         let given = side_by_side (map (λ column. column.items) columns.old) in
         read.new.rows ≡ min (read.old.rows + sum_by chunk_rows given) (2 ^ 64 - 1)) }

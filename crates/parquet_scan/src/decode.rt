@@ -42,7 +42,8 @@ pub(crate) fn decode_column<I: Pages, L: Ledger>(
         let rows = column_rows stored.now data_type.now (I.to_come pages) (I.causes pages) in
         map (λ array. map Given (cells array)) found.0.items ≡ cut chunk_size (take num_rows rows)) }
     ensures fits { IfOk result (λ found.
-        All (λ array. fits_most (most_bytes data_type.now) (sum_by cell_bytes (cells array)) ≡ true) found.0.items) }
+        All (λ array. fits_most (most_bytes data_type.now) (sum_by cell_bytes (cells array)) ≡ true)
+        found.0.items) }
     ensures cause { let rows = column_rows stored.now data_type.now (I.to_come pages) (I.causes pages) in
         IfErr result (IsCausedByChunks (most_bytes data_type.now) chunk_size (take num_rows rows)) }
     ensures later { steps.old ≤ steps.new }

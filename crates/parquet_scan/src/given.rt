@@ -41,7 +41,8 @@ fn given_of_group(
 ) -> Result<Vec<Interval>, Error>
     requires apart { IsApart group.now }
     ensures rows { IfOk result (λ given. (more : List (List ℕ)) →
-        first_rows left.old (rows_of group.now.intervals ∷ more) ≡ rows_of given.items ∷ first_rows left.new more) }
+        first_rows left.old (rows_of group.now.intervals ∷ more)
+        ≡ rows_of given.items ∷ first_rows left.new more) }
     ensures shaped { IfOk result (λ given. is_well_shaped given.items group.now.rows ≡ true) }
     ensures memory { IfErr result IsWantOfMemory }
 {

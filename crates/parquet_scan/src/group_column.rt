@@ -48,7 +48,8 @@ pub(crate) fn read_column<S: Source, L: Ledger>(
     ensures keeps { Keeps S.Source source.old source.new }
     ensures quiet { OnOk result (S.faults source.new ≡ S.faults source.old) }
     ensures ok { OnOk result (IfSome (S.told source.old) (λ bytes.
-        causes_of_read by_pages chunk_size bytes group.now (rows_of runs.now) data_type.now column.now ≡ [])) }
+        causes_of_read by_pages chunk_size bytes group.now (rows_of runs.now) data_type.now column.now
+        ≡ [])) }
     ensures fails { IfErr result (
         FailsBy (S.told source.old) (S.faults source.old) (S.faults source.new) (λ bytes.
         causes_of_read by_pages chunk_size bytes group.now (rows_of runs.now) data_type.now column.now)) }
@@ -57,7 +58,8 @@ pub(crate) fn read_column<S: Source, L: Ledger>(
         map (λ array. length (cells array)) found.0.items ≡ map length (cut chunk_size (rows_of runs.now))) }
     ensures cells { IfOk result (λ found. IfSome (S.told source.old) (λ bytes.
         map (λ array. map Some (cells array)) found.0.items
-        ≡ map (map (column_cell by_pages bytes group.now data_type.now column.now)) (cut chunk_size (rows_of runs.now)))) }
+        ≡ map (map (column_cell by_pages bytes group.now data_type.now column.now))
+        (cut chunk_size (rows_of runs.now)))) }
     ensures ticks { steps.old ≤ steps.new }
     ensures pages { IfOk result (λ found. found.1 ≡ min (steps.new - steps.old) (2 ^ 64 - 1)) }
     ensures lent { OnOk result (RisesJustBy (S.told source.old) steps.old steps.new (λ bytes.
@@ -110,7 +112,8 @@ fn read_first<S: Source, L: Ledger>(
         map (λ array. length (cells array)) found.0.items ≡ map length (cut chunk_size (rows_of runs.now))) }
     ensures cells { IfOk result (λ found. IfSome (S.told source.old) (λ bytes.
         map (λ array. map (λ cell. Some (Value cell)) (cells array)) found.0.items
-        ≡ map (map (walked_item bytes group.now data_type.now column.now)) (cut chunk_size (rows_of runs.now)))) }
+        ≡ map (map (walked_item bytes group.now data_type.now column.now))
+        (cut chunk_size (rows_of runs.now)))) }
     ensures ticks { steps.old ≤ steps.new }
     ensures pages { IfOk result (λ found. found.1 ≡ min (steps.new - steps.old) (2 ^ 64 - 1)) }
     ensures lent { OnOk result (RisesJustBy (S.told source.old) steps.old steps.new (λ bytes.
@@ -160,7 +163,8 @@ fn null_arrays(
 ) -> Result<VecDeque<Array>, Error>
     requires { IsChunkSize chunk_size }
     ensures nulls { IfOk result (λ arrays.
-        map column_of arrays.items ≡ map (λ nulls. (type.Null, nulls)) (cut chunk_size (replicate rows Null))) }
+        map column_of arrays.items ≡ map
+        (λ nulls. (type.Null, nulls)) (cut chunk_size (replicate rows Null))) }
     ensures memory { IfErr result IsWantOfMemory }
 {
     let mut arrays = VecDeque::new(alloc);

@@ -48,23 +48,27 @@ pub(crate) fn read_located<S: Source, L: Ledger>(
     ensures keeps { Keeps S.Source source.old source.new }
     ensures quiet { OnOk result (S.faults source.new ≡ S.faults source.old) }
     ensures ok { OnOk result (IfSome (S.told source.old) (λ bytes.
-        causes_of_chunk true chunk_size bytes group.now (rows_of intervals.now) data_type.now column.now ≡ [])) }
+        causes_of_chunk true chunk_size bytes group.now (rows_of intervals.now) data_type.now column.now
+        ≡ [])) }
     ensures fails { IfErr result (
         FailsBy (S.told source.old) (S.faults source.old) (S.faults source.new) (λ bytes.
         causes_of_chunk true chunk_size bytes group.now (rows_of intervals.now) data_type.now column.now)) }
     ensures typed { IfOk result (λ found. All (λ array. data_type_of array ≡ data_type.now) found.0.items) }
     ensures counts { IfOk result (λ found.
-        map (λ array. length (cells array)) found.0.items ≡ map length (cut chunk_size (rows_of intervals.now))) }
+        map (λ array. length (cells array)) found.0.items
+        ≡ map length (cut chunk_size (rows_of intervals.now))) }
     ensures cells { IfOk result (λ found. IfSome (S.told source.old) (λ bytes.
         map (λ array. map (λ cell. Some (Value cell)) (cells array)) found.0.items
-        ≡ map (map (located_item bytes group.now data_type.now column.now)) (cut chunk_size (rows_of intervals.now)))) }
+        ≡ map (map (located_item bytes group.now data_type.now column.now))
+        (cut chunk_size (rows_of intervals.now)))) }
     ensures ticks { steps.old ≤ steps.new }
     ensures pages { IfOk result (λ found. found.1 ≡ min (steps.new - steps.old) (2 ^ 64 - 1)) }
     ensures lent { OnOk result (RisesJustBy (S.told source.old) steps.old steps.new (λ bytes.
         lent_of_chunk true bytes group.now (rows_of intervals.now) column.now)) }
     ensures taken { OnOk result (
         RisesBy (S.told source.old) (S.taken source.old) (S.taken source.new) (λ bytes.
-        offset_index_length column.now + taken_of_chunk true bytes group.now (rows_of intervals.now) column.now)) }
+        offset_index_length column.now
+        + taken_of_chunk true bytes group.now (rows_of intervals.now) column.now)) }
 {
     let rows = count_of_rows(group, intervals);
     let chunk = place_of_chunk(source, group, column)?;
@@ -224,19 +228,23 @@ fn decode_located<L: Ledger>(
     ensures typed { IfOk result (λ found. All (λ array. data_type_of array ≡ data_type.now) found.0.items) }
     ensures chunks { IfOk result (λ found.
         let stored = column.now.descriptor.primitive_type in
-        let lent = located_parts stored (Some before.items) pages.items (map (λ body. body.items) bodies.items) in
+        let lent = located_parts stored (Some before.items) pages.items
+        (map (λ body. body.items) bodies.items) in
         map (λ array. map Given (cells array)) found.0.items
         ≡ cut chunk_size (take rows (column_rows stored data_type.now lent.pages lent.causes))) }
     ensures fits { IfOk result (λ found.
-        All (λ array. fits_most (most_bytes data_type.now) (sum_by cell_bytes (cells array)) ≡ true) found.0.items) }
+        All (λ array. fits_most (most_bytes data_type.now) (sum_by cell_bytes (cells array)) ≡ true)
+        found.0.items) }
     ensures cause { let stored = column.now.descriptor.primitive_type in
-        let lent = located_parts stored (Some before.items) pages.items (map (λ body. body.items) bodies.items) in
+        let lent = located_parts stored (Some before.items) pages.items
+        (map (λ body. body.items) bodies.items) in
         let wanted = take rows (column_rows stored data_type.now lent.pages lent.causes) in
         IfErr result (IsCausedByChunks (most_bytes data_type.now) chunk_size wanted) }
     ensures ticks { steps.old ≤ steps.new }
     ensures pages { IfOk result (λ found. found.1 ≡ min (steps.new - steps.old) (2 ^ 64 - 1)) }
     ensures lent { OnOk result (let stored = column.now.descriptor.primitive_type in
-        let lent = located_parts stored (Some before.items) pages.items (map (λ body. body.items) bodies.items) in
+        let lent = located_parts stored (Some before.items) pages.items
+        (map (λ body. body.items) bodies.items) in
         steps.new ≡ steps.old + length (pages_for stored data_type.now rows lent.pages)) }
 {
     let reader = IndexedPageReader::from_ranges(alloc, Some(before), bodies, column, pages)?;

@@ -6,7 +6,7 @@ ghost use Rattle.parquet_meta.specs.Indexes.{offset_index_length};
 ghost use Rattle.parquet_page.specs.Locations.{begin_with_row_0, has_shape, part_of};
 ghost use Rattle.parquet_meta.specs.Keeps.{Keeps};
 ghost use Rattle.parquet_scan.specs.Causes.{offset_causes_of_field};
-ghost use Rattle.parquet_scan.specs.Costs.{offset_index_of};
+ghost use Rattle.parquet_scan.specs.Costs.{location_bytes_of};
 ghost use Rattle.parquet_scan.specs.Pages.{locations as locations_by, locations_causes};
 ghost use Rattle.parquet_scan.specs.Rows.{field_locations};
 ghost use Rattle.parquet_scan.specs.Scan.{FailsBy};
@@ -42,7 +42,7 @@ pub(crate) fn read_all_locations<S: Source>(
     ensures shaped { IfOk result (λ lists.
         list_all (λ list. has_shape list.items group.now.num_rows) lists.items ≡ true) }
     ensures taken { OnOk result (S.taken source.new ≤ S.taken source.old
-        + sum_by (offset_index_of group.now) fields.now) }
+        + sum_by (location_bytes_of group.now) fields.now) }
 {
     let mut lists = Vec::new(alloc);
     for field in fields {
@@ -66,7 +66,7 @@ fn read_field_locations<S: Source>(
     ensures locations { IfOk result (λ list.
         IfSome (S.told source.old) (λ bytes. field_locations bytes group.now field.now.name ≡ list.items)) }
     ensures shaped { IfOk result (λ list. has_shape list.items group.now.num_rows ≡ true) }
-    ensures taken { S.taken source.new ≤ S.taken source.old + offset_index_of group.now field.now }
+    ensures taken { S.taken source.new ≤ S.taken source.old + location_bytes_of group.now field.now }
 {
     let Some(column) = column_named(group, &field.name) else {
         return Err(Error::ExternalFormat(Part::Group));
@@ -114,7 +114,8 @@ fn check_shape(alloc: Global, locations: &[PageLocation], num_rows: usize) -> Re
 
 fn are_shaped(rows: &[Interval], locations: &[PageLocation]) -> bool
     ensures { result
-        ≡ (begin_with_row_0 (Some rows.now) && list_all (λ location. is_some (part_of location)) locations.now) }
+        ≡ (begin_with_row_0 (Some rows.now)
+        && list_all (λ location. is_some (part_of location)) locations.now) }
 {
     begin_at_row_0(rows) && have_parts(locations)
 }

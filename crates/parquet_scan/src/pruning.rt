@@ -7,7 +7,7 @@ ghost use Rattle.parquet_page.specs.Locations.{has_shape};
 ghost use Rattle.parquet_meta.specs.Code.{not_negative};
 ghost use Rattle.parquet_meta.specs.Keeps.{Keeps};
 ghost use Rattle.parquet_scan.specs.Causes.{index_causes_of_bound, index_causes_of_group};
-ghost use Rattle.parquet_scan.specs.Costs.{column_index_of, offset_index_of};
+ghost use Rattle.parquet_scan.specs.Costs.{index_bytes_of, location_bytes_of};
 ghost use Rattle.parquet_scan.specs.Pages.{ends_of_page, keeps_row, page_keeps as page_keeps_by, rows_at};
 ghost use Rattle.parquet_scan.specs.Request.{is_legal_bound_of};
 ghost use Rattle.parquet_scan.specs.Rows.{bound_keeps, field_locations, pages_keep};
@@ -45,8 +45,8 @@ pub(crate) fn kept_by_pages<S: Source>(
         ≡ maximal_runs (pages_keep true fields.now bounds.now bytes group.now) group.now.num_rows)) }
     ensures apart { IfOk result (λ runs. AreApart 0 runs.items group.now.num_rows) }
     ensures taken { OnOk result (S.taken source.new
-        ≤ S.taken source.old + (sum_by (offset_index_of group.now) fields.now
-        + sum_by (column_index_of group.now) bounds.now)) }
+        ≤ S.taken source.old + (sum_by (location_bytes_of group.now) fields.now
+        + sum_by (index_bytes_of group.now) bounds.now)) }
 {
     let locations = read_all_locations(alloc, source, group, fields)?;
     let runs = read_all_runs(alloc, source, group, fields, bounds, &locations)?;
@@ -82,7 +82,7 @@ fn read_all_runs<S: Source>(
     ensures apart { IfOk result (λ lists.
         All (λ list. AreApart 0 list.items group.now.num_rows) lists.items) }
     ensures taken { OnOk result (S.taken source.new ≤ S.taken source.old
-        + sum_by (column_index_of group.now) bounds.now) }
+        + sum_by (index_bytes_of group.now) bounds.now) }
 {
     let mut lists = Vec::new(alloc);
     for bound in bounds {
@@ -115,7 +115,7 @@ fn read_runs<S: Source>(
         maximal_runs (λ row. bound_keeps fields.now bytes group.now row bound.now) group.now.num_rows
         ≡ runs.items)) }
     ensures apart { IfOk result (λ runs. AreApart 0 runs.items group.now.num_rows) }
-    ensures taken { S.taken source.new ≤ S.taken source.old + column_index_of group.now bound.now }
+    ensures taken { S.taken source.new ≤ S.taken source.old + index_bytes_of group.now bound.now }
 {
     let Some((data_type, column)) = bounded_column(group, fields, bound) else {
         return Err(Error::ExternalFormat(Part::Group));

@@ -9,7 +9,7 @@ ghost use Rattle.parquet_meta.specs.Keeps.{Keeps};
 ghost use Rattle.parquet_scan.specs.Causes.{causes_of_column, causes_of_group};
 ghost use Rattle.parquet_scan.specs.Cells.{given_chunk, given_column};
 ghost use Rattle.parquet_scan.specs.Costs.{lent_of_column, lent_of_group};
-ghost use Rattle.parquet_scan.specs.Counting.{AreFirst, are_shaped, causes_if_read, causes_of_groups, chunks_if_read, chunks_of_groups, column_taken, columns_taken, is_shaped, lent_if_read, lent_of_groups, rows_of_groups, shown, taken_if_read, taken_of_groups};
+ghost use Rattle.parquet_scan.specs.Counting.{AreFirst, lie_in_groups, causes_if_read, causes_of_groups, chunks_if_read, chunks_of_groups, column_taken, columns_taken, lies_in_group, lent_if_read, lent_of_groups, rows_of_groups, shown, taken_if_read, taken_of_groups};
 ghost use Rattle.parquet_scan.specs.Scan.{FailsBy, RisesBy, RisesJustBy, rows_in};
 
 use crate::chunks::{RowsRead, add_chunks};
@@ -35,7 +35,7 @@ pub(crate) fn read_groups<S: Source, L: Ledger>(
     steps: &mut Steps<L>,
 ) -> Result<(), Error>
     requires lengths { length given.now ≡ length groups.now }
-    requires shaped { are_shaped groups.now given.now ≡ true }
+    requires shaped { lie_in_groups groups.now given.now ≡ true }
     requires first { All (AreFirst by_pages) given.now }
     requires size { IsChunkSize chunk_size }
     requires some { 0 < length fields.now }
@@ -47,7 +47,8 @@ pub(crate) fn read_groups<S: Source, L: Ledger>(
         FailsBy (S.told source.old) (S.faults source.old) (S.faults source.new) (λ bytes.
         causes_of_groups by_pages chunk_size fields.now bytes groups.now given.now)) }
     ensures chunks { OnOk result (IfSome (S.told source.old) (λ bytes. shown read.new.chunks.items
-        ≡ shown read.old.chunks.items ++ chunks_of_groups by_pages chunk_size fields.now bytes groups.now given.now)) }
+        ≡ shown read.old.chunks.items ++ chunks_of_groups by_pages chunk_size fields.now bytes groups.now
+        given.now)) }
     ensures rows { OnOk result (read.new.rows ≡ min (read.old.rows + rows_of_groups given.now) (2 ^ 64 - 1)) }
     ensures own_rows { read.old.rows ≡ rows_in read.old.chunks.items →
         OnOk result (read.new.rows ≡ rows_in read.new.chunks.items) }
@@ -84,7 +85,7 @@ fn read_if_given<S: Source, L: Ledger>(
     read: &mut RowsRead,
     steps: &mut Steps<L>,
 ) -> Result<(), Error>
-    requires shaped { is_shaped (group.now, runs.now) ≡ true }
+    requires shaped { lies_in_group (group.now, runs.now) ≡ true }
     requires first { AreFirst by_pages runs.now }
     requires size { IsChunkSize chunk_size }
     requires some { 0 < length fields.now }
@@ -96,7 +97,8 @@ fn read_if_given<S: Source, L: Ledger>(
         FailsBy (S.told source.old) (S.faults source.old) (S.faults source.new) (λ bytes.
         causes_if_read by_pages chunk_size fields.now bytes (group.now, runs.now))) }
     ensures chunks { OnOk result (IfSome (S.told source.old) (λ bytes. shown read.new.chunks.items
-        ≡ shown read.old.chunks.items ++ chunks_if_read by_pages chunk_size fields.now bytes (group.now, runs.now))) }
+        ≡ shown read.old.chunks.items ++ chunks_if_read by_pages chunk_size fields.now bytes
+        (group.now, runs.now))) }
     ensures rows { OnOk result (read.new.rows ≡ min (read.old.rows + row_count runs.now) (2 ^ 64 - 1)) }
     ensures own_rows { read.old.rows ≡ rows_in read.old.chunks.items →
         OnOk result (read.new.rows ≡ rows_in read.new.chunks.items) }
@@ -145,7 +147,8 @@ fn read_group<S: Source, L: Ledger>(
         FailsBy (S.told source.old) (S.faults source.old) (S.faults source.new) (λ bytes.
         causes_of_group by_pages chunk_size fields.now bytes (group.now, rows_of runs.now))) }
     ensures chunks { OnOk result (IfSome (S.told source.old) (λ bytes. shown read.new.chunks.items
-        ≡ shown read.old.chunks.items ++ map (given_chunk by_pages fields.now bytes group.now) (cut chunk_size (rows_of runs.now)))) }
+        ≡ shown read.old.chunks.items ++ map (given_chunk by_pages fields.now bytes group.now)
+        (cut chunk_size (rows_of runs.now)))) }
     ensures rows { OnOk result (read.new.rows ≡ min (read.old.rows + row_count runs.now) (2 ^ 64 - 1)) }
     ensures own_rows { read.old.rows ≡ rows_in read.old.chunks.items →
         OnOk result (read.new.rows ≡ rows_in read.new.chunks.items) }

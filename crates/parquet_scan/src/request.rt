@@ -58,7 +58,7 @@ pub(crate) fn begins(name: &Name, column: &ColumnDescriptor) -> bool
 }
 
 fn have_distinct_names(fields: &[Field]) -> bool
-    ensures { result ≡ spec.are_distinct spec.name_of fields.now }
+    ensures { result ≡ spec.are_distinct spec.name_of_field fields.now }
 {
     let mut rest = fields;
     while let Some((first, others)) = rest.split_first() {
@@ -127,7 +127,7 @@ fn are_values_of(bound: &Bound, data_type: &DataType) -> bool
 
 /// The first field that a bound names.
 pub(crate) fn field_of<'a>(bound: &Bound, fields: &'a [Field]) -> Option<&'a Field>
-    ensures { option_copied result ≡ spec.field_of fields.now bound.now }
+    ensures { option_copied result ≡ spec.bounded_field fields.now bound.now }
 {
     fields.iter().find(|field| bound.field == field.name)
 }

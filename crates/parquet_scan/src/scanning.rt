@@ -4,11 +4,11 @@ ghost use Rattle.columns_core.specs.Causes.{ComesOf, and_then};
 ghost use Rattle.columns_core.specs.Chunk.{AreEqualLengths};
 ghost use Rattle.parquet_meta.specs.Keeps.{Keeps};
 ghost use Rattle.parquet_scan.specs.Causes.{index_causes, metadata_causes, read_causes};
-ghost use Rattle.parquet_scan.specs.Cells.{columns_of, given_chunks};
+ghost use Rattle.parquet_scan.specs.Cells.{columns_of_chunk, given_chunks};
 ghost use Rattle.parquet_scan.specs.Costs.{bytes_behind_footer, most_bytes_taken, most_pages, pages_lent};
 ghost use Rattle.parquet_scan.specs.Request as spec;
-ghost use Rattle.parquet_scan.specs.Rows.{file_with, given_count, group_counts};
-ghost use Rattle.parquet_scan.specs.Scan.{Answers, FailsBy, IsApart, OnFile, Refuses, RisesBy, RisesJustBy, kept_groups as kept_groups_by, kept_of, request_of, rows_in};
+ghost use Rattle.parquet_scan.specs.Rows.{file_with, given_row_count, group_counts};
+ghost use Rattle.parquet_scan.specs.Scan.{Answers, FailsBy, IsApart, OnFile, RefusesScan, RisesBy, RisesJustBy, kept_groups as kept_groups_by, kept_of, request_of, rows_in};
 
 use crate::Bound;
 use crate::chunks::RowsRead;
@@ -61,14 +61,16 @@ pub fn scan_where<S: Source, L: Ledger>(
     ensures answers { let request = request_of schema.now bounds.now chunk_size limit in
         IfOk result (Answers request (S.told source.old)) }
     ensures refuses { let request = request_of schema.now bounds.now chunk_size limit in
-        IfErr result (Refuses request (S.told source.old) (S.faults source.old) (S.faults source.new)) }
+        IfErr result (RefusesScan request (S.told source.old) (S.faults source.old) (S.faults source.new)) }
     // What it costs: steps, one where a page is lent, and bytes.
     ensures ticks { steps.old ≤ steps.new }
     ensures pages { IfOk result (λ scan. scan.pages ≡ min (steps.new - steps.old) (2 ^ 64 - 1)) }
     ensures pages_lent { let request = request_of schema.now bounds.now chunk_size limit in
-        IfOk result (λ _. OnFile (S.told source.old) (λ file. steps.new ≡ steps.old + pages_lent request file)) }
+        IfOk result (λ _. OnFile (S.told source.old)
+        (λ file. steps.new ≡ steps.old + pages_lent request file)) }
     ensures most_pages { let request = request_of schema.now bounds.now chunk_size limit in
-        IfOk result (λ _. OnFile (S.told source.old) (λ file. steps.new ≤ steps.old + most_pages request file)) }
+        IfOk result (λ _. OnFile (S.told source.old)
+        (λ file. steps.new ≤ steps.old + most_pages request file)) }
     ensures taken { let request = request_of schema.now bounds.now chunk_size limit in
         IfOk result (λ _. OnFile (S.told source.old) (λ file.
         S.taken source.new ≤ S.taken source.old + most_bytes_taken request file)) }
@@ -126,16 +128,17 @@ fn scan_groups<S: Source, L: Ledger>(
         and_then (index_causes request file) (read_causes request file) ≡ [])) }
     ensures fails { let request = request_of schema.now bounds.now chunk_size limit in
         IfErr result (FailsBy (S.told source.old) (S.faults source.old) (S.faults source.new) (λ bytes.
-        let file = file_with bytes metadata.now in and_then (index_causes request file) (read_causes request file))) }
+        let file = file_with bytes metadata.now in
+        and_then (index_causes request file) (read_causes request file))) }
     ensures kept { let request = request_of schema.now bounds.now chunk_size limit in
         IfOk result (λ scan. IfSome (S.told source.old) (λ bytes.
         map kept_of scan.kept ≡ kept_groups_by request (file_with bytes metadata.now))) }
     ensures chunks { let request = request_of schema.now bounds.now chunk_size limit in
         IfOk result (λ scan. IfSome (S.told source.old) (λ bytes.
-        given_chunks request (file_with bytes metadata.now) ≡ Some (map columns_of scan.chunks))) }
+        given_chunks request (file_with bytes metadata.now) ≡ Some (map columns_of_chunk scan.chunks))) }
     ensures rows { let request = request_of schema.now bounds.now chunk_size limit in
         IfOk result (λ scan. IfSome (S.told source.old) (λ bytes.
-        scan.rows ≡ min (given_count request (file_with bytes metadata.now)) (2 ^ 64 - 1))) }
+        scan.rows ≡ min (given_row_count request (file_with bytes metadata.now)) (2 ^ 64 - 1))) }
     ensures apart { IfOk result (λ scan. All IsApart scan.kept) }
     ensures even { IfOk result (λ scan. All AreEqualLengths scan.chunks) }
     ensures own_rows { IfOk result (λ scan. scan.rows ≡ rows_in scan.chunks) }

@@ -51,7 +51,8 @@ impl<'a> Compact<'a> {
     #[inline(always)]
     #[tactic(auto, using(parquet_base::proofs::EndLemmas::IsEnd_through))]
     pub fn next_field(&mut self, previous: i16) -> Result<Option<FieldHeader>, Unspelled>
-        ensures { Reads (λ o. option_map (λ h. (h.id, h.kind)) o) (field_header previous) self.old result self.new }
+        ensures { Reads (λ o. option_map (λ h. (h.id, h.kind)) o)
+            (field_header previous) self.old result self.new }
     {
         let (header, rest) = field_header_at(self.rest, previous)?;
         self.rest = rest;

@@ -43,7 +43,8 @@ pub(crate) fn field_header_at(
     bytes: &[u8],
     previous: i16,
 ) -> Result<(Option<FieldHeader>, &[u8]), Unspelled>
-    ensures spelled { Gives (λ x. (option_map (λ h. (h.id, h.kind)) x.0, x.1.now)) result (field_header previous bytes.now) }
+    ensures spelled { Gives (λ x. (option_map (λ h. (h.id, h.kind)) x.0, x.1.now)) result
+        (field_header previous bytes.now) }
     ensures ends { IfOk result (λ x. IsEnd bytes.now x.1.now) }
     ensures takes { IfOk result (λ x. length x.1.now < length bytes.now) }
 {

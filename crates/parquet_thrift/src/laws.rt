@@ -30,5 +30,6 @@ pub fn bytes_spell_one_value()
 
 /// The test of a list's count refuses no list that is spelled.
 pub fn longer_lists_are_not_spelled()
-    ensures { (kind count : ℕ) (bytes : List ℕ) → length bytes < count → elements (value in_list kind) count bytes ≡ None }
+    ensures { (kind count : ℕ) (bytes : List ℕ) → length bytes < count
+        → elements (value in_list kind) count bytes ≡ None }
 {}

@@ -33,7 +33,9 @@ pub(crate) struct Next {
 #[inline(always)]
 #[tactic(auto, unfolding(crate::specs::Values::value_within))]
 fn begin(bytes: &[u8], in_list: bool, kind: u8) -> Result<(Option<Part>, &[u8]), Unspelled>
-    ensures begins { (limit : ℕ) → BeginsValue (λ x. (x.0, x.1.now)) result (after (value_within (suc limit) (context_of in_list) kind bytes.now)) limit }
+    ensures begins { (limit : ℕ) → BeginsValue
+        (λ x. (x.0, x.1.now)) result (after (value_within (suc limit) (context_of in_list) kind bytes.now))
+        limit }
     ensures ends { IfOk result (λ x. IsEnd bytes.now x.1.now) }
     ensures pays { IfOk result (λ x. PaysBegun in_list x.0 bytes.now x.1.now) }
 {
@@ -94,7 +96,8 @@ fn field_value(header: FieldHeader) -> Next
 /// The next field's value, or None at the end of the struct.
 #[tactic(auto, using(crate::proofs::SkipLemmas::next_field))]
 fn next_field(bytes: &[u8], previous: i16) -> Result<(Option<Next>, &[u8]), Unspelled>
-    ensures next { (limit : ℕ) → GivesNext (λ x. (x.0, x.1.now)) result (Part.Fields previous) bytes.now limit }
+    ensures next { (limit : ℕ) → GivesNext
+        (λ x. (x.0, x.1.now)) result (Part.Fields previous) bytes.now limit }
     ensures ends { IfOk result (λ x. IsEnd bytes.now x.1.now) }
     ensures pays { IfOk result (λ x. PaysNext (Part.Fields previous) x.0 bytes.now x.1.now) }
 {

@@ -3,17 +3,17 @@ use Rattle.std.specs.Prelude.{ℕ, List, codes}
 use Rattle.pq_common.specs.declared.status.Status.{Status}
 use Rattle.pq_common.specs.declared.status.Status.TheVariants.{Done, Words, Argument, NotCarried, Damaged, NotValid, Range, Reading, Writing, Memory}
 
-abbrev pub number_of : Status → ℕ
-number_of Done = 0
-number_of Words = 2
-number_of Argument = 3
-number_of NotCarried = 4
-number_of Damaged = 5
-number_of NotValid = 6
-number_of Range = 7
-number_of Reading = 8
-number_of Writing = 9
-number_of Memory = 10
+abbrev pub status_number : Status → ℕ
+status_number Done = 0
+status_number Words = 2
+status_number Argument = 3
+status_number NotCarried = 4
+status_number Damaged = 5
+status_number NotValid = 6
+status_number Range = 7
+status_number Reading = 8
+status_number Writing = 9
+status_number Memory = 10
 
 abbrev pub text_for : Status → List ℕ
 text_for Done = codes "ok"

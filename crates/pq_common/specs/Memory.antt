@@ -31,19 +31,19 @@ is_full_for memory piece = room memory == 0 && nat_lt 0 (length piece)
 
 -- A sink some of whose calls fail: how many calls there were, and the numbers of those that fail. The first
 -- call has the number 1.
-pub record Failing : Type 0 where
+pub record FailingCalls : Type 0 where
   pub memory : Memory
   pub calls : ℕ
   pub failing : List ℕ
 
 -- the next call is one that fails
-abbrev pub fails_next : Failing → Bool
+abbrev pub fails_next : FailingCalls → Bool
 fails_next sink = list_any (λ call. call == one_more sink.calls) sink.failing
 
 -- it fails, or there is no room
-abbrev pub refuses_next : Failing → List ℕ → Bool
+abbrev pub refuses_next : FailingCalls → List ℕ → Bool
 refuses_next sink piece = fails_next sink || is_full_for sink.memory piece
 
 -- the sink after one more call, which left the memory so
-abbrev pub after_call : Failing → Memory → Failing
+abbrev pub after_call : FailingCalls → Memory → FailingCalls
 after_call sink memory = record sink { memory = memory; calls = one_more sink.calls }

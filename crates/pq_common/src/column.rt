@@ -18,7 +18,8 @@ const BLOCK_BYTES: usize = 4096;
 
 /// Writes the lines of all rows at the end, a block at a time.
 pub fn push_lines(text: &mut Vec<u8>, array: &PrimitiveArray<i32>) -> Result<(), AllocError>
-    ensures { OnOk result (text.new.items ≡ text.old.items ++ lines_of (column_of (Array.Int32 array.now)) 0 (length array.now.items)) }
+    ensures { OnOk result (text.new.items
+        ≡ text.old.items ++ lines_of (column_of (Array.Int32 array.now)) 0 (length array.now.items)) }
 {
     let mut block = [0; BLOCK_BYTES];
     let mut row = 0;
@@ -50,7 +51,8 @@ fn write_line(block: &mut [u8], end: usize, array: &PrimitiveArray<i32>, row: us
     requires room { (12 ≤ end) × (end ≤ length block.old) }
     requires within { row < length array.now.items }
     ensures start { (result ≤ end) × (end ≤ result + 12) }
-    ensures written { drop result block.new ≡ line_of (column_of (Array.Int32 array.now)) row ++ drop end block.old }
+    ensures written { drop result block.new
+        ≡ line_of (column_of (Array.Int32 array.now)) row ++ drop end block.old }
 {
     block[end - 1] = b'\n';
     write_number(block, end - 1, array, row)
@@ -61,7 +63,8 @@ fn write_number(block: &mut [u8], end: usize, array: &PrimitiveArray<i32>, row: 
     requires room { (11 ≤ end) × (end ≤ length block.old) }
     requires within { row < length array.now.items }
     ensures start { (result ≤ end) × (end ≤ result + 11) }
-    ensures written { drop result block.new ≡ cell_at row (column_of (Array.Int32 array.now)) ++ drop end block.old }
+    ensures written { drop result block.new
+        ≡ cell_at row (column_of (Array.Int32 array.now)) ++ drop end block.old }
 {
     match array.get(row) {
         None => write_null(block, end),
@@ -85,7 +88,8 @@ pub(crate) fn push_number(
     array: &PrimitiveArray<i32>,
     row: usize,
 ) -> Result<(), AllocError>
-    ensures { OnOk result (text.new.items ≡ text.old.items ++ cell_at row (column_of (Array.Int32 array.now))) }
+    ensures { OnOk result (text.new.items
+        ≡ text.old.items ++ cell_at row (column_of (Array.Int32 array.now))) }
 {
     // A row behind the last has no cell.
     if row >= array.len() {

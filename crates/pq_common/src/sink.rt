@@ -141,9 +141,9 @@ pub struct FailingSink {
 }
 
 impl Model for FailingSink {
-    ghost use Rattle.pq_common.specs.Memory.{Failing};
+    ghost use Rattle.pq_common.specs.Memory.{FailingCalls};
 
-    ghost Value = { Failing };
+    ghost Value = { FailingCalls };
 
     ghost view = { λ sink. record {
       memory = sink.memory;

@@ -28,7 +28,7 @@ fn dictionary_type(alloc: Global, text: &str) -> Result<Option<DataType>, AllocE
 }
 
 fn dictionary_of(alloc: Global, argument: &str) -> Result<Option<DataType>, AllocError>
-    ensures { IfOk result (λ found. found ≡ spec.dictionary_of argument.now) }
+    ensures { IfOk result (λ found. found ≡ spec.spelled_dictionary argument.now) }
 {
     match keys_and_values(argument) {
         None => Ok(None),
@@ -131,7 +131,7 @@ fn integer_type(text: &str) -> Option<IntegerType>
 }
 
 fn time_unit(text: &str) -> Option<TimeUnit>
-    ensures { result ≡ spec.time_unit text.now }
+    ensures { result ≡ spec.spelled_unit text.now }
 {
     match text {
         "s" => Some(TimeUnit::Second),

@@ -13,7 +13,7 @@ use Rattle.parquet_meta.specs.declared.metadata.PrimitiveType.{PrimitiveType}
 use Rattle.parquet_page.specs.Chunk.{PlacedPage, placed_pages}
 use Rattle.flat_values.specs.Conversion.{Conversion, Value}
 use Rattle.column_ends.specs.Converted.{as_cell}
-use Rattle.parquet_scan.specs.Cells.{item_among, item_at, item_in, rows_of}
+use Rattle.parquet_scan.specs.Cells.{item_among, item_at, item_in, rows_of_placed}
 use Rattle.parquet_plain.specs.Description.{PlainPage, page_bytes}
 use Rattle.parquet_plain.specs.Found.{chunk_page}
 use Rattle.sample_laws.proofs.PageLaws.{Holds, IsReadBy, items-are, reading_of}
@@ -52,11 +52,11 @@ rows-are type data_type rule f start row (page ∷ pages) (own ∷ cells) read a
     let held : Holds type rule page own = all.0 in
     let placed : PlacedPage = record { start = start; first_row = row; page = chunk_page page } in
     let others : List PlacedPage = placed_pages (start + length (page_bytes page)) (row + page.rows) (map chunk_page pages) in
-    let by : Bool → ℕ → Option Cell = λ (b : Bool) (r : ℕ). option_and_then as_cell (option_and_then (item_in (reading_of type data_type) r) (cond b (Some placed) (find (λ (other : PlacedPage). holds (rows_of other) r) others))) in (
+    let by : Bool → ℕ → Option Cell = λ (b : Bool) (r : ℕ). option_and_then as_cell (option_and_then (item_in (reading_of type data_type) r) (cond b (Some placed) (find (λ (other : PlacedPage). holds (rows_of_placed other) r) others))) in (
       list-rows f row own (λ k lt.
-          same (row + k) (omega arith) ∙ ap (λ (b : Bool). by b (row + k)) (holds_inside (rows_of placed) (row + k) (omega arith) (omega (arith, lt, held.many))) ∙ own-row row k held),
+          same (row + k) (omega arith) ∙ ap (λ (b : Bool). by b (row + k)) (holds_inside (rows_of_placed placed) (row + k) (omega arith) (omega (arith, lt, held.many))) ∙ own-row row k held),
       subst (λ (n : ℕ). HaveCells f (row + n) cells) (sym held.many)
-          (rows-are type data_type rule f (start + length (page_bytes page)) (row + page.rows) pages cells read all.1 (λ r le. same r (omega (arith, le)) ∙ ap (λ (b : Bool). by b r) (holds_after (rows_of placed) r le))),
+          (rows-are type data_type rule f (start + length (page_bytes page)) (row + page.rows) pages cells read all.1 (λ r le. same r (omega (arith, le)) ∙ ap (λ (b : Bool). by b r) (holds_after (rows_of_placed placed) r le))),
     )
   where
     own-row : (first k : ℕ) → Holds type rule page own → option_and_then as_cell (item_at (reading_of type data_type) (first + k - first) (chunk_page page)) ≡ slice_get own k

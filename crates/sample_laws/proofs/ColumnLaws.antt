@@ -16,7 +16,7 @@ use Rattle.flat_values.specs.Conversion.{Conversion}
 use Rattle.parquet_scan.specs.Causes.{begins_below, causes_of_data, causes_of_walk, given_causes, rows_held, walked_causes}
 use Rattle.parquet_scan.specs.Cells.{chunk_of, walked_item, walked_pages, walked_reading}
 use Rattle.parquet_scan.specs.Pages.{locations}
-use Rattle.parquet_scan.specs.Truth.{AreTrueCounts, AreTrueLocations, location_of}
+use Rattle.parquet_scan.specs.Truth.{AreTrueCounts, AreTrueLocations, location_of_page}
 use Rattle.parquet_plain.specs.Description.{PlainPage, locations_from, page_bytes, rows_of_pages}
 use Rattle.parquet_plain.specs.Fits.{FitsPage}
 use Rattle.parquet_plain.specs.Found.{chunk_page}
@@ -49,7 +49,7 @@ module _ (bytes : List ℕ) (group : RowGroupMetaData) (column : ColumnChunkMeta
   pub true_locations : locations bytes column ≡ locations_from (chunk_start column) 0 pages → AreTrueLocations bytes group column
   true_locations told =
       let none : chunk_start column + 0 ≡ chunk_start column = omega arith in
-      record { same = told ∙ ap (λ (s : ℕ). locations_from s 0 pages) (sym none) ∙ sym (locations-true (chunk_start column) 0 0 pages) ∙ ap (map (location_of (chunk_start column))) (sym walked) }
+      record { same = told ∙ ap (λ (s : ℕ). locations_from s 0 pages) (sym none) ∙ sym (locations-true (chunk_start column) 0 0 pages) ∙ ap (map (location_of_page (chunk_start column))) (sym walked) }
 
   -- nothing is wrong with the pages that are opened for so many rows
   walk_causes : (data_type : DataType) (rule : Conversion) (cells : List (List Cell)) (count : ℕ) → IsReadBy type data_type rule → AllZip (Holds type rule) pages cells → count ≤ rows_of_pages pages

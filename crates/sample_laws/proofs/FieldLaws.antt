@@ -13,7 +13,7 @@ use Rattle.parquet_meta.specs.declared.metadata.Ends.{Ends}
 use Rattle.parquet_meta.specs.declared.metadata.RowGroupMetaData.{RowGroupMetaData}
 use Rattle.parquet_page.specs.Stored.{Stored}
 use Rattle.flat_values.specs.Conversion.{Conversion}
-use Rattle.column_ends.specs.Converted.{cell_ends, cell_page, end_bytes, group_causes, group_cells}
+use Rattle.column_ends.specs.Converted.{cell_ends, cell_page, bytes_of_one_end, group_causes, group_cells}
 use Rattle.parquet_scan.specs.declared.bound.Scalar.{Scalar}
 use Rattle.parquet_scan.specs.Causes.{causes_of_read}
 use Rattle.parquet_scan.specs.Cells.{cell}
@@ -46,8 +46,8 @@ pub record IsGood (bytes : List ℕ) (group : RowGroupMetaData) (field : Field) 
   pub statistics : group_causes (bound_type field) column ≡ []
   pub cells : Ends Cell
   pub told : group_cells (bound_type field) column ≡ Some cells
-  pub low_short : end_bytes cells.min_value ≤ most
-  pub high_short : end_bytes cells.max_value ≤ most
+  pub low_short : bytes_of_one_end cells.min_value ≤ most
+  pub high_short : bytes_of_one_end cells.max_value ≤ most
   pub index : column_index_causes (bound_type field) (length (locations bytes column)) bytes column ≡ []
   pub counts : AreTrueCounts bytes group column
   pub located : AreTrueLocations bytes group column

@@ -21,7 +21,7 @@ use Rattle.flat_values.specs.MostBytes.{most_bytes}
 use Rattle.flat_values.specs.Pairs.{conversion}
 use Rattle.column_ends.specs.Converted.{item_causes}
 use Rattle.parquet_scan.specs.Causes.{causes_of_data, item_bytes}
-use Rattle.parquet_scan.specs.Cells.{Reading, content_of, is_null_type, items_in, item_at, item_in, item_among, rows_of}
+use Rattle.parquet_scan.specs.Cells.{Reading, content_of, is_null_type, items_in, item_at, item_in, item_among, rows_of_placed}
 use Rattle.parquet_plain.specs.Description.{PlainPage, page_bytes}
 use Rattle.parquet_plain.specs.Found.{chunk_page}
 
@@ -85,7 +85,7 @@ pub light-among : (type : PrimitiveType) (data_type : DataType) (rule : Conversi
 light-among type data_type rule start row [] cells wanted read all = no-item
 light-among type data_type rule start row (page ∷ pages) [] wanted read all = absurd all
 light-among type data_type rule start row (page ∷ pages) (own ∷ cells) wanted read all =
-    by_test (find (λ (other : PlacedPage). holds (rows_of other) wanted) (placed_pages (start + length (page_bytes page)) (row + page.rows) (map chunk_page pages))) (holds (rows_of placed) wanted)
+    by_test (find (λ (other : PlacedPage). holds (rows_of_placed other) wanted) (placed_pages (start + length (page_bytes page)) (row + page.rows) (map chunk_page pages))) (holds (rows_of_placed placed) wanted)
     (light-at type data_type rule page own (wanted - row) read all.0)
     (light-among type data_type rule (start + length (page_bytes page)) (row + page.rows) pages cells wanted read all.1)
   where

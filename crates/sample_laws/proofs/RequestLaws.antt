@@ -19,10 +19,10 @@ use Rattle.parquet_meta.specs.declared.metadata.FileMetaData.{FileMetaData}
 use Rattle.parquet_meta.specs.declared.metadata.RowGroupMetaData.{RowGroupMetaData}
 use Rattle.page_decoding.specs.Bytes.{fits_most}
 use Rattle.flat_values.specs.MostBytes.{most_bytes}
-use Rattle.column_ends.specs.Converted.{end_bytes, high_of, low_of}
+use Rattle.column_ends.specs.Converted.{bytes_of_one_end, high_of, low_of}
 use Rattle.parquet_scan.specs.declared.bound.Bound.{Bound}
 use Rattle.parquet_scan.specs.Causes.{IsValid, array_causes_of_bound, bounded_causes_of_group, bounded_cells, causes_of_bound, causes_of_column, causes_of_group, field_causes, index_causes, index_causes_of_bound, index_causes_of_group, metadata_causes, offset_causes_of_field, read_causes}
-use Rattle.parquet_scan.specs.Request.{Request, are_values_of, bound_type, field_of, is_legal_bound_of}
+use Rattle.parquet_scan.specs.Request.{Request, are_values_of, bound_type, bounded_field, is_legal_bound_of}
 use Rattle.parquet_scan.specs.Rows.{File, bounded_column, file_with, first_rows, group_counts, groups_of, groups_read, kept, kept_rows, prunes_pages, gives_rows}
 use Rattle.parquet_scan.specs.Truth.{AreTrueCounts, AreTrueLocations, HasTrueCountsAndLocations, HasTrueStatistics, OnBound, OnField, has_true_index, has_true_statistics}
 use Rattle.parquet_scan.proofs.SoundLists.{find_holds, find_passes}
@@ -38,12 +38,12 @@ pub record IsGoodField (columns : List ColumnDescriptor) (field : Field) : Type 
 -- the field of a bound, which is one of the requested ones
 record IsFieldOf (fields : List Field) (bound : Bound) : Type 0 where
   field : Field
-  found : field_of fields bound ≡ Some field
+  found : bounded_field fields bound ≡ Some field
   name : bound.field ≡ field.name
 
 field-found : (fields : List Field) (bound : Bound) → is_legal_bound_of fields bound ≡ true → IsFieldOf fields bound
-field-found fields bound legal = by (field_of fields bound) refl where
-  by : (o : Option Field) → field_of fields bound ≡ o → IsFieldOf fields bound
+field-found fields bound legal = by (bounded_field fields bound) refl where
+  by : (o : Option Field) → bounded_field fields bound ≡ o → IsFieldOf fields bound
   by None e = absurd (false≢true (sym (ap (λ (o : Option Field). option_map_or (λ (field : Field). are_values_of (bound_type field) bound) o false) e) ∙ legal))
   by (Some field) e = record { field = field; found = e; name = (bytes_eq-Decides bound.field field.name).0 (find_passes (λ (f : Field). bytes_eq bound.field f.name) fields field e) }
 
@@ -105,27 +105,27 @@ module _ (request : Request) (bytes : List ℕ) (metadata : FileMetaData) (found
   no_group_causes bound is =
       All-weaker (λ group. All (IsGood bytes group) request.fields) (λ group. bounded_causes_of_group request.fields bound group ≡ []) (λ group all. let good = good-field bound is group all in rw (column-is bound is group good, good.statistics) refl) metadata.row_groups groups
 
-  lows-short : (bound : Bound) (is : IsFieldOf request.fields bound) (gs : List RowGroupMetaData) → All (λ group. All (IsGood bytes group) request.fields) gs → sum_by end_bytes (map low_of (filter_map (bounded_cells request.fields bound) gs)) ≤ most * length gs
+  lows-short : (bound : Bound) (is : IsFieldOf request.fields bound) (gs : List RowGroupMetaData) → All (λ group. All (IsGood bytes group) request.fields) gs → sum_by bytes_of_one_end (map low_of (filter_map (bounded_cells request.fields bound) gs)) ≤ most * length gs
   lows-short bound is [] all = omega arith
   lows-short bound is (group ∷ gs) all =
       let good = good-field bound is group (All-head (λ g. All (IsGood bytes g) request.fields) group gs all) in
       let others = lows-short bound is gs (All-tail (λ g. All (IsGood bytes g) request.fields) group gs all) in
       let cells : bounded_cells request.fields bound group ≡ Some good.cells = rw (column-is bound is group good) good.told in
-      rw cells (omega (arith, sum_by-cons end_bytes good.cells.min_value (map low_of (filter_map (bounded_cells request.fields bound) gs)), good.low_short, others))
+      rw cells (omega (arith, sum_by-cons bytes_of_one_end good.cells.min_value (map low_of (filter_map (bounded_cells request.fields bound) gs)), good.low_short, others))
 
-  highs-short : (bound : Bound) (is : IsFieldOf request.fields bound) (gs : List RowGroupMetaData) → All (λ group. All (IsGood bytes group) request.fields) gs → sum_by end_bytes (map high_of (filter_map (bounded_cells request.fields bound) gs)) ≤ most * length gs
+  highs-short : (bound : Bound) (is : IsFieldOf request.fields bound) (gs : List RowGroupMetaData) → All (λ group. All (IsGood bytes group) request.fields) gs → sum_by bytes_of_one_end (map high_of (filter_map (bounded_cells request.fields bound) gs)) ≤ most * length gs
   highs-short bound is [] all = omega arith
   highs-short bound is (group ∷ gs) all =
       let good = good-field bound is group (All-head (λ g. All (IsGood bytes g) request.fields) group gs all) in
       let others = highs-short bound is gs (All-tail (λ g. All (IsGood bytes g) request.fields) group gs all) in
       let cells : bounded_cells request.fields bound group ≡ Some good.cells = rw (column-is bound is group good) good.told in
-      rw cells (omega (arith, sum_by-cons end_bytes good.cells.max_value (map high_of (filter_map (bounded_cells request.fields bound) gs)), good.high_short, others))
+      rw cells (omega (arith, sum_by-cons bytes_of_one_end good.cells.max_value (map high_of (filter_map (bounded_cells request.fields bound) gs)), good.high_short, others))
 
   no_array_causes : (bound : Bound) (is : IsFieldOf request.fields bound) → array_causes_of_bound request.fields metadata.row_groups bound ≡ []
   no_array_causes bound is =
       let roomy = (field-holds (IsGoodField metadata.columns) request.fields bound is fields).roomy in
-      let lows = roomy (sum_by end_bytes (map low_of (filter_map (bounded_cells request.fields bound) metadata.row_groups))) (omega (arith, lows-short bound is metadata.row_groups groups, few)) in
-      let highs = roomy (sum_by end_bytes (map high_of (filter_map (bounded_cells request.fields bound) metadata.row_groups))) (omega (arith, highs-short bound is metadata.row_groups groups, few)) in
+      let lows = roomy (sum_by bytes_of_one_end (map low_of (filter_map (bounded_cells request.fields bound) metadata.row_groups))) (omega (arith, lows-short bound is metadata.row_groups groups, few)) in
+      let highs = roomy (sum_by bytes_of_one_end (map high_of (filter_map (bounded_cells request.fields bound) metadata.row_groups))) (omega (arith, highs-short bound is metadata.row_groups groups, few)) in
       rw (is.found, lows, highs) refl
 
   no_bound_causes : All (λ bound. causes_of_bound request.fields metadata.row_groups bound ≡ []) request.bounds

@@ -1,5 +1,6 @@
 //! Which pages of a sample file hold given rows. Pages of `id` have 1000 rows, those of `qty` 700.
-use columns_core::{DataType, Error, Field, Name, Seq};
+use columns_core::{DataType, Error, Field, Name, Part, Seq};
+use files_for_tests::F1;
 use parquet_base::Interval;
 use parquet_indexes::{compute_page_row_intervals, has_indexes, pages_of};
 use parquet_meta::{
@@ -7,6 +8,7 @@ use parquet_meta::{
 };
 use parquet_page::FilteredPage;
 use parquet_sample::sample_file;
+use std::alloc::Global;
 use std::test::Fail;
 
 pub(crate) fn field(rt: &HostRuntime, name: &str, data_type: DataType) -> Result<Field, Error> {
@@ -80,20 +82,21 @@ fn arguments_of_no_pages(rt: HostRuntime) -> Result<(), Fail> {
     Ok(())
 }
 
+/// The last group of a file.
+fn group_of(alloc: Global, file: Vec<u8>) -> Result<RowGroupMetaData, Error> {
+    let mut source = MemorySource::new(file);
+    let metadata = read_metadata(alloc, &mut source)?;
+    let last = metadata.row_groups.into_vec().pop();
+    last.ok_or(Error::InvalidArgumentError(Part::Request))
+}
+
 #[test]
 fn groups_with_indexes(rt: HostRuntime) -> Result<(), Fail> {
-    let Ok(file) = sample_file(rt.alloc(), 6, 0) else {
-        return Err(Fail::from("no file"));
-    };
-    let mut source = MemorySource::new(file);
-    let Ok(metadata) = read_metadata(rt.alloc(), &mut source) else {
-        return Err(Fail::from("no metadata"));
-    };
-    let mut groups = metadata.row_groups.into_vec();
-    let Some(group) = groups.pop() else {
-        return Err(Fail::from("no group"));
-    };
+    let group = group_of(rt.alloc(), sample_file(rt.alloc(), 6, 0)?)?;
     assert!(rt; has_indexes(&group));
+    // A file without indexes, and a group of which one column has none.
+    let plain = group_of(rt.alloc(), Vec::from_slice(rt.alloc(), &F1)?)?;
+    assert!(rt; !has_indexes(&plain));
     let mut columns = group.columns.into_vec();
     let Some(last) = columns.pop() else {
         return Err(Fail::from("no column"));

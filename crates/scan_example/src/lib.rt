@@ -5,8 +5,8 @@ ghost use Rattle.std.specs.Prelude.{◌≡◌, ◌+◌, None, IfErr, IfOk, IfSom
 ghost use Rattle.parquet_meta.specs.Keeps.{Keeps};
 ghost use Rattle.parquet_scan.specs.Causes.{IsValid};
 ghost use Rattle.parquet_scan.specs.Costs.{pages_lent};
-ghost use Rattle.parquet_scan.specs.Rows.{given_count};
-ghost use Rattle.parquet_scan.specs.Scan.{OnFile, Refuses, request_of};
+ghost use Rattle.parquet_scan.specs.Rows.{given_row_count};
+ghost use Rattle.parquet_scan.specs.Scan.{OnFile, RefusesScan, request_of};
 
 use columns_core::{Error, Schema};
 use parquet_base::Steps;
@@ -24,13 +24,14 @@ pub fn rows_left<S: Source, L: Ledger>(
     steps: &mut Steps<L>,
 ) -> Result<usize, Error>
     ensures counts { let request = request_of schema.now bounds.now None None in
-        IfOk result (λ rows. OnFile (S.told source.old) (λ file. rows ≡ given_count request file)) }
+        IfOk result (λ rows. OnFile (S.told source.old) (λ file. rows ≡ given_row_count request file)) }
     ensures valid { let request = request_of schema.now bounds.now None None in
         IfOk result (λ _. IfSome (S.told source.old) (IsValid request)) }
     ensures refuses { let request = request_of schema.now bounds.now None None in
-        IfErr result (Refuses request (S.told source.old) (S.faults source.old) (S.faults source.new)) }
+        IfErr result (RefusesScan request (S.told source.old) (S.faults source.old) (S.faults source.new)) }
     ensures pages_lent { let request = request_of schema.now bounds.now None None in
-        IfOk result (λ _. OnFile (S.told source.old) (λ file. steps.new ≡ steps.old + pages_lent request file)) }
+        IfOk result (λ _. OnFile (S.told source.old)
+        (λ file. steps.new ≡ steps.old + pages_lent request file)) }
     ensures keeps { Keeps S.Source source.old source.new }
 {
     let scan = scan_where(alloc, source, schema, bounds, None, None, steps)?;

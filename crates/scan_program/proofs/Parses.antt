@@ -14,7 +14,7 @@ use Rattle.clap.specs.Simple.{App, HasMatchesOf}
 use Rattle.clap.specs.Walk.{Row, Text, rows_of}
 use Rattle.clap.specs.declared.parser.matches.ArgMatches.{ArgMatches}
 use Rattle.scan_program.specs.Parsed.{IsSaid, written_command}
-use Rattle.scan_program.specs.Words.{command_of, spelled_command}
+use Rattle.scan_program.specs.Words.{command_of_words, spelled_command}
 use Rattle.scan_program.proofs.Lexed.{chunk, limit, program}
 use Rattle.scan_program.proofs.SaidCommand.{spelled_by, written_by}
 use Rattle.scan_program.proofs.SaidRows.{Agree, Holds, Reads, State, agree, finished_rows, reads, start, starts, steps}
@@ -27,12 +27,12 @@ are_utf8 (word ∷ words) = (IsUtf8-string_bytes word, are_utf8 words)
 
 -- the matches read a state whose command the words spell
 told_by : (words : List Text) (rows : List Row) (said : Option (List Part)) → leaves said [] ≡ Some rows
-    → (state : State) × (Reads (finished_rows rows) state × (option_and_then command_of (option_and_then words_of said) ≡ written_by state))
+    → (state : State) × (Reads (finished_rows rows) state × (option_and_then command_of_words (option_and_then words_of said) ≡ written_by state))
 told_by words rows None e = absurd (true≢false (sym (ap (λ o. is_some o) e)))
 told_by words rows (Some said) e = by (applied said []) (steps said start) (agree said [] start starts) e refl
   where
     by : (a : Option (List Row)) (b : Option State) → Agree a b → a ≡ Some rows → steps said start ≡ b
-        → (state : State) × (Reads (finished_rows rows) state × (option_and_then command_of (words_of said) ≡ written_by state))
+        → (state : State) × (Reads (finished_rows rows) state × (option_and_then command_of_words (words_of said) ≡ written_by state))
     by (Some found) (Some state) holds is same =
         let own = subst (λ found. Holds found state) (ap (λ o. unwrap_or o []) is) holds in
         (state, (reads rows state own, spelled_by said ∙ ap (option_and_then written_by) same))
@@ -40,8 +40,8 @@ told_by words rows (Some said) e = by (applied said []) (steps said start) (agre
     by None (Some state) holds is same = absurd holds
     by None None holds is same = absurd (true≢false (sym (ap (λ o. is_some o) is)))
 
-spelled : (file : Text) (words : List Text) → AreUtf8 words → spelled_command (file ∷ words) ≡ option_and_then command_of (option_and_then words_of (parts None words))
-spelled file words utf8 = ap (option_and_then command_of) (said words utf8)
+spelled : (file : Text) (words : List Text) → AreUtf8 words → spelled_command (file ∷ words) ≡ option_and_then command_of_words (option_and_then words_of (parts None words))
+spelled file words utf8 = ap (option_and_then command_of_words) (said words utf8)
 
 accepted : (file : Text) (words : List Text) (found : ArgMatches) → AreUtf8 words → fault_of program (file ∷ words) ≡ [] → HasMatchesOf program (file ∷ words) found
     → IsSaid (file ∷ words) found
@@ -61,7 +61,7 @@ accepted file words found utf8 none matches =
 refused : (file : Text) (words : List Text) → AreUtf8 words → (fault_of program (file ∷ words) ≡ [] → ⊥) → spelled_command (file ∷ words) ≡ None
 refused file words utf8 some = spelled file words utf8 ∙ by (parts None words) (refuses_words file words utf8 some)
   where
-    by : (said : Option (List Part)) → leaves said [] ≡ None → option_and_then command_of (option_and_then words_of said) ≡ None
+    by : (said : Option (List Part)) → leaves said [] ≡ None → option_and_then command_of_words (option_and_then words_of said) ≡ None
     by None e = refl
     by (Some said) e = spelled_by said ∙ ap (option_and_then written_by) (none (applied said []) (steps said start) (agree said [] start starts) e)
       where

@@ -7,7 +7,7 @@ use Rattle.std.proofs.lemmas.Bool.{eqb-true, not-false}
 use Rattle.std.proofs.lemmas.Slice.Eq.{bytes_eq-Decides}
 use Rattle.clap.proofs.WalkLemmas.{both}
 use Rattle.clap.specs.Walk.{Text}
-use Rattle.scan_program.specs.Words.{Asks, ChunkSize, Item, RowLimit, Summary, Word, all_items, begins_with_dash, item_of, joined, one_word, read_words, two_words}
+use Rattle.scan_program.specs.Words.{Asks, ChunkSize, SpelledItem, RowLimit, Summary, Word, all_items, begins_with_dash, item_of, put_in_front, one_word, read_words, two_words}
 use Rattle.scan_program.proofs.Lexed.{Kind, Looks, Unread, Which, assigned, chunk, dashes, flag, kind_of, lexed, limit, opens, plain, wrong}
 use Rattle.scan_program.proofs.Walked.{AreUtf8, Part, a_summary, an_item, an_option, next_parts, parts, value_parts}
 
@@ -19,7 +19,7 @@ word_of a_summary = Some Summary
 
 abbrev pub words_of : List Part → Option (List Word)
 words_of [] = Some []
-words_of (part ∷ said) = joined (word_of part) (words_of said)
+words_of (part ∷ said) = put_in_front (word_of part) (words_of said)
 
 -- ---- one word
 
@@ -119,19 +119,19 @@ lone word plain is = record { dash = is.0.dashes; one = plain_alone word is.0 is
 
 -- ---- words one after another
 
-pushed : (part : Part) (said : Option (List Part)) → option_and_then words_of (option_map (λ said. part ∷ said) said) ≡ joined (word_of part) (option_and_then words_of said)
+pushed : (part : Part) (said : Option (List Part)) → option_and_then words_of (option_map (λ said. part ∷ said) said) ≡ put_in_front (word_of part) (option_and_then words_of said)
 pushed part None = none (word_of part)
   where
-    none : (first : Option Word) → None ≡ joined first None
+    none : (first : Option Word) → None ≡ put_in_front first None
     none None = refl
     none (Some word) = refl
 pushed part (Some said) = refl
 
 items_said : (texts : List Text) → option_map (map Asks) (all_items texts) ≡ words_of (map an_item texts)
 items_said [] = refl
-items_said (text ∷ texts) = by (item_of text) (all_items texts) ∙ ap (joined (option_map Asks (item_of text))) (items_said texts)
+items_said (text ∷ texts) = by (item_of text) (all_items texts) ∙ ap (put_in_front (option_map Asks (item_of text))) (items_said texts)
   where
-    by : (first : Option Item) (rest : Option (List Item)) → option_map (map Asks) (joined first rest) ≡ joined (option_map Asks first) (option_map (map Asks) rest)
+    by : (first : Option SpelledItem) (rest : Option (List SpelledItem)) → option_map (map Asks) (put_in_front first rest) ≡ put_in_front (option_map Asks first) (option_map (map Asks) rest)
     by None None = refl
     by None (Some rest) = refl
     by (Some first) None = refl
@@ -143,23 +143,23 @@ no_value limit text e = ap (option_map RowLimit) e
 
 -- the words behind an option that waits, by whether the next one spells a number
 waited : (x : Which) (next : Text) (k : Kind) (said : Option (List Part)) → IsNoNumber k next
-    → joined (word_of (an_option x next)) (option_and_then words_of said) ≡ option_and_then words_of (value_parts k x next said)
+    → put_in_front (word_of (an_option x next)) (option_and_then words_of said) ≡ option_and_then words_of (value_parts k x next said)
 waited x next plain said h = sym (pushed (an_option x next) said)
-waited x next dashes said h = ap (λ first. joined first (option_and_then words_of said)) (no_value x next h)
-waited x next (assigned y value) said h = ap (λ first. joined first (option_and_then words_of said)) (no_value x next h)
-waited x next (opens y) said h = ap (λ first. joined first (option_and_then words_of said)) (no_value x next h)
-waited x next flag said h = ap (λ first. joined first (option_and_then words_of said)) (no_value x next h)
-waited x next wrong said h = ap (λ first. joined first (option_and_then words_of said)) (no_value x next h)
+waited x next dashes said h = ap (λ first. put_in_front first (option_and_then words_of said)) (no_value x next h)
+waited x next (assigned y value) said h = ap (λ first. put_in_front first (option_and_then words_of said)) (no_value x next h)
+waited x next (opens y) said h = ap (λ first. put_in_front first (option_and_then words_of said)) (no_value x next h)
+waited x next flag said h = ap (λ first. put_in_front first (option_and_then words_of said)) (no_value x next h)
+waited x next wrong said h = ap (λ first. put_in_front first (option_and_then words_of said)) (no_value x next h)
 
 -- a pair that is no option with its number leaves nothing to read
 unpaired : (first : Option Word) (behind : Option (List Word)) (more : Option (List Word)) → more ≡ None
-    → (if is_some first then joined first behind else more) ≡ joined first behind
+    → (if is_some first then put_in_front first behind else more) ≡ put_in_front first behind
 unpaired None behind more e = e
 unpaired (Some word) behind more e = refl
 
 abbrev read_by : Text → List Text → Option Word → Bool → Option Word → Option (List Word)
 read_by next rest pair dash one =
-    if is_some pair then joined pair (read_words rest) else if dash then option_map (map Asks) (all_items (next ∷ rest)) else joined one (read_words (next ∷ rest))
+    if is_some pair then put_in_front pair (read_words rest) else if dash then option_map (map Asks) (all_items (next ∷ rest)) else put_in_front one (read_words (next ∷ rest))
 
 pub said : (words : List Text) → AreUtf8 words → read_words words ≡ option_and_then words_of (parts None words)
 unfolding parts
@@ -167,12 +167,12 @@ said [] utf8 = refl
 said (word ∷ []) utf8 = by (kind_of word) (lone word (kind_of word) (lexed word utf8.0))
   where
     by : (k : Kind) → Lone word k → read_words (word ∷ []) ≡ option_and_then words_of (next_parts k word [] (Some []) (λ x. None))
-    by dashes l = ap (λ b. if b then Some [] else joined (one_word word) (Some [])) l.dash
-    by (assigned x value) l = (λ i. if l.dash i then Some [] else joined (l.one i) (Some [])) ∙ sym (pushed (an_option x value) (Some []))
-    by (opens x) l = (λ i. if l.dash i then Some [] else joined (l.one i) (Some []))
-    by flag l = (λ i. if l.dash i then Some [] else joined (l.one i) (Some []))
-    by wrong l = (λ i. if l.dash i then Some [] else joined (l.one i) (Some []))
-    by plain l = (λ i. if l.dash i then Some [] else joined (l.one i) (Some [])) ∙ sym (pushed (an_item word) (Some []))
+    by dashes l = ap (λ b. if b then Some [] else put_in_front (one_word word) (Some [])) l.dash
+    by (assigned x value) l = (λ i. if l.dash i then Some [] else put_in_front (l.one i) (Some [])) ∙ sym (pushed (an_option x value) (Some []))
+    by (opens x) l = (λ i. if l.dash i then Some [] else put_in_front (l.one i) (Some []))
+    by flag l = (λ i. if l.dash i then Some [] else put_in_front (l.one i) (Some []))
+    by wrong l = (λ i. if l.dash i then Some [] else put_in_front (l.one i) (Some []))
+    by plain l = (λ i. if l.dash i then Some [] else put_in_front (l.one i) (Some [])) ∙ sym (pushed (an_item word) (Some []))
 said (word ∷ next ∷ rest) utf8 =
     by (said (next ∷ rest) utf8.1) (said rest utf8.1.1) (kind_of word) (lone word (kind_of word) (lexed word utf8.0))
   where
@@ -180,11 +180,11 @@ said (word ∷ next ∷ rest) utf8 =
         → read_words (word ∷ next ∷ rest) ≡ option_and_then words_of (next_parts k word (next ∷ rest) (parts None (next ∷ rest)) (λ x. parts (Some x) (next ∷ rest)))
     by more behind dashes l = (λ i. read_by next rest (l.two next i) (l.dash i) (l.one i)) ∙ items_said (next ∷ rest)
     by more behind (assigned x value) l =
-        (λ i. read_by next rest (l.two next i) (l.dash i) (l.one i)) ∙ ap (joined (word_of (an_option x value))) more ∙ sym (pushed (an_option x value) (parts None (next ∷ rest)))
+        (λ i. read_by next rest (l.two next i) (l.dash i) (l.one i)) ∙ ap (put_in_front (word_of (an_option x value))) more ∙ sym (pushed (an_option x value) (parts None (next ∷ rest)))
     by more behind (opens x) l =
-        (λ i. read_by next rest (l.two next i) (l.dash i) (l.one i)) ∙ unpaired (word_of (an_option x next)) (read_words rest) (joined None (read_words (next ∷ rest))) refl
-        ∙ ap (joined (word_of (an_option x next))) behind ∙ waited x next (kind_of next) (parts None rest) (lone next (kind_of next) (lexed next utf8.1.0)).no_number
-    by more behind flag l = (λ i. read_by next rest (l.two next i) (l.dash i) (l.one i)) ∙ ap (joined (Some Summary)) more ∙ sym (pushed a_summary (parts None (next ∷ rest)))
+        (λ i. read_by next rest (l.two next i) (l.dash i) (l.one i)) ∙ unpaired (word_of (an_option x next)) (read_words rest) (put_in_front None (read_words (next ∷ rest))) refl
+        ∙ ap (put_in_front (word_of (an_option x next))) behind ∙ waited x next (kind_of next) (parts None rest) (lone next (kind_of next) (lexed next utf8.1.0)).no_number
+    by more behind flag l = (λ i. read_by next rest (l.two next i) (l.dash i) (l.one i)) ∙ ap (put_in_front (Some Summary)) more ∙ sym (pushed a_summary (parts None (next ∷ rest)))
     by more behind wrong l = (λ i. read_by next rest (l.two next i) (l.dash i) (l.one i))
     by more behind plain l =
-        (λ i. read_by next rest (l.two next i) (l.dash i) (l.one i)) ∙ ap (joined (word_of (an_item word))) more ∙ sym (pushed (an_item word) (parts None (next ∷ rest)))
+        (λ i. read_by next rest (l.two next i) (l.dash i) (l.one i)) ∙ ap (put_in_front (word_of (an_item word))) more ∙ sym (pushed (an_item word) (parts None (next ∷ rest)))

@@ -23,7 +23,7 @@ command_of asked = record {
 abbrev pub as_written : End → BoundEnd
 as_written end = record { name = end.name.now; is_low = end.is_low; value = end.value.now }
 
-abbrev pub as_item : Item → words.Item
+abbrev pub as_item : Item → words.SpelledItem
 as_item (read.Column field) = words.Column field
 as_item (read.End end) = words.End (as_written end)
 

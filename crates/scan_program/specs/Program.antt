@@ -4,10 +4,10 @@ use Rattle.std.specs.declared.alloc.Global.{Global}
 use Rattle.columns_core.specs.declared.error.Error.{Error}
 use Rattle.columns_core.specs.declared.error.Error.TheVariants as error
 use Rattle.parquet_meta.specs.File.{footer}
-use Rattle.parquet_scan.specs.Cells.{columns_of}
+use Rattle.parquet_scan.specs.Cells.{columns_of_chunk}
 use Rattle.parquet_scan.specs.Request.{Request, is_legal}
 use Rattle.parquet_scan.specs.Rows.{File, file_of}
-use Rattle.parquet_scan.specs.Scan.{Answers, Refuses, kept_of}
+use Rattle.parquet_scan.specs.Scan.{Answers, RefusesScan, kept_of}
 use Rattle.parquet_scan.specs.declared.scanning.Scan.{Scan}
 use Rattle.pq_common.specs.declared.status.Status.{Status}
 use Rattle.pq_common.specs.declared.status.Status.TheVariants.{Argument, Damaged, Done, Memory, NotCarried, NotValid, Range, Reading, Words, Writing}
@@ -70,7 +70,7 @@ lent_between before now = min (now - before) (2 ^ 64 - 1)
 
 -- the report on what a scan gave
 abbrev pub report_of : Command → Scan → List ℕ
-report_of command scan = report command.summary (map kept_of scan.kept) (map columns_of scan.chunks) scan.rows scan.pages
+report_of command scan = report command.summary (map kept_of scan.kept) (map columns_of_chunk scan.chunks) scan.rows scan.pages
 
 -- This holds of the report on a scan that answers the command's request, of which so many pages were lent.
 pub record Reports (command : Command) (told : Option (List ℕ)) (pages : ℕ) (P : List ℕ → Type 0) : Type 0 where
@@ -80,7 +80,7 @@ pub record Reports (command : Command) (told : Option (List ℕ)) (pages : ℕ) 
   pub holds : P (report_of command scan)
 
 -- The status is that of an error by which the scan refuses the request.
-pub record IsRefused (request : Request) (told : Option (List ℕ)) (before now : ℕ) (status : Status) : Type 0 where
+pub record IsStatusOfRefusal (request : Request) (told : Option (List ℕ)) (before now : ℕ) (status : Status) : Type 0 where
   pub error : Error
   pub as_status : status ≡ status_of_error error
-  pub refuses : Refuses request told before now error
+  pub refuses : RefusesScan request told before now error

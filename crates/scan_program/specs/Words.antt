@@ -19,9 +19,9 @@ pub record BoundEnd : Type 0 where
   pub is_low : Bool
   pub value : List ℕ
 
-pub data Item : Type 0 where
-  Column : Field → Item
-  End : BoundEnd → Item
+pub data SpelledItem : Type 0 where
+  Column : Field → SpelledItem
+  End : BoundEnd → SpelledItem
 
 -- whether a low end follows: `>=` stands before a low one and `<=` before a high one
 abbrev pub end_sign : List ℕ → Option Bool
@@ -49,19 +49,19 @@ typed_field name text = option_map (λ data_type. record { name = name; data_typ
 abbrev pub named_field : List ℕ × List ℕ → Option Field
 named_field parts = if nat_lt 0 (length parts.0) then typed_field parts.0 parts.1 else None
 
-abbrev pub field_of : List ℕ → Option Field
-field_of text = option_and_then named_field (split_field text)
+abbrev pub field_of_text : List ℕ → Option Field
+field_of_text text = option_and_then named_field (split_field text)
 
 -- a text with `>=` or `<=` is an end, and another a field
-abbrev pub item_of : List ℕ → Option Item
-item_of text = option_or (option_map End (split_bound text)) (option_map Column (field_of text))
+abbrev pub item_of : List ℕ → Option SpelledItem
+item_of text = option_or (option_map End (split_bound text)) (option_map Column (field_of_text text))
 
-abbrev pub joined : {X : Type 0} → Option X → Option (List X) → Option (List X)
-joined {X} first rest = option_map (λ (found : X × List X). found.0 ∷ found.1) (option_zip first rest)
+abbrev pub put_in_front : {X : Type 0} → Option X → Option (List X) → Option (List X)
+put_in_front {X} first rest = option_map (λ (found : X × List X). found.0 ∷ found.1) (option_zip first rest)
 
-abbrev pub all_items : List (List ℕ) → Option (List Item)
+abbrev pub all_items : List (List ℕ) → Option (List SpelledItem)
 all_items [] = Some []
-all_items (text ∷ texts) = joined (item_of text) (all_items texts)
+all_items (text ∷ texts) = put_in_front (item_of text) (all_items texts)
 
 -- ---- words
 
@@ -70,7 +70,7 @@ pub data Word : Type 0 where
   ChunkSize : ℕ → Word
   RowLimit : ℕ → Word
   Summary : Word
-  Asks : Item → Word
+  Asks : SpelledItem → Word
 
 -- the number behind a name and an equals sign
 abbrev pub assigned : List ℕ → List ℕ → Option ℕ
@@ -94,17 +94,17 @@ two_words word next =
 -- The words from left to right. Behind `--` every word is an item.
 abbrev pub read_words : List (List ℕ) → Option (List Word)
 read_words [] = Some []
-read_words (word ∷ []) = if bytes_eq word (codes "--") then Some [] else joined (one_word word) (Some [])
+read_words (word ∷ []) = if bytes_eq word (codes "--") then Some [] else put_in_front (one_word word) (Some [])
 read_words (word ∷ next ∷ rest) =
-    if is_some (two_words word next) then joined (two_words word next) (read_words rest)
+    if is_some (two_words word next) then put_in_front (two_words word next) (read_words rest)
     else if bytes_eq word (codes "--") then option_map (map Asks) (all_items (next ∷ rest))
-    else joined (one_word word) (read_words (next ∷ rest))
+    else put_in_front (one_word word) (read_words (next ∷ rest))
 
-abbrev pub as_item : Word → Option Item
-as_item (Asks item) = Some item
-as_item (ChunkSize n) = None
-as_item (RowLimit n) = None
-as_item Summary = None
+abbrev pub item_of_word : Word → Option SpelledItem
+item_of_word (Asks item) = Some item
+item_of_word (ChunkSize n) = None
+item_of_word (RowLimit n) = None
+item_of_word Summary = None
 
 abbrev pub as_chunk_size : Word → Option ℕ
 as_chunk_size (ChunkSize n) = Some n
@@ -124,18 +124,18 @@ as_summary (ChunkSize n) = None
 as_summary (RowLimit n) = None
 as_summary (Asks item) = None
 
-abbrev pub as_field : Item → Option Field
+abbrev pub as_field : SpelledItem → Option Field
 as_field (Column field) = Some field
 as_field (End end) = None
 
-abbrev pub as_end : Item → Option BoundEnd
+abbrev pub as_end : SpelledItem → Option BoundEnd
 as_end (Column field) = None
 as_end (End end) = Some end
 
-abbrev pub fields : List Item → List Field
+abbrev pub fields : List SpelledItem → List Field
 fields items = filter_map as_field items
 
-abbrev pub ends : List Item → List BoundEnd
+abbrev pub ends : List SpelledItem → List BoundEnd
 ends items = filter_map as_end items
 
 -- what comes at most once
@@ -207,15 +207,15 @@ command_on fields ends chunk_size limit summary =
       summary = summary;
     }) (bounds_of ends fields)
 
-abbrev pub command_with : List Item → Option ℕ → Option ℕ → Bool → Option Command
+abbrev pub command_with : List SpelledItem → Option ℕ → Option ℕ → Bool → Option Command
 command_with items chunk_size limit summary = command_on (fields items) (ends items) chunk_size limit summary
 
-abbrev pub command_of : List Word → Option Command
-command_of said =
-    option_and_then (λ chunk_size. option_and_then (λ limit. option_and_then (λ summary. command_with (filter_map as_item said) chunk_size limit (is_some summary))
+abbrev pub command_of_words : List Word → Option Command
+command_of_words said =
+    option_and_then (λ chunk_size. option_and_then (λ limit. option_and_then (λ summary. command_with (filter_map item_of_word said) chunk_size limit (is_some summary))
     (at_most_one (filter_map as_summary said))) (at_most_one (filter_map as_row_limit said))) (at_most_one (filter_map as_chunk_size said))
 
 -- The first word is the file's, and decides nothing here.
 abbrev pub spelled_command : List (List ℕ) → Option Command
 spelled_command [] = None
-spelled_command (file ∷ words) = option_and_then command_of (read_words words)
+spelled_command (file ∷ words) = option_and_then command_of_words (read_words words)

@@ -83,7 +83,7 @@ fn item_of<'a>(alloc: Global, text: &'a str) -> Result<Option<Item<'a>>, AllocEr
 
 /// The field that a text asks for: a name that is not empty, and a type.
 fn field_of(alloc: Global, text: &str) -> Result<Option<Field>, AllocError>
-    ensures { IfOk result (λ field. field ≡ spec.field_of text.now) }
+    ensures { IfOk result (λ field. field ≡ spec.field_of_text text.now) }
 {
     match split_field(text) {
         Some((name, data_type)) if !name.is_empty() => named_field(alloc, name, data_type),

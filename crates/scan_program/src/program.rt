@@ -7,11 +7,11 @@ ghost use Rattle.parquet_base.specs.Failures.{MayFail};
 ghost use Rattle.parquet_meta.specs.Keeps.{Keeps};
 ghost use Rattle.parquet_scan.specs.Causes.{IsValid};
 ghost use Rattle.parquet_scan.specs.Costs.{most_bytes_taken, most_pages, pages_lent};
-ghost use Rattle.parquet_scan.specs.Scan.{OnFile, Refuses};
+ghost use Rattle.parquet_scan.specs.Scan.{OnFile, RefusesScan};
 ghost use Rattle.pq_common.specs.Written.{IsAppended, IsFrontAppended};
 ghost use Rattle.scan_program.specs.Parsed.{command_of};
 ghost use Rattle.scan_program.specs.Program.{command_in, has_scanned, is_refusal, lent_between, status_of_error};
-ghost use Rattle.scan_program.specs.Program.{IsLegal, IsRefused, OnCommand, OnFileOf, Reports};
+ghost use Rattle.scan_program.specs.Program.{IsLegal, IsStatusOfRefusal, OnCommand, OnFileOf, Reports};
 ghost use Rattle.scan_program.specs.Sampled.{faults_by, is_too_great, sample_in, told_by};
 
 use crate::command::{Asked, read_words};
@@ -68,7 +68,7 @@ pub fn run<S: Source, K: Sink, L: Ledger>(
         let before = faults_by words.now (S.faults source.old) in
         let now = faults_by words.now (S.faults source.new) in
         IsTrue (is_refusal result) → IfSome (command_in words.now) (λ command.
-        IsRefused command.request told before now result) }
+        IsStatusOfRefusal command.request told before now result) }
     ensures complete { let told = told_by words.now (S.told source.old) in
         let before = faults_by words.now (S.faults source.old) in
         let now = faults_by words.now (S.faults source.new) in
@@ -126,7 +126,7 @@ fn text_for<S: Source, L: Ledger>(
         let before = faults_by words.now (S.faults source.old) in
         let now = faults_by words.now (S.faults source.new) in
         IfErr result (λ status. IsTrue (is_refusal status) → IfSome (command_in words.now) (λ command.
-        IsRefused command.request told before now status)) }
+        IsStatusOfRefusal command.request told before now status)) }
     ensures complete { let told = told_by words.now (S.told source.old) in
         let before = faults_by words.now (S.faults source.old) in
         let now = faults_by words.now (S.faults source.new) in
@@ -161,7 +161,8 @@ fn scan_text<S: Source, L: Ledger>(
     ensures ticks { steps.old ≤ steps.new }
     ensures text { let told = told_by words.now (S.told source.old) in
         IfOk result (λ text.
-        Reports (command_of asked.now) told (lent_between steps.old steps.new) (λ found. found ≡ text.items)) }
+        Reports (command_of asked.now) told (lent_between steps.old steps.new)
+        (λ found. found ≡ text.items)) }
     ensures pages_lent { let told = told_by words.now (S.told source.old) in
         IfOk result (λ _. OnFile told (λ file.
         steps.new ≡ steps.old + pages_lent (command_of asked.now).request file)) }
@@ -174,7 +175,7 @@ fn scan_text<S: Source, L: Ledger>(
     ensures refuses { let told = told_by words.now (S.told source.old) in
         let before = faults_by words.now (S.faults source.old) in
         let now = faults_by words.now (S.faults source.new) in
-        IfErr result (Refuses (command_of asked.now).request told before now) }
+        IfErr result (RefusesScan (command_of asked.now).request told before now) }
     ensures too_great { IfSome (sample_in words.now) (λ sample. IsTrue (is_too_great sample)
         → IsErrAnd result (λ e. e ≡ InvalidArgumentError Request)) }
 {

@@ -5,7 +5,7 @@ ghost use Rattle.columns_core.specs.declared.error.Error.TheVariants.{InvalidArg
 ghost use Rattle.columns_core.specs.declared.error.Part.TheVariants.{Request};
 ghost use Rattle.parquet_meta.specs.Keeps.{Keeps};
 ghost use Rattle.parquet_scan.specs.Costs.{most_bytes_taken, most_pages, pages_lent};
-ghost use Rattle.parquet_scan.specs.Scan.{Answers, OnFile, Refuses};
+ghost use Rattle.parquet_scan.specs.Scan.{Answers, OnFile, RefusesScan};
 ghost use Rattle.scan_program.specs.Parsed.{command_of};
 ghost use Rattle.scan_program.specs.Program.{lent_between};
 ghost use Rattle.scan_program.specs.Sampled.{faults_by, is_too_great, sample_bytes, sample_in, told_by};
@@ -47,7 +47,7 @@ pub(crate) fn scan_file<S: Source, L: Ledger>(
     ensures refuses { let told = told_by words.now (S.told source.old) in
         let before = faults_by words.now (S.faults source.old) in
         let now = faults_by words.now (S.faults source.new) in
-        IfErr result (Refuses (command_of asked.now).request told before now) }
+        IfErr result (RefusesScan (command_of asked.now).request told before now) }
     ensures too_great { IfSome (sample_in words.now) (λ sample.
         IsTrue (is_too_great sample) → IsErrAnd result (λ e. e ≡ InvalidArgumentError Request)) }
 {
@@ -71,7 +71,7 @@ fn scan_sample<L: Ledger>(
         (λ file. steps.new ≡ steps.old + pages_lent (command_of asked.now).request file)) }
     ensures most_pages { IfOk result (λ _. OnFile (sample_bytes sample)
         (λ file. steps.new ≤ steps.old + most_pages (command_of asked.now).request file)) }
-    ensures refuses { IfErr result (Refuses (command_of asked.now).request (sample_bytes sample) 0 0) }
+    ensures refuses { IfErr result (RefusesScan (command_of asked.now).request (sample_bytes sample) 0 0) }
     ensures too_great { IsTrue (is_too_great sample)
         → IsErrAnd result (λ e. e ≡ InvalidArgumentError Request) }
 {
@@ -97,10 +97,11 @@ fn scan_source<S: Source, L: Ledger>(
     ensures most_pages { IfOk result (λ _. OnFile (S.told source.old)
         (λ file. steps.new ≤ steps.old + most_pages (command_of asked.now).request file)) }
     ensures taken { IfOk result (λ _. OnFile (S.told source.old)
-        (λ file. S.taken source.new ≤ S.taken source.old + most_bytes_taken (command_of asked.now).request file)) }
+        (λ file. S.taken source.new ≤ S.taken source.old
+        + most_bytes_taken (command_of asked.now).request file)) }
     ensures refuses { let faults = S.faults in
         IfErr result
-        (Refuses (command_of asked.now).request (S.told source.old) (faults source.old) (faults source.new)) }
+        (RefusesScan (command_of asked.now).request (S.told source.old) (faults source.old) (faults source.new)) }
 {
     scan_where(
         alloc,

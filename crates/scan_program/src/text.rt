@@ -3,7 +3,7 @@ ghost use Rattle.std.specs.Prelude.{◌≡◌, ◌++◌, map, codes, flat_map, [
 ghost use Rattle.std.specs.List.{enumerate_from, join_by, range_with_len};
 ghost use Rattle.columns_core.specs.Array.{column_of};
 ghost use Rattle.columns_core.specs.Causes.{IsWantOfMemory};
-ghost use Rattle.parquet_scan.specs.Cells.{columns_of};
+ghost use Rattle.parquet_scan.specs.Cells.{columns_of_chunk};
 ghost use Rattle.parquet_scan.specs.Scan.{kept_of};
 ghost use Rattle.pq_common.specs.Rows.{cell_at, row_line};
 ghost use Rattle.scan_program.specs.Report.{chunk_lines, group_line, interval_text, intervals_text, report as report_by, summary_lines};
@@ -123,7 +123,7 @@ fn push_rows(alloc: Global, text: &mut Vec<u8>, arrays: &[Array], rows: usize) -
 pub fn report(alloc: Global, summary: bool, scan: &Scan) -> Result<Vec<u8>, Error>
     ensures memory { IfErr result IsWantOfMemory }
     ensures text { IfOk result (λ text. text.items ≡ report_by summary (map kept_of scan.now.kept) (map
-        columns_of scan.now.chunks) scan.now.rows scan.now.pages) }
+        columns_of_chunk scan.now.chunks) scan.now.rows scan.now.pages) }
 {
     let mut text = Vec::new(alloc);
     push_groups(&mut text, scan.kept.as_slice())?;
@@ -163,7 +163,7 @@ fn push_summary(text: &mut Vec<u8>, rows: usize, pages: usize) -> Result<(), All
 }
 
 fn push_chunks(alloc: Global, text: &mut Vec<u8>, chunks: &[Chunk]) -> Result<(), Error>
-    ensures lines { OnOk result (text.new.items ≡ text.old.items ++ flat_map chunk_lines (map columns_of
+    ensures lines { OnOk result (text.new.items ≡ text.old.items ++ flat_map chunk_lines (map columns_of_chunk
         chunks.now)) }
     ensures memory { IfErr result IsWantOfMemory }
 {

@@ -28,7 +28,7 @@ const TEXTS: &[Asked<'static>] = &[("s", As::Texts, Open)];
 const TEXTS_FROM_A: &[Asked<'static>] = &[("s", As::Texts, From(Text("a")))];
 
 /// Of the first file, which has one page of five numbers in a column `a`.
-const OF_ONE_PAGE: [Refusal<'static>; 20] = [
+const OF_ONE_PAGE: [Refusal<'static>; 21] = [
     // The request has no field, one that names no column, one twice, and a bound of another type than its field.
     (&[], &[], Error::InvalidArgumentError(Part::Request)),
     (
@@ -89,10 +89,16 @@ const OF_ONE_PAGE: [Refusal<'static>; 20] = [
     (&[(12, 8)], NUMBERS, Error::ExternalFormat(Part::Values)),
     // A count of -1 nulls.
     (&[(94, 1)], FROM_10, Error::ExternalFormat(Part::Statistics)),
+    // A group of 6 rows whose chunk ends behind a page of 5.
+    (
+        &[(85, 0x0c), (113, 0x0c)],
+        NUMBERS,
+        Error::ExternalFormat(Part::Chunk),
+    ),
 ];
 
 /// Of the second, which has three located pages of three numbers each.
-const OF_THREE_PAGES: [Refusal<'static>; 13] = [
+const OF_THREE_PAGES: [Refusal<'static>; 15] = [
     // A chunk of 8151 bytes, which is read whole, and by the locations of its pages.
     (&[(212, 0x7f)], NUMBERS, Error::ExternalFormat(Part::Group)),
     (&[(212, 0x7f)], FROM_10, Error::ExternalFormat(Part::Group)),
@@ -140,6 +146,13 @@ const OF_THREE_PAGES: [Refusal<'static>; 13] = [
         Error::ExternalFormat(Part::Location),
     ),
     (&[(152, 4)], FROM_10, Error::ExternalFormat(Part::Location)),
+    // A column index and an offset index of 8 KiB, past the end of the file.
+    (&[(239, 0x7f)], FROM_10, Error::ExternalFormat(Part::Index)),
+    (
+        &[(234, 0x7f)],
+        FROM_10,
+        Error::ExternalFormat(Part::Location),
+    ),
 ];
 
 /// Of the third, whose column `b` has nulls: levels that pass their page, a level of 6, and levels of an encoding that is not read.

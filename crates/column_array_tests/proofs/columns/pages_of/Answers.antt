@@ -6,8 +6,8 @@ use Rattle.parquet_page.specs.Lent.{Lent}
 use Rattle.flat_values.proofs.ReaderLemmas.{chunk_pages_are}
 use Rattle.column_array_tests.proofs.columns.pages_of.Goals as goal
 
-pub returns : goal.returns
-returns c =
+pub returns-clause-typed : goal.returns-clause-typed
+returns-clause-typed c =
     let P : DataContent → Type 0 = λ page. page.type.physical_type ≡ c.args.physical in
     let Q : Lent → Type 0 = λ lent. DataPagesAre P lent.pages in
     let type = c.column.result.descriptor.primitive_type in

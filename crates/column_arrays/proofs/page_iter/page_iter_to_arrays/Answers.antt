@@ -2,9 +2,9 @@ use Rattle.std.proofs.Common.{◌≡◌, ◌∙◌, false, refl, rules, sym}
 use Rattle.std.specs.Option.{option_copied}
 use Rattle.columns_core.specs.declared.data_type.DataType.{out-DataType}
 use Rattle.flat_values.specs.Conversion.{Conversion}
-use Rattle.flat_values.specs.Pairs.{is_repeated}
+use Rattle.flat_values.specs.Pairs.{conversion, conversion_at, is_repeated}
 use Rattle.flat_binary.specs.Left.{supply_of}
-use Rattle.column_arrays.specs.Begun.{begun_conversion, begun_conversion_at, column_left}
+use Rattle.column_arrays.specs.Begun.{column_left}
 use Rattle.column_arrays.specs.Layers.{array_left}
 use Rattle.column_arrays.proofs.BeginLemmas.{one_rule, renamed}
 use Rattle.column_arrays.proofs.page_iter.page_iter_to_arrays.Goals as goal
@@ -17,7 +17,7 @@ returns-clause-begins g c some =
     let once : is_repeated c.args.type_.now.repetition ≡ false = search rules in
     let unit = option_copied c.as_ref-logical.result in
     let fresh = column_left stored.physical_type c.args.data_type c.args.chunk_size c.args.num_rows supply in
-    renamed left fresh fresh (λ (rule : Conversion). refl) c.pair_iter.result (begun_conversion_at stored.physical_type unit (out-DataType c.args.data_type)) (begun_conversion stored c.args.data_type)
+    renamed left fresh fresh (λ (rule : Conversion). refl) c.pair_iter.result (conversion_at stored.physical_type unit (out-DataType c.args.data_type)) (conversion stored c.args.data_type)
     (one_rule stored unit c.args.data_type once c.as_ref-logical.ensures.value) c.pair_iter.ensures.begins
 
 pub returns-clause-refused : goal.returns-clause-refused

@@ -1,9 +1,12 @@
 use Rattle.std.proofs.Common.{◌≡◌, ◌∙◌, ◌++◌, Bool, List, [], Vec, Global, sym, subst, Option, ℕ}
 use Rattle.std.specs.Prelude.{IfSome, option_map}
 use Rattle.std.proofs.lemmas.Result.{err_from_is_err_and}
+use Rattle.columns_core.specs.DictionaryType.{key_type}
 use Rattle.page_decoding.specs.Queue.{IsChunkSize}
+use Rattle.flat_values.specs.Pairs.{conversion}
 use Rattle.flat_binary.specs.Paged.{is_null_type}
-use Rattle.column_arrays.specs.Begun.{BeginsColumn, begun_conversion, column_left}
+use Rattle.column_arrays.specs.Begun.{BeginsColumn, column_left}
+use Rattle.column_arrays.proofs.PageOrder.{ordered_for}
 use Rattle.parquet_page.specs.declared.page.FilteredPage.{FilteredPage}
 use Rattle.parquet_read.specs.ColumnPages.{column_pages}
 use Rattle.parquet_read.specs.Opening.{AreShaped, ChunkBytes, IsRefusal, chunk_supply, column_causes_of, location_causes, opened_supply, size_within, type_causes}
@@ -40,7 +43,12 @@ returns-in_err-opened c =
     })
 
 pub page_iter_to_arrays-requires : goal.page_iter_to_arrays-requires
-page_iter_to_arrays-requires c = record { typed = of_type c.args.column.now.descriptor.primitive_type (column_pages c.in_ok-opened.opened) c.in_ok-opened.ensures.typed }
+page_iter_to_arrays-requires c =
+    let pages = column_pages c.in_ok-opened.opened in
+    record {
+      typed = of_type c.args.column.now.descriptor.primitive_type pages c.in_ok-opened.ensures.typed;
+      ordered = ordered_for (key_type c.args.data_type) pages c.in_ok-opened.ensures.ordered;
+    }
 
 pub returns : goal.returns
 returns c =
@@ -59,8 +67,8 @@ returns c =
     let own_size = subst IsChunkSize (sym c.size_within.ensures) (size_stays rows c.args.chunk_size c.requires) in
     arrays_begin iter_left (AreShaped entries) (column_causes_of column) (location_causes (is_null_type data_type) chunk entries)
     (λ rule. column_left stored.physical_type data_type size rows (opened_supply opened) rule) (λ rule. column_left stored.physical_type data_type size rows (chunk_supply chunk entries) rule)
-    (begun_conversion stored data_type) result open_.shaped c.in_ok-check_column.ensures.ok
+    (conversion stored data_type) result open_.shaped c.in_ok-check_column.ensures.ok
     (subst (λ (nulls : Bool). location_causes nulls chunk entries ≡ []) is open_.sound)
     (λ rule. supply_same stored.physical_type data_type size rows (opened_supply opened) (chunk_supply chunk entries) rule open_.rows (λ e. open_.supply (is ∙ e)))
-    (subst (λ (own : Option ℕ). IfSome (begun_conversion stored data_type) (λ rule. BeginsColumn iter_left (column_left stored.physical_type data_type own rows (opened_supply opened) rule) result)) c.size_within.ensures (begun.begins own_size))
+    (subst (λ (own : Option ℕ). IfSome (conversion stored data_type) (λ rule. BeginsColumn iter_left (column_left stored.physical_type data_type own rows (opened_supply opened) rule) result)) c.size_within.ensures (begun.begins own_size))
     (begun.refused own_size)

@@ -19,4 +19,4 @@ returns-then-nulls c =
     let e = c.open_nulls.ensures in
     subst (λ (nulls : Bool). OpensPages nulls chunk (shown c.args.pages) c.open_nulls.result) (sym c.if-nulls.true)
     (subst (λ (pages : Option (Vec FilteredPage Global)). OpensPages true chunk (shown pages) c.open_nulls.result) (sym c.in-Some.is)
-    (nulls_open chunk c.in-Some.pages.items c.open_nulls.result e.typed e.rows e.shaped e.err))
+    (nulls_open chunk c.in-Some.pages.items c.open_nulls.result e.typed e.ordered e.rows e.shaped e.err))

@@ -11,7 +11,7 @@ returns-then-not-start_behind c =
     let pages = c.args.pages.items in
     let start = ap (λ (range : ℕ × ℕ). range.0) c.byte_range-start.ensures in
     let before = sym (ap (λ (n : ℕ). start_behind n pages) start) ∙ sym (ap (start_behind c.byte_range-start.result.0) c.deref.ensures.value) ∙ sym c.start_behind.ensures ∙ c.if-not-start_behind.true in
-    record { typed = tt; rows = tt; supply = tt; shaped = tt; sound = tt; refused = starts_before (c.args.column.now, c.args.bytes.items) pages (error.ExternalFormat part.Location) before refl }
+    record { typed = tt; ordered = tt; rows = tt; supply = tt; shaped = tt; sound = tt; refused = starts_before (c.args.column.now, c.args.bytes.items) pages (error.ExternalFormat part.Location) before refl }
 
 pub returns-in_err-reader : goal.returns-in_err-reader
 returns-in_err-reader c =
@@ -22,6 +22,7 @@ returns-in_err-reader c =
     let placed = c.counted_from-placed.ensures ∙ ap (λ (n : ℕ). map (counted_from n) pages) start in
     rw (p.1, p.2) (record {
       typed = tt;
+      ordered = tt;
       rows = tt;
       supply = tt;
       shaped = tt;
@@ -36,4 +37,4 @@ returns c =
     let start = ap (λ (range : ℕ × ℕ). range.0) c.byte_range-start.ensures in
     let behind = sym (ap (λ (n : ℕ). start_behind n pages) start) ∙ sym (ap (start_behind c.byte_range-start.result.0) c.deref.ensures.value) ∙ sym c.start_behind.ensures ∙ c.if-not-start_behind.false in
     let placed = c.counted_from-placed.ensures ∙ ap (λ (n : ℕ). map (counted_from n) pages) start in
-    located_opens (c.args.column.now, c.args.bytes.items) pages c.counted_from-placed.result.items c.in_ok-reader.reader placed behind e.shaped e.lies e.lends e.typed e.rows e.lent
+    located_opens (c.args.column.now, c.args.bytes.items) pages c.counted_from-placed.result.items c.in_ok-reader.reader placed behind e.shaped e.lies e.lends e.typed e.ordered e.rows e.lent

@@ -1,15 +1,12 @@
-use Rattle.std.proofs.Common.{arith}
-use Rattle.parquet_sample.specs.Ends.{bounds_at}
-use Rattle.parquet_sample.specs.Sample.{name_item, texts_at_most}
-use Rattle.parquet_sample.specs.declared.column.SampleColumn.TheVariants.{Name}
-use Rattle.parquet_sample.proofs.BoundLemmas.{bounds_begin, bounds_end, bounds_go_on}
+use Rattle.std.proofs.Common.{◌≡◌, ℕ, ◌+◌, ◌-◌, ◌*◌, ◌^◌, ap, arith}
+use Rattle.parquet_sample.proofs.OrderLemmas.{first_and_last_name}
 use Rattle.parquet_sample.proofs.number_ends.name_ends.Goals as goal
 
-pub loop-n-init : goal.loop-n-init
-loop-n-init c = bounds_begin texts_at_most name_item c.args.first
-
-pub loop-n-preserved : goal.loop-n-preserved
-loop-n-preserved c = bounds_go_on texts_at_most name_item c.args.first (bounds_at Name c.loop-n.ends) _ c.loop-n.n (omega arith) c.loop-n.invariant c.with_name-ends.ensures
-
-pub returns : goal.returns
-returns c = bounds_end texts_at_most name_item c.args.first c.args.rows (bounds_at Name c.loop-n.ends) c.loop-n.n (omega arith) c.loop-n.invariant
+pub returns-then-more_digits : goal.returns-then-more_digits
+returns-then-more_digits c =
+    let more = c.more_digits.result in
+    let last : ℕ = c.args.first + c.from.result - 1 in
+    let count : c.from.result ≡ c.args.rows = c.from.ensures in
+    let same : c.more_digits-then-rows-gt0.result ≡ more = omega (arith, c.if-more_digits.true) in
+    first_and_last_name more c.args.first c.args.rows last (omega (arith, c.if-rows-gt0.true)) (omega (arith, count)) (omega (arith, c.more_digits.ensures.few)) c.more_digits.ensures.least
+    (omega (arith, c.more_digits-then-rows-gt0.ensures.most, ap (λ (k : ℕ). 10 * 10 ^ k) same))

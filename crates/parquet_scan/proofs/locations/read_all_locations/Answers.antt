@@ -8,7 +8,7 @@ use Rattle.std.proofs.lemmas.Result.{err_from_is_err_and}
 use Rattle.parquet_meta.specs.declared.metadata.PageLocation.{PageLocation}
 use Rattle.parquet_page.specs.Locations.{has_shape}
 use Rattle.parquet_scan.specs.Causes.{offset_causes_of_field}
-use Rattle.parquet_scan.specs.Costs.{offset_index_of}
+use Rattle.parquet_scan.specs.Costs.{location_bytes_of}
 use Rattle.parquet_scan.specs.Rows.{field_locations}
 use Rattle.parquet_scan.specs.Scan.{FailsBy}
 use Rattle.parquet_scan.proofs.CostLemmas.{none_left, sum_left}
@@ -46,11 +46,11 @@ loop-field-preserved g c =
       locations = subst (λ (lists : List (List PageLocation)). IfSome told (λ bytes. map (λ field. field_locations bytes group field.name) fields ≡ lists ++ map (λ field. field_locations bytes group field.name) (drop (i + 1) fields)))
           (sym (ap (map items) c.in_ok-push.ensures.items ∙ map-append items c.loop-field.lists.items (list ∷ [])))
           (made_more told (λ bytes field. field_locations bytes group field.name) fields i field (map items c.loop-field.lists.items) list.items c.loop-field-test.true c.field-item.is c.loop-field.invariant.locations are);
-      taken = omega (arith, c.loop-field.invariant.taken, c.in_ok-read_field_locations.ensures.taken, sum_left (offset_index_of group) fields i field c.loop-field-test.true c.field-item.is);
+      taken = omega (arith, c.loop-field.invariant.taken, c.in_ok-read_field_locations.ensures.taken, sum_left (location_bytes_of group) fields i field c.loop-field-test.true c.field-item.is);
       count = search rules;
       shaped = ap (list_all (λ list. has_shape list.items group.num_rows)) c.in_ok-push.ensures.items ∙ list_all-append (λ list. has_shape list.items group.num_rows) c.loop-field.lists.items (list ∷ [])
           ∙ and_from _ _ c.loop-field.invariant.shaped (and_from _ _ c.in_ok-read_field_locations.ensures.shaped refl);
     }
 
 pub returns-clause-taken : goal.returns-clause-taken
-returns-clause-taken g c = omega (arith, c.loop-field.invariant.taken, none_left (offset_index_of c.args.group.now) c.args.fields.now c.loop-field.field-index (omega arith))
+returns-clause-taken g c = omega (arith, c.loop-field.invariant.taken, none_left (location_bytes_of c.args.group.now) c.args.fields.now c.loop-field.field-index (omega arith))

@@ -7,7 +7,7 @@ use Rattle.parquet_base.specs.Intervals.{AreApart, maximal_runs}
 use Rattle.parquet_base.specs.declared.interval.Interval.{Interval}
 use Rattle.parquet_scan.specs.Causes.{index_causes_of_bound}
 use Rattle.parquet_meta.specs.declared.metadata.PageLocation.{PageLocation}
-use Rattle.parquet_scan.specs.Costs.{column_index_of}
+use Rattle.parquet_scan.specs.Costs.{index_bytes_of}
 use Rattle.parquet_scan.specs.Request.{is_legal_bound_of}
 use Rattle.parquet_scan.specs.Rows.{bound_keeps, field_locations}
 use Rattle.parquet_scan.proofs.CostLemmas.{none_left, sum_left}
@@ -48,7 +48,7 @@ loop-bound-preserved g c =
           ≡ lists ++ map (λ bound. maximal_runs (λ row. bound_keeps c.args.fields.now bytes group row bound) group.num_rows) (drop (i + 1) bounds)))
           (sym (ap (map items) c.in_ok-push.ensures.items ∙ map-append items c.loop-bound.lists.items (list ∷ [])))
           (made_more told (λ bytes bound. maximal_runs (λ row. bound_keeps c.args.fields.now bytes group row bound) group.num_rows) bounds i bound (map items c.loop-bound.lists.items) list.items c.loop-bound-test.true c.bound-item.is c.loop-bound.invariant.runs are);
-      taken = omega (arith, c.loop-bound.invariant.taken, c.in_ok-read_runs.ensures.taken, sum_left (column_index_of group) bounds i bound c.loop-bound-test.true c.bound-item.is);
+      taken = omega (arith, c.loop-bound.invariant.taken, c.in_ok-read_runs.ensures.taken, sum_left (index_bytes_of group) bounds i bound c.loop-bound-test.true c.bound-item.is);
       apart = subst (λ (lists : List (Vec Interval Global)). All (λ list. AreApart 0 list.items group.num_rows) lists) (sym c.in_ok-push.ensures.items)
           (All-push (λ list. AreApart 0 list.items group.num_rows) c.loop-bound.lists.items list c.loop-bound.invariant.apart c.in_ok-read_runs.ensures.apart);
     }
@@ -69,4 +69,4 @@ read_runs-requires-clause-told g c =
     (locations_at told group c.args.fields.now items c.args.locations.now bound c.place_of.result list c.requires.told c.place_of.ensures.within (omega (arith, c.place_of.ensures.within, c.requires.length)) c.place_of.ensures.named))
 
 pub returns-clause-taken : goal.returns-clause-taken
-returns-clause-taken g c = omega (arith, c.loop-bound.invariant.taken, none_left (column_index_of c.args.group.now) c.args.bounds.now c.loop-bound.bound-index (omega arith))
+returns-clause-taken g c = omega (arith, c.loop-bound.invariant.taken, none_left (index_bytes_of c.args.group.now) c.args.bounds.now c.loop-bound.bound-index (omega arith))

@@ -3,7 +3,7 @@ use Rattle.std.specs.Prelude.{IfSome, flat_map, sum_by}
 use Rattle.parquet_base.specs.Intervals.{AreApart, maximal_runs}
 use Rattle.parquet_meta.specs.Keeps.{Keeps}
 use Rattle.parquet_scan.specs.Causes.{index_causes_of_bound}
-use Rattle.parquet_scan.specs.Costs.{column_index_of}
+use Rattle.parquet_scan.specs.Costs.{index_bytes_of}
 use Rattle.parquet_scan.specs.Rows.{bound_keeps}
 use Rattle.parquet_scan.proofs.pruning.read_all_runs.Given as goal
 
@@ -18,6 +18,6 @@ invariant-loop-bound g l =
       runs : IfSome (source.told l.fn.source) (λ bytes.
           map (λ bound. maximal_runs (λ row. bound_keeps l.fields bytes l.group row bound) l.group.num_rows) l.bounds
           ≡ map (λ list. list.items) l.lists.items ++ map (λ bound. maximal_runs (λ row. bound_keeps l.fields bytes l.group row bound) l.group.num_rows) (drop l.bound-index l.bounds));
-      taken : source.taken l.source + sum_by (column_index_of l.group) (drop l.bound-index l.bounds) ≤ source.taken l.fn.source + sum_by (column_index_of l.group) l.bounds;
+      taken : source.taken l.source + sum_by (index_bytes_of l.group) (drop l.bound-index l.bounds) ≤ source.taken l.fn.source + sum_by (index_bytes_of l.group) l.bounds;
       apart : All (λ list. AreApart 0 list.items l.group.num_rows) l.lists.items;
     }

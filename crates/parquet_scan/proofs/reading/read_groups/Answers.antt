@@ -5,7 +5,7 @@ use Rattle.std.proofs.lemmas.Result.{err_from_is_err_and}
 use Rattle.parquet_base.specs.Intervals.{row_count}
 use Rattle.parquet_base.specs.declared.interval.Interval.{Interval}
 use Rattle.parquet_meta.specs.declared.metadata.RowGroupMetaData.{RowGroupMetaData}
-use Rattle.parquet_scan.specs.Counting.{AreFirst, causes_if_read, causes_of_groups, chunks_if_read, is_shaped, lent_if_read, rows_of_groups, shown, taken_if_read}
+use Rattle.parquet_scan.specs.Counting.{AreFirst, causes_if_read, causes_of_groups, chunks_if_read, lies_in_group, lent_if_read, rows_of_groups, shown, taken_if_read}
 use Rattle.parquet_scan.specs.Scan.{FailsBy, RisesBy, RisesJustBy}
 use Rattle.parquet_scan.proofs.CostLemmas.{rises_pairs, sum_left}
 use Rattle.parquet_scan.proofs.ExactCounts.{just_pair, just_pairs, most_pair}
@@ -56,7 +56,7 @@ read_if_given-requires-clause-shaped g c =
     let runs = c.as_slice-runs.result.now in
     let below : i < length given = omega (arith, c.loop-i-test.true, c.requires.lengths) in
     let beside = subst (λ (runs : List Interval). runs ≡ get_or given i runs) (sym c.as_slice-runs.ensures) c.index-given-i.is in
-    (λ j. is_shaped (c.index-groups-i.is j, beside j)) ∙ pair_passes is_shaped groups given i c.index-groups-i.result runs c.requires.shaped c.loop-i-test.true below
+    (λ j. lies_in_group (c.index-groups-i.is j, beside j)) ∙ pair_passes lies_in_group groups given i c.index-groups-i.result runs c.requires.shaped c.loop-i-test.true below
 
 pub read_if_given-requires-clause-first : goal.read_if_given-requires-clause-first
 read_if_given-requires-clause-first g c =

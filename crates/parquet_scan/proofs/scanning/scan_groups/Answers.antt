@@ -8,8 +8,8 @@ use Rattle.columns_core.specs.declared.data_type.Field.{Field}
 use Rattle.parquet_base.specs.Intervals.{is_well_shaped}
 use Rattle.parquet_base.specs.declared.interval.Interval.{Interval}
 use Rattle.parquet_meta.specs.declared.metadata.RowGroupMetaData.{RowGroupMetaData}
-use Rattle.parquet_scan.specs.Counting.{AreFirst, are_shaped, causes_of_groups, chunks_of_groups, given_of_groups, index_causes_of_groups, indexes_taken_of_groups, lent_of_groups, rows_of_groups, shown, taken_of_groups}
-use Rattle.parquet_scan.specs.Cells.{columns_of, given_chunks}
+use Rattle.parquet_scan.specs.Counting.{AreFirst, lie_in_groups, causes_of_groups, chunks_of_groups, given_of_groups, index_causes_of_groups, indexes_taken_of_groups, lent_of_groups, rows_of_groups, shown, taken_of_groups}
+use Rattle.parquet_scan.specs.Cells.{columns_of_chunk, given_chunks}
 use Rattle.parquet_scan.specs.Request.{is_legal_bound_of}
 use Rattle.parquet_scan.specs.Rows.{file_with, group_counts}
 use Rattle.parquet_scan.specs.Scan.{FailsBy, RisesBy, RisesJustBy, kept_groups, kept_of, request_of}
@@ -49,7 +49,7 @@ pub read_groups-requires-clause-shaped : goal.read_groups-requires-clause-shaped
 read_groups-requires-clause-shaped g c =
     let groups = c.as_slice-groups.result.now in
     let given = c.in_ok-given.given.items in
-    ap (are_shaped groups) c.deref-2.ensures.value
+    ap (lie_in_groups groups) c.deref-2.ensures.value
     ∙ groups_shaped groups c.in_ok-kept.kept.items given c.in_ok-kept.ensures.rows
     (ap (λ kept. list_all (λ (group : GroupKept × List Interval). is_well_shaped group.1 (group.0).rows) (zip kept given)) (sym c.deref.ensures.value) ∙ c.in_ok-given.ensures.shaped)
 
@@ -148,7 +148,7 @@ returns-clause-chunks g c =
     c.as_slice-fields.result.now request.fields c.as_slice-groups.result.now metadata.row_groups c.args.counts.now (counting request metadata) c.deref-2.result.now given
     c.in_ok-kept.ensures.keeps.same is c.as_slice-fields.ensures c.as_slice-groups.ensures c.requires.counts c.deref-2.ensures.value c.in_ok-read_groups.ensures.chunks in
     let alone = subst (λ (before : List (List Array)). IfSome told (λ bytes. shown found ≡ shown before ++ chunks_of_groups (pruned request metadata) request.chunk_size request.fields bytes metadata.row_groups given)) c.new.ensures.items chunks in
-    subst (λ (chunks : List (List Array)). IfSome told (λ bytes. given_chunks request (file_with bytes metadata) ≡ Some (map columns_of chunks))) (sym c.new-3.ensures) (chunks_told request metadata kept given told found are alone)
+    subst (λ (chunks : List (List Array)). IfSome told (λ bytes. given_chunks request (file_with bytes metadata) ≡ Some (map columns_of_chunk chunks))) (sym c.new-3.ensures) (chunks_told request metadata kept given told found are alone)
 
 pub returns-clause-rows : goal.returns-clause-rows
 returns-clause-rows g c =

@@ -3,9 +3,9 @@ use Rattle.std.specs.Prelude.{Option, Some, IfSome, IfOk, IfErr, OnOk}
 use Rattle.std.proofs.lemmas.Result.{err_from_is_err_and}
 use Rattle.columns_core.specs.Causes.{cause_of}
 use Rattle.parquet_scan.specs.Causes.{metadata_causes}
-use Rattle.parquet_scan.specs.Cells.{columns_of, given_chunks}
+use Rattle.parquet_scan.specs.Cells.{columns_of_chunk, given_chunks}
 use Rattle.parquet_scan.specs.Costs.{bytes_behind_footer, most_bytes_taken, most_pages, pages_lent}
-use Rattle.parquet_scan.specs.Rows.{file_with, given_count}
+use Rattle.parquet_scan.specs.Rows.{file_with, given_row_count}
 use Rattle.parquet_scan.specs.Scan.{FailsBy, RisesBy, RisesJustBy, kept_groups, kept_of, request_of}
 use Rattle.parquet_scan.specs.declared.scanning.Scan.{Scan}
 use Rattle.parquet_scan.proofs.AnswerLemmas.{answers, illegal, legal_told, refused_by_causes, refused_by_footer, refused_by_groups}
@@ -77,10 +77,10 @@ returns-clause-answers g c =
     let valid = is_valid request metadata c.in_ok-counts.ensures.ok scan told footed (subst (λ (told : Option (List ℕ)). OnOk scan (IfSome told (λ bytes. behind_metadata request metadata bytes ≡ []))) same c.scan_groups.ensures.ok) in
     let kept = on_file (λ (scan : Scan) file. map kept_of scan.kept ≡ kept_groups request file) scan told metadata footed
     (subst (λ (told : Option (List ℕ)). IfOk scan (λ (scan : Scan). IfSome told (λ bytes. map kept_of scan.kept ≡ kept_groups request (file_with bytes metadata)))) same c.scan_groups.ensures.kept) in
-    let chunks = on_file (λ (scan : Scan) file. given_chunks request file ≡ Some (map columns_of scan.chunks)) scan told metadata footed
-    (subst (λ (told : Option (List ℕ)). IfOk scan (λ (scan : Scan). IfSome told (λ bytes. given_chunks request (file_with bytes metadata) ≡ Some (map columns_of scan.chunks)))) same c.scan_groups.ensures.chunks) in
+    let chunks = on_file (λ (scan : Scan) file. given_chunks request file ≡ Some (map columns_of_chunk scan.chunks)) scan told metadata footed
+    (subst (λ (told : Option (List ℕ)). IfOk scan (λ (scan : Scan). IfSome told (λ bytes. given_chunks request (file_with bytes metadata) ≡ Some (map columns_of_chunk scan.chunks)))) same c.scan_groups.ensures.chunks) in
     let rows = are_counted request metadata scan told (λ (scan : Scan). scan.rows) footed
-    (subst (λ (told : Option (List ℕ)). IfOk scan (λ (scan : Scan). IfSome told (λ bytes. scan.rows ≡ min (given_count request (file_with bytes metadata)) (2 ^ 64 - 1)))) same c.scan_groups.ensures.rows) in
+    (subst (λ (told : Option (List ℕ)). IfOk scan (λ (scan : Scan). IfSome told (λ bytes. scan.rows ≡ min (given_row_count request (file_with bytes metadata)) (2 ^ 64 - 1)))) same c.scan_groups.ensures.rows) in
     answers request told scan (legal_told request told metadata footed legal) valid kept chunks rows
     (scan_sound request metadata scan told (λ (scan : Scan). map kept_of scan.kept) footed legal valid kept)
     c.scan_groups.ensures.apart c.scan_groups.ensures.even c.scan_groups.ensures.own_rows

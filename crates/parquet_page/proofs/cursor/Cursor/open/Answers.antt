@@ -17,8 +17,13 @@ in_chunk slice chunk place found e at = subst (λ (bytes : List ℕ). FoundAt by
 other_entries : (kind : PageKind) (num_values : ℕ) (encoding : ℤ) (result answer : Bool) → kind ≡ Dictionary num_values encoding → result ≡ is_plain_dictionary kind → result ≡ answer → has_plain_entries encoding ≡ answer
 other_entries kind num_values encoding result answer is said told = sym (ap is_plain_dictionary is) ∙ sym said ∙ told
 
-pub returns-in_default-clause-opens : goal.returns-in_default-clause-opens
-returns-in_default-clause-opens c kind =
+pub returns-then-self-len-clause-opens : goal.returns-then-self-len-clause-opens
+returns-then-self-len-clause-opens c kind =
+    let s = c.args.self.now in
+    opens_undefined kind s.is_first s.left s.chunk.items s.place _ c.requires (rw (← c.as_slice.ensures.value) c.in_default.ensures)
+
+pub returns-else-self-len-clause-opens : goal.returns-else-self-len-clause-opens
+returns-else-self-len-clause-opens c kind =
     let s = c.args.self.now in
     opens_undefined kind s.is_first s.left s.chunk.items s.place _ c.requires (rw (← c.as_slice.ensures.value) c.in_default.ensures)
 

@@ -1,0 +1,93 @@
+//! Groups of a file, one after another, under a limit.
+use crate::asked::{field_of, numbers_of, opened};
+use columns_core::{DataType, Error, Part, Schema, Seq};
+use files_for_tests::Levels::Absent;
+use files_for_tests::Values::Numbers;
+use files_for_tests::{CHUNK, Chunk, Page, file_of};
+use parquet_meta::MemorySource;
+use parquet_read::RowGroupReader;
+use std::alloc::Global;
+use std::iter::Iterator;
+use std::test::*;
+
+/// A group of three rows, and one of five.
+const TWO_GROUPS: &[&[Chunk<'static>]] = &[
+    &[Chunk {
+        pages: &[Page(3, Absent, Numbers(&[1, 2, 3]))],
+        ..CHUNK
+    }],
+    &[Chunk {
+        pages: &[Page(5, Absent, Numbers(&[4, 5, 6, 7, 8]))],
+        ..CHUNK
+    }],
+];
+
+/// The groups of a file, of which column `a` is read.
+fn groups_of(
+    alloc: Global,
+    groups: &[&[Chunk<'_>]],
+    name: &str,
+    chunk_size: Option<usize>,
+    limit: Option<usize>,
+) -> Result<RowGroupReader<MemorySource>, Error> {
+    let bytes = file_of(alloc, groups)?;
+    let (source, metadata) = opened(alloc, bytes.as_slice())?;
+    let mut fields = Vec::new(alloc);
+    fields.push(field_of(alloc, name, DataType::Int32)?)?;
+    let schema = Schema {
+        fields: Seq::new(fields),
+    };
+    let row_groups = metadata.row_groups.into_vec();
+    RowGroupReader::new(alloc, source, schema, row_groups, chunk_size, limit, None)
+}
+
+/// The chunk size, the limit, and the chunks of all groups, each as the number of its rows and its numbers.
+type Read<'a> = (Option<usize>, Option<usize>, &'a [&'a [i128]]);
+
+const CHUNKS: [Read<'static>; 5] = [
+    (None, None, &[&[3, 1, 2, 3], &[5, 4, 5, 6, 7, 8]]),
+    (None, Some(5), &[&[3, 1, 2, 3], &[2, 4, 5]]),
+    (Some(2), Some(5), &[&[2, 1, 2], &[1, 3], &[2, 4, 5]]),
+    (Some(9), Some(2), &[&[2, 1, 2]]),
+    (None, Some(0), &[]),
+];
+
+#[test]
+fn groups_under_a_limit(rt: HostRuntime) -> Result<(), Fail> {
+    let alloc = rt.alloc();
+    for (chunk_size, limit, chunks) in CHUNKS {
+        let mut given = 0;
+        for group in groups_of(alloc, TWO_GROUPS, "a", chunk_size, limit)? {
+            for chunk in group? {
+                let numbers = numbers_of(alloc, &chunk?)?;
+                assert_eq!(rt; chunks.get(given).copied(), Some(numbers.as_slice()));
+                given += 1;
+            }
+        }
+        assert_eq!(rt; given, chunks.len());
+    }
+    Ok(())
+}
+
+#[test]
+fn groups_that_are_refused(rt: HostRuntime) -> Result<(), Fail> {
+    let alloc = rt.alloc();
+    let none = groups_of(alloc, TWO_GROUPS, "a", Some(0), None);
+    assert!(rt; matches!(none, Err(Error::InvalidArgumentError(Part::Request))));
+    // A group whose reading failed is not tried again.
+    let mut missing = groups_of(alloc, TWO_GROUPS, "z", None, Some(1))?;
+    assert!(rt;
+        matches!(
+            missing.next(),
+            Some(Err(Error::NotYetImplemented(Part::Schema)))
+        )
+    );
+    assert!(rt;
+        matches!(
+            missing.next(),
+            Some(Err(Error::NotYetImplemented(Part::Schema)))
+        )
+    );
+    assert!(rt; missing.next().is_none());
+    Ok(())
+}
