@@ -95,7 +95,8 @@ impl DeltaLength {
 
     /// How many strings are left.
     pub fn remaining(&self) -> usize
-        ensures { (bytes : List ℕ) → IfSome (joined_left self.now bytes) (λ values. result ≡ length values) }
+        ensures { (bytes : List ℕ) →
+            IfSome (joined_left self.now bytes) (λ values. result ≡ length values) }
     {
         self.lengths.remaining()
     }

@@ -128,7 +128,8 @@ impl HybridRle {
 
     /// How many numbers are left.
     pub fn remaining(&self) -> usize
-        ensures { (bytes : List ℕ) → IfSome (hybrid_left self.now bytes) (λ values. result ≡ length values) }
+        ensures { (bytes : List ℕ) →
+            IfSome (hybrid_left self.now bytes) (λ values. result ≡ length values) }
     {
         self.run.len() + self.behind
     }

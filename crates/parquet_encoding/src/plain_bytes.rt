@@ -74,7 +74,8 @@ impl PlainBytes {
 
     /// How many strings are left.
     pub fn remaining(&self) -> usize
-        ensures { (bytes : List ℕ) → IfSome (strings_left self.now bytes) (λ values. result ≡ length values) }
+        ensures { (bytes : List ℕ) →
+            IfSome (strings_left self.now bytes) (λ values. result ≡ length values) }
     {
         self.left
     }

@@ -199,7 +199,8 @@ fn low_front(run: &HybridRun, bytes: &[u8], top: u32) -> usize
     requires lies { IsIn bytes.now run.now }
     ensures within { result ≤ count_of run.now }
     ensures low { list_all (λ level. nat_le level top) (take result (run_values run.now bytes.now)) ≡ true }
-    ensures high { result ≡ 0 → list_all (λ level. nat_le level top) (run_values run.now bytes.now) ≡ false }
+    ensures high { result ≡ 0 →
+        list_all (λ level. nat_le level top) (run_values run.now bytes.now) ≡ false }
 {
     match run {
         HybridRun::Packed(run) => low_packed(run, bytes, top),

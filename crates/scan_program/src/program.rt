@@ -82,7 +82,8 @@ pub fn run<S: Source, K: Sink, L: Ledger>(
 
     // Nothing is written but where all is read without a failure, and writing fails only where the sink may fail.
     ensures read { IsTrue (has_scanned result) → S.faults source.new ≡ S.faults source.old }
-    ensures nothing { result ≢ Status.Done → result ≢ Status.Writing → K.written out.new ≡ K.written out.old }
+    ensures nothing { result ≢ Status.Done → result ≢ Status.Writing →
+        K.written out.new ≡ K.written out.old }
     ensures writing { result ≡ Status.Writing → MayFail (K.faults out.old) (K.faults out.new) }
     ensures quiet { result ≢ Status.Writing → K.faults out.new ≡ K.faults out.old }
 {
