@@ -4,7 +4,7 @@ use Rattle.columns_core.specs.Causes.{Overflow, cause_of}
 use Rattle.columns_core.specs.declared.cell.Cell.{Cell, Bytes, Text}
 use Rattle.columns_core.specs.declared.data_type.DataType.{DataType}
 use Rattle.columns_core.specs.declared.error.Error.{Error}
-use Rattle.columns_core.specs.Stored.{is_binary, is_text as is_text_type}
+use Rattle.columns_core.specs.Stored.{is_binary, is_sized_text as is_text_type}
 use Rattle.parquet_encoding.specs.Places.{bytes_in}
 use Rattle.parquet_page.specs.Stored.{Octets}
 use Rattle.page_decoding.specs.Bytes.{row_bytes}

@@ -2,7 +2,7 @@
 ghost use Rattle.std.specs.Prelude.{◌≡◌, ◌<◌, ◌||◌, IsTrue, [], None, IfOk, IfErr};
 ghost use Rattle.columns_core.specs.Array.{cells, data_type_of};
 ghost use Rattle.columns_core.specs.Causes.{is_invalid_argument};
-ghost use Rattle.columns_core.specs.Stored.{is_binary, is_text};
+ghost use Rattle.columns_core.specs.Stored.{is_binary, is_sized_text};
 ghost use Rattle.page_decoding.specs.Column.{DataPagesAre};
 ghost use Rattle.page_decoding.specs.Queue.{IsChunkSize};
 ghost use Rattle.flat_values.specs.ColumnLeft.{GivesArray};
@@ -35,12 +35,12 @@ impl<O: Offset, I: Pages> Iter<O, I> {
         num_rows: usize,
     ) -> Result<Self, Error>
         requires takes { DataPagesAre (λ page. page.type.physical_type ≡ ByteArray) (I.to_come iter) }
-        ensures ok { let fits = is_text O.is_large data_type || is_binary O.is_large data_type in
+        ensures ok { let fits = is_sized_text O.is_large data_type || is_binary O.is_large data_type in
             IfOk result (λ _. IsChunkSize chunk_size × IsTrue fits) }
-        ensures err { let fits = is_text O.is_large data_type || is_binary O.is_large data_type in
+        ensures err { let fits = is_sized_text O.is_large data_type || is_binary O.is_large data_type in
             IfErr result (λ e. IsTrue (is_invalid_argument e) × (IsChunkSize chunk_size → IsTrue fits → ⊥)) }
         ensures values { IfOk result (λ new.
-            new.arrays.chunks.decoder.values.is_text ≡ is_text O.is_large data_type) }
+            new.arrays.chunks.decoder.values.is_text ≡ is_sized_text O.is_large data_type) }
         ensures iter { IfOk result (λ new. new.arrays ≡ record {
           data_type = data_type;
           chunks = record {

@@ -2,8 +2,8 @@
 ghost use Rattle.std.specs.Prelude.{◌≡◌, ◌↔◌, IsTrue, map, IfOk, IfErr};
 ghost use Rattle.columns_core.specs.Causes.{IsWantOfMemory};
 ghost use Rattle.columns_core.specs.Column.{cell_of};
-ghost use Rattle.columns_core.specs.Joined.{AreTexts, FitTogether, strings};
-ghost use Rattle.columns_core.specs.Stored.{is_binary, is_text};
+ghost use Rattle.columns_core.specs.Joined.{AreTexts, FitTogether, joined_strings};
+ghost use Rattle.columns_core.specs.Stored.{is_binary, is_sized_text};
 ghost use Rattle.columns_core.specs.declared.cell.Cell.{Bytes, Text};
 ghost use Rattle.binary_values.specs.ByteColumns.{column_cells, column_type};
 ghost use Rattle.binary_values.specs.ByteStrings.{stores_bytes};
@@ -20,7 +20,7 @@ pub enum ByteColumn<O: Offset> {
 }
 
 pub(crate) fn is_text_type<O: Offset>(data_type: &DataType) -> bool
-    ensures { result ≡ is_text O.is_large data_type.now }
+    ensures { result ≡ is_sized_text O.is_large data_type.now }
 {
     if O::is_large() {
         matches!(data_type, DataType::LargeUtf8)
@@ -46,11 +46,11 @@ fn text_column<O: Offset>(
     values: Vec<u8>,
     validity: Option<Bitmap>,
 ) -> ByteColumn<O>
-    requires typed { IsTrue (is_text O.is_large data_type) }
+    requires typed { IsTrue (is_sized_text O.is_large data_type) }
     requires fit { FitTogether offsets values.items validity }
     requires texts { AreTexts offsets values.items }
     ensures typed { column_type result ≡ data_type }
-    ensures cells { column_cells result ≡ map (cell_of Text) (strings offsets values.items validity) }
+    ensures cells { column_cells result ≡ map (cell_of Text) (joined_strings offsets values.items validity) }
 {
     ByteColumn::Texts(Utf8Array::of_texts(data_type, offsets, values, validity))
 }
@@ -66,7 +66,7 @@ fn byte_column<O: Offset>(
     requires fit { FitTogether offsets values.items validity }
     ensures typed { IfOk result (λ column. column_type column ≡ data_type) }
     ensures cells { IfOk result (λ column.
-        column_cells column ≡ map (cell_of Bytes) (strings offsets values.items validity)) }
+        column_cells column ≡ map (cell_of Bytes) (joined_strings offsets values.items validity)) }
     ensures memory { IfErr result IsWantOfMemory }
 {
     let array = BinaryArray::try_new(data_type, offsets, values, validity)?;

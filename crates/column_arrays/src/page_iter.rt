@@ -44,7 +44,8 @@ pub fn page_iter_to_arrays<I: Pages>(
         result) }
     ensures refused { IsChunkSize chunk_size → conversion type_.now data_type ≡ None
         → IsRefusedPair result }
-    ensures no_chunk { (IsChunkSize chunk_size → ⊥) → IsErrAnd result (λ e. IsTrue (is_invalid_argument e)) }
+    ensures no_chunk { (IsChunkSize chunk_size → ⊥) →
+        IsErrAnd result (λ e. IsTrue (is_invalid_argument e)) }
 {
     if chunk_size == Some(0) {
         return Err(Error::InvalidArgumentError(Part::Request));

@@ -10,7 +10,7 @@ use Rattle.columns_core.specs.DictionaryType.{entry_type, entry_type_at}
 use Rattle.columns_core.specs.declared.cell.Cell.{Cell, Int}
 use Rattle.columns_core.specs.declared.data_type.DataType.{DataType, out-DataType}
 use Rattle.columns_core.specs.declared.data_type.DataType.TheOpen.{DataType-F}
-use Rattle.columns_core.specs.Types.{Layer, signed, unsigned, value_type, value_type_at}
+use Rattle.columns_core.specs.Types.{Layer, signed_range, unsigned_range, value_type, value_type_at}
 use Rattle.parquet_meta.specs.ColumnIndex.{column_index_in}
 use Rattle.parquet_meta.specs.Indexes.{index_at, index_in, raw_index, type_of}
 use Rattle.parquet_meta.specs.Places.{part_at}
@@ -32,7 +32,7 @@ use Rattle.parquet_meta.specs.declared.metadata.RawStatistics.TheVariants as raw
 use Rattle.parquet_meta.specs.declared.metadata.StatisticsBytes.{StatisticsBytes}
 use Rattle.parquet_page.specs.Stored.{Stored, Number, Truth, Words, Octets}
 use Rattle.flat_values.specs.CellTypes.{is_cell_at, is_in}
-use Rattle.flat_values.specs.Conversion.{Conversion, Item, Value, NotInRange, NotText, Nulls, LowNanoseconds, convert, low_bits}
+use Rattle.flat_values.specs.Conversion.{Conversion, Item, Value, NotInRange, NotText, Nulls, LowNanoseconds, convert, modulo_bits}
 use Rattle.flat_values.specs.Ends.{stored_end}
 use Rattle.flat_values.specs.Numbers.{words_of}
 use Rattle.flat_values.specs.Pairs.{from_physical, leaf_conversion, page_conversion, page_from_physical, page_from_int96, page_from_fixed}
@@ -200,23 +200,23 @@ stored_of type file (Some place) typed e = stored_at type (part_at file place) t
 
 -- ---- what the rules of pages give
 
-low_if : (test : Bool) (n : ℤ) → Within (unsigned 64) (if test then Value (Int (low_bits 64 n)) else NotInRange)
+low_if : (test : Bool) (n : ℤ) → Within (unsigned_range 64) (if test then Value (Int (modulo_bits 64 n)) else NotInRange)
 low_if true n = low_bits_in 64 n
 low_if false n = tt
 
-low_nanoseconds_of : (value : Stored) → Within (unsigned 64) (convert LowNanoseconds value)
-low_nanoseconds_of (Words low high day) = low_if (is_in (signed 64) (nanoseconds_of low high day)) (nanoseconds_of low high day)
+low_nanoseconds_of : (value : Stored) → Within (unsigned_range 64) (convert LowNanoseconds value)
+low_nanoseconds_of (Words low high day) = low_if (is_in (signed_range 64) (nanoseconds_of low high day)) (nanoseconds_of low high day)
 low_nanoseconds_of (Number n) = tt
 low_nanoseconds_of (Truth b) = tt
 low_nanoseconds_of (Octets bytes) = tt
 
 page_int96-gives : (layer : Layer) (value : Stored) → Gives layer value (page_from_int96 layer)
-page_int96-gives DataType-F.UInt64 value = to_item DataType-F.UInt64 (unsigned 64) refl _ (low_nanoseconds_of value)
-page_int96-gives DataType-F.Int64 value = to_item DataType-F.Int64 (signed 64) refl _ (since 1 tt value)
-page_int96-gives DataType-F.Date64 value = to_item DataType-F.Date64 (signed 64) refl _ (since 1 tt value)
-page_int96-gives (DataType-F.Time64 unit) value = to_item (DataType-F.Time64 unit) (signed 64) refl _ (since 1 tt value)
-page_int96-gives (DataType-F.Duration unit) value = to_item (DataType-F.Duration unit) (signed 64) refl _ (since 1 tt value)
-page_int96-gives (DataType-F.Timestamp unit zone) value = to_item (DataType-F.Timestamp unit zone) (signed 64) refl _ (since (1000000000 / per_second unit) (has_unit unit) value)
+page_int96-gives DataType-F.UInt64 value = to_item DataType-F.UInt64 (unsigned_range 64) refl _ (low_nanoseconds_of value)
+page_int96-gives DataType-F.Int64 value = to_item DataType-F.Int64 (signed_range 64) refl _ (since 1 tt value)
+page_int96-gives DataType-F.Date64 value = to_item DataType-F.Date64 (signed_range 64) refl _ (since 1 tt value)
+page_int96-gives (DataType-F.Time64 unit) value = to_item (DataType-F.Time64 unit) (signed_range 64) refl _ (since 1 tt value)
+page_int96-gives (DataType-F.Duration unit) value = to_item (DataType-F.Duration unit) (signed_range 64) refl _ (since 1 tt value)
+page_int96-gives (DataType-F.Timestamp unit zone) value = to_item (DataType-F.Timestamp unit zone) (signed_range 64) refl _ (since (1000000000 / per_second unit) (has_unit unit) value)
 page_int96-gives _ value = tt
 
 page_fixed-gives : (size : ℕ) (layer : Layer) (value : Stored) → is_stored_as (physical.FixedLenByteArray size) value ≡ true → Gives layer value (page_from_fixed size layer)

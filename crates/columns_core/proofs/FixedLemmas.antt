@@ -8,12 +8,12 @@ use Rattle.std.proofs.lemmas.List.{length-map}
 use Rattle.std.proofs.lemmas.List.FromFn.{length-range_with_len, get_or-range_with_len}
 use Rattle.std.proofs.lemmas.Option.{slice_get-map, slice_get-get_or}
 use Rattle.std.proofs.Math.Nat.{le-div_iff_mul-le, suc-mul, zero-add}
-use Rattle.columns_core.specs.Fixed.{pieces, ArePieces}
+use Rattle.columns_core.specs.Fixed.{fixed_pieces, ArePieces}
 
-pub length-pieces : (size : ℕ) (bytes : List ℕ) → length (pieces size bytes) ≡ length bytes / size
+pub length-pieces : (size : ℕ) (bytes : List ℕ) → length (fixed_pieces size bytes) ≡ length bytes / size
 length-pieces size bytes = length-map (range_with_len 0 (length bytes / size)) (λ i. take size (drop (i * size) bytes)) ∙ length-range_with_len 0 (length bytes / size)
 
-pub piece_at : (size : ℕ) (bytes : List ℕ) (i : ℕ) → i < length bytes / size → slice_get (pieces size bytes) i ≡ Some (take size (drop (i * size) bytes))
+pub piece_at : (size : ℕ) (bytes : List ℕ) (i : ℕ) → i < length bytes / size → slice_get (fixed_pieces size bytes) i ≡ Some (take size (drop (i * size) bytes))
 piece_at size bytes i h =
     let count = length bytes / size in
     slice_get-map (λ k. take size (drop (k * size) bytes)) (range_with_len 0 count) i

@@ -8,7 +8,7 @@ use Rattle.std.proofs.lemmas.List.{length-map}
 use Rattle.std.proofs.lemmas.List.FromFn.{length-map-range_with_len, get_or-map-range_with_len}
 use Rattle.std.proofs.lemmas.Option.{slice_get-map, slice_get-get_or, get_or_from_slice_get}
 use Rattle.columns_core.specs.Array.{cells, data_type_of}
-use Rattle.columns_core.specs.Chunk.{rows_of, AreEqualLengths}
+use Rattle.columns_core.specs.Chunk.{array_rows, AreEqualLengths}
 use Rattle.columns_core.specs.Column.{cell_of, FitsMask}
 use Rattle.columns_core.specs.Depth.{depth, largest}
 use Rattle.columns_core.specs.Masks.{is_there}
@@ -35,17 +35,17 @@ module _ (items : List (Option (List Cell))) (i : ℕ) (there : Bool) (x : List 
 
 -- ---- structs
 
-pub count-rows : (columns : List Array) → first_length (map cells columns) ≡ rows_of columns
+pub count-rows : (columns : List Array) → first_length (map cells columns) ≡ array_rows columns
 count-rows [] = refl
 count-rows (column ∷ columns) = refl
 
-pub length-rows : (columns : List Array) → length (rows (map cells columns)) ≡ rows_of columns
+pub length-rows : (columns : List Array) → length (rows (map cells columns)) ≡ array_rows columns
 length-rows columns = length-map-range_with_len (row_at (map cells columns)) 0 (first_length (map cells columns)) ∙ count-rows columns
 
-pub length-structs : (columns : List Array) (mask : Option (List Bool)) → FitsMask (rows (map cells columns)) mask → length (structs columns mask) ≡ rows_of columns
+pub length-structs : (columns : List Array) (mask : Option (List Bool)) → FitsMask (rows (map cells columns)) mask → length (structs columns mask) ≡ array_rows columns
 length-structs columns mask fits = length-masked (rows (map cells columns)) mask fits ∙ length-rows columns
 
-pub get-structs : (columns : List Array) (mask : Option (List Bool)) (i : ℕ) → FitsMask (rows (map cells columns)) mask → i < rows_of columns
+pub get-structs : (columns : List Array) (mask : Option (List Bool)) (i : ℕ) → FitsMask (rows (map cells columns)) mask → i < array_rows columns
     → slice_get (structs columns mask) i ≡ Some (if is_there mask i then Some (row_at (map cells columns) i) else None)
 get-structs columns mask i fits h =
     let long = length-rows columns in
@@ -54,7 +54,7 @@ get-structs columns mask i fits h =
     ∙ ap (λ row. Some (if is_there mask i then Some row else None)) (get_or-map-range_with_len (row_at (map cells columns)) 0 (first_length (map cells columns)) i i [] here (omega arith))
 
 -- the place is in every column
-pub in_each : (columns : List Array) (i : ℕ) → AreEqualLengths columns → i < rows_of columns → All (λ column. i < length (cells column)) columns
+pub in_each : (columns : List Array) (i : ℕ) → AreEqualLengths columns → i < array_rows columns → All (λ column. i < length (cells column)) columns
 in_each columns i equal h k d within = omega (arith, equal.1 k d within)
 
 pub length-row_at : (columns : List Array) (i : ℕ) → length (row_at (map cells columns) i) ≡ length columns

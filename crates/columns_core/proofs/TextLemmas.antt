@@ -8,7 +8,7 @@ use Rattle.std.proofs.Math.Seq.{take-add}
 use Rattle.std.proofs.lemmas.Bool.{cases_lt}
 use Rattle.columns_core.specs.Masks.{is_there}
 use Rattle.columns_core.specs.Offsets.{AreOffsets, last, parts}
-use Rattle.columns_core.specs.Joined.{strings, FitTogether, AreTexts, AreTextItems, BeginAtCharacters}
+use Rattle.columns_core.specs.Joined.{joined_strings, FitTogether, AreTexts, AreTextItems, BeginAtCharacters}
 use Rattle.columns_core.proofs.OffsetLemmas.{length-parts, get-parts, risen, some-offset}
 use Rattle.columns_core.proofs.JoinedLemmas.{slice_get-or, the_same, length-strings, get-strings}
 
@@ -92,7 +92,7 @@ text-there offsets bytes i true text texts h is =
     subst IsUtf8 same (texts i [] (omega (arith, length-parts offsets bytes)))
 text-there offsets bytes i false text texts h is = absurd (grind (arith, is))
 
-pub text-items : (offsets bytes : List ℕ) (mask : Option (List Bool)) → FitTogether offsets bytes mask → AreTexts offsets bytes → AreTextItems (strings offsets bytes mask)
+pub text-items : (offsets bytes : List ℕ) (mask : Option (List Bool)) → FitTogether offsets bytes mask → AreTexts offsets bytes → AreTextItems (joined_strings offsets bytes mask)
 text-items offsets bytes mask fit texts i text is =
-    let inside : i < length offsets - 1 = omega (arith, length-strings offsets bytes mask fit, within-some (strings offsets bytes mask) i (Some text) is) in
+    let inside : i < length offsets - 1 = omega (arith, length-strings offsets bytes mask fit, within-some (joined_strings offsets bytes mask) i (Some text) is) in
     text-there offsets bytes i (is_there mask i) text texts inside (the_same (get-strings offsets bytes mask i fit inside) is)

@@ -4,14 +4,14 @@ use Rattle.columns_core.specs.declared.error.Error.{Error}
 use Rattle.columns_core.specs.declared.error.Error.TheVariants as error
 
 -- the numbers of the kinds of errors
-abbrev pub number_of : Error → ℕ
-number_of (error.InvalidArgumentError part) = 1
-number_of (error.NotYetImplemented part) = 2
-number_of (error.ExternalFormat part) = 3
-number_of (error.OutOfSpec part) = 4
-number_of error.Overflow = 5
-number_of error.Io = 6
-number_of error.OutOfMemory = 7
+abbrev pub error_number : Error → ℕ
+error_number (error.InvalidArgumentError part) = 1
+error_number (error.NotYetImplemented part) = 2
+error_number (error.ExternalFormat part) = 3
+error_number (error.OutOfSpec part) = 4
+error_number error.Overflow = 5
+error_number error.Io = 6
+error_number error.OutOfMemory = 7
 
 -- what is wrong with a part of a file, named as the error that tells of it
 pub data Cause : Type 0 where

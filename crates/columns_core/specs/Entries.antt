@@ -17,10 +17,10 @@ abbrev pub NameEntries : {K : Type 0} → (K → ℤ) → List Cell → List (Op
 NameEntries number entries keys = All (λ key. ForSome key (λ k. IsSome (entry_named entries (number k)))) keys
 
 -- a key as a number of 64 bits; one below 0 is taken for the greatest, which no list of entries reaches
-abbrev pub place_of : ℤ → ℕ
-place_of (pos key) = key
-place_of (negsuc key) = 2 ^ 64 - 1
+abbrev pub place_of_key : ℤ → ℕ
+place_of_key (pos key) = key
+place_of_key (negsuc key) = 2 ^ 64 - 1
 
 -- keys as numbers of 64 bits
 abbrev pub key_places : {K : Type 0} → (K → ℤ) → List (Option K) → List (Option ℕ)
-key_places number keys = map (option_map (λ key. place_of (number key))) keys
+key_places number keys = map (option_map (λ key. place_of_key (number key))) keys

@@ -8,7 +8,7 @@ is_binary false Binary = true
 is_binary true LargeBinary = true
 is_binary _ _ = false
 
-abbrev pub is_text : Bool → DataType → Bool
-is_text false Utf8 = true
-is_text true LargeUtf8 = true
-is_text _ _ = false
+abbrev pub is_sized_text : Bool → DataType → Bool
+is_sized_text false Utf8 = true
+is_sized_text true LargeUtf8 = true
+is_sized_text _ _ = false

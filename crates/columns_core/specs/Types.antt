@@ -16,29 +16,29 @@ value_type_at data_type _ = data_type
 abbrev pub value_type : DataType → DataType
 value_type data_type = value_type_at data_type (out-DataType data_type)
 
-abbrev pub signed : ℕ → ℤ × ℤ
-signed bits = (neg_ℤ (pos (2 ^ (bits - 1))), pos (2 ^ (bits - 1) - 1))
+abbrev pub signed_range : ℕ → ℤ × ℤ
+signed_range bits = (neg_ℤ (pos (2 ^ (bits - 1))), pos (2 ^ (bits - 1) - 1))
 
-abbrev pub unsigned : ℕ → ℤ × ℤ
-unsigned bits = (pos 0, pos (2 ^ bits - 1))
+abbrev pub unsigned_range : ℕ → ℤ × ℤ
+unsigned_range bits = (pos 0, pos (2 ^ bits - 1))
 
 -- the least and the greatest number of a type of numbers
 abbrev pub number_range_at : Layer → Option (ℤ × ℤ)
-number_range_at DataType-F.Int8 = Some (signed 8)
-number_range_at DataType-F.Int16 = Some (signed 16)
-number_range_at DataType-F.Int32 = Some (signed 32)
-number_range_at DataType-F.Int64 = Some (signed 64)
-number_range_at DataType-F.UInt8 = Some (unsigned 8)
-number_range_at DataType-F.UInt16 = Some (unsigned 16)
-number_range_at DataType-F.UInt32 = Some (unsigned 32)
-number_range_at DataType-F.UInt64 = Some (unsigned 64)
-number_range_at DataType-F.Date32 = Some (signed 32)
-number_range_at DataType-F.Date64 = Some (signed 64)
-number_range_at (DataType-F.Time32 unit) = Some (signed 32)
-number_range_at (DataType-F.Time64 unit) = Some (signed 64)
-number_range_at (DataType-F.Duration unit) = Some (signed 64)
-number_range_at (DataType-F.Timestamp unit time_zone) = Some (signed 64)
-number_range_at (DataType-F.Decimal precision scale) = Some (signed 128)
+number_range_at DataType-F.Int8 = Some (signed_range 8)
+number_range_at DataType-F.Int16 = Some (signed_range 16)
+number_range_at DataType-F.Int32 = Some (signed_range 32)
+number_range_at DataType-F.Int64 = Some (signed_range 64)
+number_range_at DataType-F.UInt8 = Some (unsigned_range 8)
+number_range_at DataType-F.UInt16 = Some (unsigned_range 16)
+number_range_at DataType-F.UInt32 = Some (unsigned_range 32)
+number_range_at DataType-F.UInt64 = Some (unsigned_range 64)
+number_range_at DataType-F.Date32 = Some (signed_range 32)
+number_range_at DataType-F.Date64 = Some (signed_range 64)
+number_range_at (DataType-F.Time32 unit) = Some (signed_range 32)
+number_range_at (DataType-F.Time64 unit) = Some (signed_range 64)
+number_range_at (DataType-F.Duration unit) = Some (signed_range 64)
+number_range_at (DataType-F.Timestamp unit time_zone) = Some (signed_range 64)
+number_range_at (DataType-F.Decimal precision scale) = Some (signed_range 128)
 number_range_at _ = None
 
 abbrev pub number_range : DataType → Option (ℤ × ℤ)

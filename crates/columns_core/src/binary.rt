@@ -2,7 +2,7 @@
 ghost use Rattle.std.specs.Prelude.{◌≡◌, ◌<◌, IsTrue, length, slice_get, Some, IfOk, IfErr, option_copied};
 ghost use Rattle.columns_core.specs.Causes.{IsWantOfMemory, is_invalid_argument};
 ghost use Rattle.columns_core.specs.Stored.{is_binary};
-ghost use Rattle.columns_core.specs.Joined.{strings, FitTogether};
+ghost use Rattle.columns_core.specs.Joined.{joined_strings, FitTogether};
 
 use crate::joined::{JoinedBytes, fit_together};
 use crate::{Bitmap, DataType, Error, Offset, Offsets, Part};
@@ -37,7 +37,7 @@ impl<O: Offset> BinaryArray<O> {
         validity: Option<Bitmap>,
     ) -> Result<Self, Error>
         ensures array { IfOk result (λ array.
-            array ≡ record { data_type = data_type; items = strings offsets values.items validity }) }
+            array ≡ record { data_type = data_type; items = joined_strings offsets values.items validity }) }
         ensures ok { IfOk result (λ _. IsTrue (is_binary O.is_large data_type)
             × FitTogether offsets values.items validity) }
         ensures err { IfErr result (λ e. IsTrue (is_invalid_argument e)

@@ -7,7 +7,7 @@ ghost use Rattle.columns_core.specs.Column.{masked, FitsMask};
 ghost use Rattle.columns_core.specs.Depth.{depth};
 ghost use Rattle.columns_core.specs.Keyed.{named_cells, keyed_cells, keyed_column};
 ghost use Rattle.columns_core.specs.DictionaryType.{IsDictionaryOf, entry_type};
-ghost use Rattle.columns_core.specs.Entries.{NameEntries, key_places, place_of};
+ghost use Rattle.columns_core.specs.Entries.{NameEntries, key_places, place_of_key};
 ghost use Rattle.columns_core.specs.Lent.{cell_lent, IsThere, lent_depth};
 
 use crate::equal::is_same_type;
@@ -245,7 +245,8 @@ fn masked_places<K: DictionaryKey>(
 }
 
 fn all_places_of<K: DictionaryKey>(alloc: Global, keys: &[K]) -> Result<Vec<u64>, Error>
-    ensures places { IfOk result (λ places. places.items ≡ map (λ key. place_of (K.number key)) keys.now) }
+    ensures places { IfOk result (λ places.
+        places.items ≡ map (λ key. place_of_key (K.number key)) keys.now) }
     ensures memory { IfErr result IsWantOfMemory }
 {
     let mut places = Vec::with_capacity(alloc, keys.len())?;

@@ -36,10 +36,10 @@ pub enum Error {
 }
 
 impl Error {
-    ghost use Rattle.columns_core.specs.Causes.{number_of};
+    ghost use Rattle.columns_core.specs.Causes.{error_number};
 
     pub fn number(&self) -> u8
-        ensures { result ≡ number_of self.now }
+        ensures { result ≡ error_number self.now }
     {
         match self {
             Error::InvalidArgumentError(_) => 1,

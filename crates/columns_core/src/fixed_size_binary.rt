@@ -4,7 +4,7 @@ ghost use Rattle.std.specs.Option.{ForSome};
 ghost use Rattle.columns_core.specs.Causes.{IsWantOfMemory, is_invalid_argument};
 ghost use Rattle.columns_core.specs.Column.{masked};
 ghost use Rattle.columns_core.specs.ElementType.{fixed_size};
-ghost use Rattle.columns_core.specs.Fixed.{pieces, ArePieces};
+ghost use Rattle.columns_core.specs.Fixed.{fixed_pieces, ArePieces};
 
 use crate::mask::{copy_of_mask, is_there};
 use crate::primitive::fits_mask;
@@ -24,7 +24,7 @@ pub struct FixedSizeBinaryArray {
 impl Model for FixedSizeBinaryArray {
     ghost use Rattle.std.specs.Prelude.{◌≡◌, List, ℕ};
     ghost use Rattle.columns_core.specs.Column.{Column, masked};
-    ghost use Rattle.columns_core.specs.Fixed.{pieces, ArePieces};
+    ghost use Rattle.columns_core.specs.Fixed.{fixed_pieces, ArePieces};
     ghost use Rattle.std.specs.Coded.{coded_list, coded_ℕ};
     ghost use Rattle.columns_core.specs.Column.{column_code};
     ghost use Rattle.columns_core.specs.contracts.data_type.DataType.{the_row as data_type_row};
@@ -33,7 +33,7 @@ impl Model for FixedSizeBinaryArray {
 
     ghost coded = { column_code data_type_row.coded (coded_list coded_ℕ) };
 
-    ghost view = { λ array. record { data_type = array.data_type; items = masked (pieces array.size array.values.items) array.validity } };
+    ghost view = { λ array. record { data_type = array.data_type; items = masked (fixed_pieces array.size array.values.items) array.validity } };
 
     ghost invariant = { λ array. ArePieces array.size array.values.items array.validity };
 }
@@ -48,7 +48,7 @@ impl FixedSizeBinaryArray {
             array ≡ record {
               data_type = data_type;
               items = masked
-                  (pieces (fixed_size data_type) values.items) validity;
+                  (fixed_pieces (fixed_size data_type) values.items) validity;
             }) }
         ensures ok { IfOk result (λ _. ArePieces (fixed_size data_type) values.items validity) }
         ensures err { IfErr result (λ e. IsTrue (is_invalid_argument e)

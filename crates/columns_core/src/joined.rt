@@ -2,7 +2,7 @@
 ghost use Rattle.std.specs.Prelude.{◌≡◌, ◌<◌, ◌≤◌, ◌-◌, IsTrue, ◌↔◌, length, slice_get, Some, IfOk, IfErr, option_copied};
 ghost use Rattle.columns_core.specs.Causes.{IsWantOfMemory};
 ghost use Rattle.columns_core.specs.Offsets.{last};
-ghost use Rattle.columns_core.specs.Joined.{strings, FitTogether, AreTexts, BeginAtCharacters};
+ghost use Rattle.columns_core.specs.Joined.{joined_strings, FitTogether, AreTexts, BeginAtCharacters};
 
 use crate::mask::{copy_of_mask, is_there};
 use crate::primitive::fits_mask;
@@ -20,11 +20,11 @@ pub(crate) struct JoinedBytes<O: Offset> {
 
 impl<O: Offset> Model for JoinedBytes<O> {
     ghost use Rattle.std.specs.Prelude.{ℕ, List, Option};
-    ghost use Rattle.columns_core.specs.Joined.{strings, FitTogether};
+    ghost use Rattle.columns_core.specs.Joined.{joined_strings, FitTogether};
 
     ghost Value = { List (Option (List ℕ)) };
 
-    ghost view = { λ joined. strings joined.offsets joined.values.items joined.validity };
+    ghost view = { λ joined. joined_strings joined.offsets joined.values.items joined.validity };
 
     ghost invariant = { λ joined. FitTogether joined.offsets joined.values.items joined.validity };
 }
@@ -32,7 +32,7 @@ impl<O: Offset> Model for JoinedBytes<O> {
 impl<O: Offset> JoinedBytes<O> {
     pub(crate) fn new(offsets: Offsets<O>, values: Vec<u8>, validity: Option<Bitmap>) -> Self
         requires { FitTogether offsets values.items validity }
-        ensures { result ≡ strings offsets values.items validity }
+        ensures { result ≡ joined_strings offsets values.items validity }
     {
         JoinedBytes {
             offsets,

@@ -2,7 +2,7 @@
 ghost use Rattle.std.specs.Prelude.{◌≡◌, ℤ, pos};
 ghost use Rattle.columns_core.specs.declared.data_type.IntegerType.{IntegerType};
 ghost use Rattle.columns_core.specs.declared.data_type.IntegerType.TheVariants as key;
-ghost use Rattle.columns_core.specs.Entries.{place_of};
+ghost use Rattle.columns_core.specs.Entries.{place_of_key};
 
 use crate::{IntegerType, NativeType};
 
@@ -17,7 +17,7 @@ pub trait DictionaryKey: NativeType {
 
     /// The key as a number of 64 bits; one below 0 is the greatest of them.
     fn place(self) -> u64
-        ensures { result ≡ place_of (number self) };
+        ensures { result ≡ place_of_key (number self) };
 }
 
 impl DictionaryKey for i8 {

@@ -41,13 +41,13 @@ impl Model for StructArray {
     ghost coded = { column_code data_type_row.coded (coded_list cell_row.coded) };
 
     ghost use Rattle.std.specs.Prelude.{◌≡◌, ◌*◌};
-    ghost use Rattle.columns_core.specs.Chunk.{rows_of};
+    ghost use Rattle.columns_core.specs.Chunk.{array_rows};
     ghost use Rattle.columns_core.specs.Depth.{depth};
     ghost use Rattle.columns_core.specs.Struct.{structs, AreColumnsOf};
 
     ghost view = { λ array. record { data_type = array.data_type; items = structs array.columns array.validity } };
 
-    ghost invariant = { λ array. AreColumnsOf array.data_type array.columns array.validity × (array.rows ≡ rows_of array.columns) };
+    ghost invariant = { λ array. AreColumnsOf array.data_type array.columns array.validity × (array.rows ≡ array_rows array.columns) };
 
     ghost size = { λ column. 2 * depth column.data_type };
 

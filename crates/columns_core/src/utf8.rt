@@ -1,8 +1,8 @@
 //! Arrays of texts.
 ghost use Rattle.std.specs.Prelude.{◌≡◌, ◌⊎◌, ◌<◌, IsTrue, length, slice_get, Some, IfOk, IfErr, OnOk, option_copied};
 ghost use Rattle.columns_core.specs.Causes.{OutOfSpec, cause_of, IsWantOfMemory, is_invalid_argument};
-ghost use Rattle.columns_core.specs.Stored.{is_text};
-ghost use Rattle.columns_core.specs.Joined.{strings, FitTogether, AreTexts};
+ghost use Rattle.columns_core.specs.Stored.{is_sized_text};
+ghost use Rattle.columns_core.specs.Joined.{joined_strings, FitTogether, AreTexts};
 
 use crate::joined::{JoinedBytes, are_texts, fit_together};
 use crate::{Bitmap, DataType, Error, Offset, Offsets, Part};
@@ -40,12 +40,12 @@ impl<O: Offset> Utf8Array<O> {
         validity: Option<Bitmap>,
     ) -> Result<Self, Error>
         ensures array { IfOk result (λ array.
-            array ≡ record { data_type = data_type; items = strings offsets values.items validity }) }
-        ensures ok { IfOk result (λ _. IsTrue (is_text O.is_large data_type)
+            array ≡ record { data_type = data_type; items = joined_strings offsets values.items validity }) }
+        ensures ok { IfOk result (λ _. IsTrue (is_sized_text O.is_large data_type)
             × FitTogether offsets values.items validity × AreTexts offsets values.items) }
         ensures err { IfErr result (λ e.
             (IsTrue (is_invalid_argument e)
-            × (IsTrue (is_text O.is_large data_type) → FitTogether offsets values.items validity → ⊥))
+            × (IsTrue (is_sized_text O.is_large data_type) → FitTogether offsets values.items validity → ⊥))
             ⊎ ((cause_of e ≡ Some OutOfSpec) × (AreTexts offsets values.items → ⊥))) }
     {
         match check::<O>(&data_type, &offsets, values.as_slice(), validity.as_ref()) {
@@ -61,10 +61,11 @@ impl<O: Offset> Utf8Array<O> {
         values: Vec<u8>,
         validity: Option<Bitmap>,
     ) -> Self
-        requires typed { IsTrue (is_text O.is_large data_type) }
+        requires typed { IsTrue (is_sized_text O.is_large data_type) }
         requires fit { FitTogether offsets values.items validity }
         requires texts { AreTexts offsets values.items }
-        ensures { result ≡ record { data_type = data_type; items = strings offsets values.items validity } }
+        ensures { result
+            ≡ record { data_type = data_type; items = joined_strings offsets values.items validity } }
     {
         Utf8Array {
             data_type,
@@ -107,7 +108,7 @@ impl<O: Offset> Utf8Array<O> {
 }
 
 fn stores<O: Offset>(data_type: &DataType) -> bool
-    ensures { result ≡ is_text O.is_large data_type.now }
+    ensures { result ≡ is_sized_text O.is_large data_type.now }
 {
     if O::is_large() {
         matches!(data_type, DataType::LargeUtf8)
@@ -122,12 +123,12 @@ fn check<O: Offset>(
     values: &[u8],
     validity: Option<&Bitmap>,
 ) -> Result<(), Error>
-    ensures ok { OnOk result (IsTrue (is_text O.is_large data_type.now)
+    ensures ok { OnOk result (IsTrue (is_sized_text O.is_large data_type.now)
         × FitTogether offsets.now values.now (option_copied validity.entry)
         × AreTexts offsets.now values.now) }
     ensures err { IfErr result (λ e.
         (IsTrue (is_invalid_argument e)
-        × (IsTrue (is_text O.is_large data_type.now)
+        × (IsTrue (is_sized_text O.is_large data_type.now)
         → FitTogether offsets.now values.now (option_copied validity.entry) → ⊥))
         ⊎ ((cause_of e ≡ Some OutOfSpec) × (AreTexts offsets.now values.now → ⊥))) }
 {

@@ -11,7 +11,7 @@ use Rattle.columns_core.specs.declared.error.Error.{Error}
 use Rattle.parquet_page.specs.Content.{Content, DataContent, DictContent, is_data}
 use Rattle.parquet_page.specs.Lending.{has_data_behind}
 use Rattle.page_decoding.specs.Bytes.{IsCausedByChunks}
-use Rattle.page_decoding.specs.Chunks.{GivesNext, Reads}
+use Rattle.page_decoding.specs.Chunks.{GivesFirstChunk, ReadsChunks}
 use Rattle.page_decoding.specs.Column.{rows}
 use Rattle.page_decoding.specs.Outcome.{Outcome, Given, cells_in}
 use Rattle.page_decoding.specs.Standing.{NoneComes, Standing, after_pages, causes_behind, still_wanted}
@@ -61,8 +61,8 @@ module _ {X : Type 0} (shown : X → List Cell) (data_type : DataType) (size : O
   module _ (before now : Standing) (old new : List Content) (causes causes_now : List Cause) (steps steps_now row_count row_count_now lent lent_now : ℕ) where
     -- a call for the next chunk of keys
     pub record KeysRead (result : Option (Result X Error)) : Type 0 where
-      pub chunk : GivesNext shown None size (still_wanted entries outcomes before old causes) (still_wanted entries outcomes now new causes_now) result
-      pub pages : Reads shown entries outcomes None size result old new causes before now steps steps_now lent lent_now
+      pub chunk : GivesFirstChunk shown None size (still_wanted entries outcomes before old causes) (still_wanted entries outcomes now new causes_now) result
+      pub pages : ReadsChunks shown entries outcomes None size result old new causes before now steps steps_now lent lent_now
       pub end : IfNone result (NoneComes now.remaining new causes_now)
       pub ended : still_wanted entries outcomes before old causes ≡ [] → NoneComes before.remaining old causes → result ≡ None
       pub rows : row_count_now ≡ row_count

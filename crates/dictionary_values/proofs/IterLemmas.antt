@@ -7,7 +7,7 @@ use Rattle.columns_core.specs.declared.cell.Cell.{Cell}
 use Rattle.columns_core.specs.declared.data_type.DataType.{DataType}
 use Rattle.columns_core.specs.declared.error.Error.{Error}
 use Rattle.parquet_page.specs.Content.{Content, DictContent, DataOf, DictOf}
-use Rattle.page_decoding.specs.Chunks.{ChunksLeft, GivesNext, Reads, ended, standing_of}
+use Rattle.page_decoding.specs.Chunks.{ChunksLeft, GivesFirstChunk, ReadsChunks, ended, standing_of}
 use Rattle.page_decoding.specs.Column.{DataPagesAre}
 use Rattle.page_decoding.specs.Outcome.{Given}
 use Rattle.page_decoding.specs.Standing.{NoneComes, still_wanted}
@@ -30,8 +30,8 @@ module _ {I D X : Type 0} (shown : X → List Cell) (reads : D → DictContent �
 
   -- what a call for the next chunk of keys says
   pub record IsCalled (result : Option (Result X Error)) : Type 0 where
-    pub chunk : GivesNext shown None old.size (still_wanted (reads old.decoder) (selected_keys most) (standing_of old) (to_come old.pages) (causes old.pages)) (still_wanted (reads new.decoder) (selected_keys most) (standing_of new) (to_come new.pages) (causes new.pages)) result
-    pub pages : Reads shown (reads old.decoder) (selected_keys most) None old.size result (to_come old.pages) (to_come new.pages) (causes old.pages) (standing_of old) (standing_of new) steps steps_now (lent_count old.pages) (lent_count new.pages)
+    pub chunk : GivesFirstChunk shown None old.size (still_wanted (reads old.decoder) (selected_keys most) (standing_of old) (to_come old.pages) (causes old.pages)) (still_wanted (reads new.decoder) (selected_keys most) (standing_of new) (to_come new.pages) (causes new.pages)) result
+    pub pages : ReadsChunks shown (reads old.decoder) (selected_keys most) None old.size result (to_come old.pages) (to_come new.pages) (causes old.pages) (standing_of old) (standing_of new) steps steps_now (lent_count old.pages) (lent_count new.pages)
     pub end : IfNone result (NoneComes new.remaining (to_come new.pages) (causes new.pages))
     pub ended : still_wanted (reads old.decoder) (selected_keys most) (standing_of old) (to_come old.pages) (causes old.pages) ≡ [] → NoneComes old.remaining (to_come old.pages) (causes old.pages) → result ≡ None
     pub rows : row_count new.pages ≡ row_count old.pages
@@ -46,7 +46,7 @@ module _ {I D X : Type 0} (shown : X → List Cell) (reads : D → DictContent �
 
   keys-are : (result : Option (Result X Error)) → IsCalled result → KeysAre result
   keys-are result called =
-      let P : D → Type 0 = λ d. GivesNext shown None old.size (still_wanted (reads old.decoder) (selected_keys most) (standing_of old) (to_come old.pages) (causes old.pages)) (still_wanted (reads d) (selected_keys most) (standing_of new) (to_come new.pages) (causes new.pages)) result in
+      let P : D → Type 0 = λ d. GivesFirstChunk shown None old.size (still_wanted (reads old.decoder) (selected_keys most) (standing_of old) (to_come old.pages) (causes old.pages)) (still_wanted (reads d) (selected_keys most) (standing_of new) (to_come new.pages) (causes new.pages)) result in
       record { chunk = subst P called.decoder called.chunk; pages = called.pages; end = called.end; ended = called.ended; rows = called.rows; keyed = called.keyed }
 
   module _ {Y : Type 0} (type_of : Y → DataType) (cells_of : Y → List Cell) where

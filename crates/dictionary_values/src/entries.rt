@@ -2,7 +2,7 @@
 ghost use Rattle.std.specs.Prelude.{◌≡◌, ◌⊎◌, true, IsTrue, [], None, Some, IfErr, IfNone, IfOk, IfSome};
 ghost use Rattle.columns_core.specs.Causes.{IsWantOfMemory, is_invalid_argument};
 ghost use Rattle.columns_core.specs.DictionaryType.{IsDictionaryOf, entry_type};
-ghost use Rattle.columns_core.specs.Stored.{is_text};
+ghost use Rattle.columns_core.specs.Stored.{is_sized_text};
 ghost use Rattle.columns_core.specs.declared.data_type.DataType.{DataType};
 ghost use Rattle.parquet_page.specs.Lending.{has_data_behind};
 ghost use Rattle.page_decoding.specs.Queue.{IsChunkSize};
@@ -55,7 +55,7 @@ impl IntoEntries for FixedValues {
 
 /// Whether arrays of this type hold texts with these offsets.
 fn is_text_type<O: Offset>(data_type: &DataType) -> bool
-    ensures { result ≡ is_text O.is_large data_type.now }
+    ensures { result ≡ is_sized_text O.is_large data_type.now }
 {
     if O::is_large() {
         matches!(data_type, DataType::LargeUtf8)

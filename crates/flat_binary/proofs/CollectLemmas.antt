@@ -12,7 +12,7 @@ use Rattle.parquet_base.specs.Pieces.{cut}
 use Rattle.parquet_meta.specs.Source.{raised}
 use Rattle.parquet_page.specs.Content.{Content, DataContent, DictContent}
 use Rattle.page_decoding.specs.Bytes.{IsCausedByChunks, SomePasses, chunk_at, fits_most, row_bytes}
-use Rattle.page_decoding.specs.Chunks.{lent_behind}
+use Rattle.page_decoding.specs.Chunks.{lent_more}
 use Rattle.page_decoding.specs.Column.{entries_behind, page_rows, rows}
 use Rattle.page_decoding.specs.Outcome.{Outcome, Given, IsCausedBy, causes_in}
 use Rattle.page_decoding.specs.Queue.{IsChunkSize, first_chunk, later_chunks}
@@ -134,13 +134,13 @@ pages_due left = due left.decoding.entries left.decoding.outcomes left.standing 
 due-decoded : (s : Standing) (pages : List Content) (d e : Decoding) → d ≡ e → due d.entries d.outcomes s pages ≡ due e.entries e.outcomes s pages
 due-decoded s pages d e is = ap (λ (found : Decoding). due found.entries found.outcomes s pages) is
 
-raised-more : (lent more n : ℕ) → lent_behind (lent_behind lent more) n ≡ lent_behind lent (more + n)
-raised-more lent zero n = let e : n ≡ 0 + n = omega arith in ap (lent_behind lent) e
-raised-more lent (suc more) zero = let e : suc more ≡ suc more + 0 = omega arith in ap (lent_behind lent) e
+raised-more : (lent more n : ℕ) → lent_more (lent_more lent more) n ≡ lent_more lent (more + n)
+raised-more lent zero n = let e : n ≡ 0 + n = omega arith in ap (lent_more lent) e
+raised-more lent (suc more) zero = let e : suc more ≡ suc more + 0 = omega arith in ap (lent_more lent) e
 raised-more lent (suc more) (suc n) =
     let e : suc (more + suc n) ≡ suc more + suc n = omega arith in
     let same : raised (raised lent (suc more)) (suc n) ≡ raised lent (suc (more + suc n)) = omega arith in
-    same ∙ ap (lent_behind lent) e
+    same ∙ ap (lent_more lent) e
 
 -- what one array more changes
 pub record Goes (old new : ColumnLeft) (array : Array) (steps steps_now : ℕ) : Type 0 where
@@ -149,7 +149,7 @@ pub record Goes (old new : ColumnLeft) (array : Array) (steps steps_now : ℕ) :
   pub caused : (error : Error) → IsCausedByChunks new.decoding.most_bytes new.size (wanted new) error → IsCausedByChunks old.decoding.most_bytes old.size (wanted old) error
   pub due_now : steps_now + length (pages_due new) ≡ steps + length (pages_due old)
   pub later : steps ≤ steps_now
-  pub lent : (n : ℕ) (start : ℕ) → old.lent ≡ lent_behind start n → new.lent ≡ lent_behind start (n + (steps_now - steps))
+  pub lent : (n : ℕ) (start : ℕ) → old.lent ≡ lent_more start n → new.lent ≡ lent_more start (n + (steps_now - steps))
 
 pub array_goes : (old new : ColumnLeft) (array : Array) (steps steps_now : ℕ) (result : Option (Result Array Error)) → IsChunkSize old.size → result ≡ Some (Ok array) → GivesColumn data_type_of cells old result new steps steps_now → Goes old new array steps steps_now
 array_goes old new array steps steps_now result some is given =
@@ -181,14 +181,14 @@ array_goes old new array steps steps_now result some is given =
             due_now = omega (arith, pages.ticked, ap length left, length-append pages.lent_pages (pages_due new));
             later = omega (arith, pages.ticked);
             lent = λ n start is. let more : steps_now - steps ≡ length pages.lent_pages = omega (arith, pages.ticked) in
-                pages.counted ∙ ap (λ lent. lent_behind lent (length pages.lent_pages)) is ∙ raised-more start n (length pages.lent_pages) ∙ ap (λ m. lent_behind start (n + m)) (sym more);
+                pages.counted ∙ ap (λ lent. lent_more lent (length pages.lent_pages)) is ∙ raised-more start n (length pages.lent_pages) ∙ ap (λ m. lent_more start (n + m)) (sym more);
           }
 
 -- what is left at the end
 pub record Ends (old new : ColumnLeft) (steps steps_now : ℕ) : Type 0 where
   pub none : wanted old ≡ []
   pub due_now : steps_now ≡ steps + length (pages_due old)
-  pub lent : (n : ℕ) (start : ℕ) → old.lent ≡ lent_behind start n → new.lent ≡ lent_behind start (n + (steps_now - steps))
+  pub lent : (n : ℕ) (start : ℕ) → old.lent ≡ lent_more start n → new.lent ≡ lent_more start (n + (steps_now - steps))
 
 pub column_ends : (old new : ColumnLeft) (steps steps_now : ℕ) (result : Option (Result Array Error)) → result ≡ None → GivesColumn data_type_of cells old result new steps steps_now → Ends old new steps steps_now
 column_ends old new steps steps_now result is given =
@@ -209,7 +209,7 @@ column_ends old new steps steps_now result is given =
             none = gives.chunk.0;
             due_now = omega (arith, pages.ticked, ap length left);
             lent = λ n start is. let more : steps_now - steps ≡ length pages.lent_pages = omega (arith, pages.ticked) in
-                pages.counted ∙ ap (λ lent. lent_behind lent (length pages.lent_pages)) is ∙ raised-more start n (length pages.lent_pages) ∙ ap (λ m. lent_behind start (n + m)) (sym more);
+                pages.counted ∙ ap (λ lent. lent_more lent (length pages.lent_pages)) is ∙ raised-more start n (length pages.lent_pages) ∙ ap (λ m. lent_more start (n + m)) (sym more);
           }
 
 pub wanted_pages : (left : ColumnLeft) → causes_in (wanted left) ≡ [] → length (pages_due left) ≡ length (pages_wanted left.decoding.entries left.decoding.outcomes left.standing.dictionary left.standing.remaining left.pages)

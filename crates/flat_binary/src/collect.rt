@@ -3,7 +3,7 @@ ghost use Rattle.std.specs.Prelude.{◌≡◌, ◌+◌, ◌-◌, ◌≤◌, All,
 ghost use Rattle.columns_core.specs.Array.{cells, data_type_of};
 ghost use Rattle.parquet_base.specs.Pieces.{cut};
 ghost use Rattle.page_decoding.specs.Bytes.{IsCausedByChunks, cell_bytes, fits_most};
-ghost use Rattle.page_decoding.specs.Chunks.{lent_behind};
+ghost use Rattle.page_decoding.specs.Chunks.{lent_more};
 ghost use Rattle.page_decoding.specs.Outcome.{Given};
 ghost use Rattle.page_decoding.specs.Queue.{IsChunkSize};
 ghost use Rattle.flat_values.specs.ColumnLeft.{wanted};
@@ -37,7 +37,7 @@ pub fn collect_arrays<A: ColumnArrays, L: Ledger>(
         OnOk result (steps.new ≡ steps.old
         + length (pages left.standing.dictionary left.standing.remaining left.pages)) }
     ensures count { OnOk result ((A.left arrays.new).lent
-        ≡ lent_behind (A.left arrays.old).lent (steps.new - steps.old)) }
+        ≡ lent_more (A.left arrays.old).lent (steps.new - steps.old)) }
 {
     let mut found = VecDeque::new(alloc);
     while let Some(array) = arrays.next_counted(steps) {

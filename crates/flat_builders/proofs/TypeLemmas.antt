@@ -6,7 +6,7 @@ use Rattle.std.specs.Str.{is_utf8}
 use Rattle.std.proofs.lemmas.Bool.{eqb-true, true≢false}
 use denote.Hole.Carrier
 use Rattle.columns_core.specs.ElementType.{stores_i8, stores_i16, stores_i32, stores_i64, stores_u8, stores_u16, stores_u32, stores_u64, stores_i128, stores_days_ms, is_boolean}
-use Rattle.columns_core.specs.Types.{Layer, signed, is_text_at, takes_bytes_at}
+use Rattle.columns_core.specs.Types.{Layer, signed_range, is_text_at, takes_bytes_at}
 use Rattle.columns_core.specs.declared.cell.Cell.{Cell, Null, Bool as Truth, Int, DaysMs, Text, Bytes}
 use Rattle.columns_core.specs.declared.data_type.DataType.{DataType, out-DataType}
 use Rattle.columns_core.specs.declared.data_type.DataType as type
@@ -30,7 +30,7 @@ same_numbers : (a b : Layer) → is_boolean_at a ≡ is_boolean_at b → cell_ra
 same_numbers a b truth range interval text bytes Null = refl
 same_numbers a b truth range interval text bytes (Truth value) = truth
 same_numbers a b truth range interval text bytes (Int n) = ap (λ r. option_map_or (λ found. is_in found n) r false) range
-same_numbers a b truth range interval text bytes (DaysMs days milliseconds) = ap (λ i. i && is_in (signed 32) days && is_in (signed 32) milliseconds) interval
+same_numbers a b truth range interval text bytes (DaysMs days milliseconds) = ap (λ i. i && is_in (signed_range 32) days && is_in (signed_range 32) milliseconds) interval
 same_numbers a b truth range interval text bytes (Text string) = ap (λ t. t && is_utf8 string) text
 same_numbers a b truth range interval text bytes (Bytes string) = bytes (length string)
 same_numbers a b truth range interval text bytes _ = refl

@@ -1,7 +1,7 @@
 -- Texts or byte strings that are kept with their marks.
 use Rattle.std.specs.Prelude.{◌≡◌, ℕ, Bool, true, false, IsTrue, IsUtf8, All, List, [], ◌∷◌, ◌++◌, length, map, sum_by, Option, Some, None, if◌then◌else◌}
 use Rattle.columns_core.specs.Column.{cell_of, where_set}
-use Rattle.columns_core.specs.Stored.{is_binary, is_text as is_text_type}
+use Rattle.columns_core.specs.Stored.{is_binary, is_sized_text as is_text_type}
 use Rattle.columns_core.specs.declared.cell.Cell.{Cell, Bytes, Text}
 use Rattle.columns_core.specs.declared.data_type.DataType.{DataType}
 use Rattle.page_decoding.specs.Bytes.{cell_bytes}

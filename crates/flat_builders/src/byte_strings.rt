@@ -2,7 +2,7 @@
 ghost use Rattle.std.specs.Prelude.{◌≡◌, ◌⊎◌, ◌++◌, [], ◌∷◌, if◌then◌else◌, Bool, IsTrue, IsUtf8, false, true, length, map, IfOk, IfErr, IfSome, IfNone, OnOk};
 ghost use Rattle.columns_core.specs.Causes.{IsWantOfMemory};
 ghost use Rattle.columns_core.specs.Column.{as_column, cell_of};
-ghost use Rattle.columns_core.specs.Stored.{is_binary, is_text};
+ghost use Rattle.columns_core.specs.Stored.{is_binary, is_sized_text};
 ghost use Rattle.columns_core.specs.declared.cell.Cell.{Null};
 ghost use Rattle.flat_values.specs.CellTypes.{is_cell_at};
 ghost use Rattle.flat_builders.specs.Built.{byte_layer};
@@ -108,7 +108,7 @@ impl<O: Offset> ByteStrings<O> {
     /// The array of the texts.
     pub(crate) fn into_texts(self, data_type: DataType) -> Result<Utf8Array<O>, Error>
         requires text { IsTrue self.0 }
-        requires stored { IsTrue (is_text O.is_large data_type) }
+        requires stored { IsTrue (is_sized_text O.is_large data_type) }
         ensures array { IfOk result (λ array. array ≡ as_column data_type self.1) }
         ensures memory { IfErr result IsWantOfMemory }
     {

@@ -15,11 +15,11 @@ use Rattle.columns_core.specs.declared.data_type.DataType.TheOpen.{DataType-F}
 use Rattle.columns_core.specs.declared.data_type.TimeUnit.{TimeUnit}
 use Rattle.columns_core.specs.declared.data_type.TimeUnit.TheVariants.{Second, Millisecond, Microsecond, Nanosecond}
 use Rattle.columns_core.specs.declared.data_type.IntervalUnit.TheVariants.{YearMonth, DayTime}
-use Rattle.columns_core.specs.Types.{Layer, signed, unsigned, is_text_at, value_type_at}
+use Rattle.columns_core.specs.Types.{Layer, signed_range, unsigned_range, is_text_at, value_type_at}
 use Rattle.flat_values.specs.CellTypes.{is_in, cell_range_at, is_cell_at}
 use Rattle.parquet_meta.specs.declared.metadata.PhysicalType.TheVariants as physical
 use Rattle.parquet_page.specs.Stored.{Stored, Number, Truth as Bit, Words, Octets}
-use Rattle.flat_values.specs.Conversion.{Item, Value, NotInRange, NotText, Conversion, Keep, LowUnsigned, LowSigned, Scale, SinceEpoch, BigEndian, Months, DaysAndMilliseconds, AsText, convert, scaled, low_bits, with_sign, big_endian, int32_in}
+use Rattle.flat_values.specs.Conversion.{Item, Value, NotInRange, NotText, Conversion, Keep, LowUnsigned, LowSigned, Scale, SinceEpoch, BigEndian, Months, DaysAndMilliseconds, AsText, convert, scaled, modulo_bits, with_sign, big_endian, int32_in}
 use Rattle.flat_values.specs.Units.{nanoseconds_of, per_second, unit_factor}
 use Rattle.flat_values.specs.Pairs.{from_boolean, from_int32, from_int64, from_int96, from_fixed, from_byte_array, from_physical, entry_from_int32, entry_from_int64, entry_from_fixed, entry_from_physical, conversion_at, is_repeated}
 use Rattle.parquet_meta.specs.declared.metadata.PrimitiveLogicalType.{PrimitiveLogicalType}
@@ -70,55 +70,55 @@ to_item layer range e NotText h = tt
 
 -- ---- what each conversion gives
 
-keep32 : (value : Stored) → is_stored_as physical.Int32 value ≡ true → Within (signed 32) (convert Keep value)
+keep32 : (value : Stored) → is_stored_as physical.Int32 value ≡ true → Within (signed_range 32) (convert Keep value)
 keep32 (Number n) e = e
 keep32 (Bit b) e = absurd (false≢true e)
 keep32 (Words low high day) e = absurd (false≢true e)
 keep32 (Octets bytes) e = absurd (false≢true e)
 
-keep64 : (value : Stored) → is_stored_as physical.Int64 value ≡ true → Within (signed 64) (convert Keep value)
+keep64 : (value : Stored) → is_stored_as physical.Int64 value ≡ true → Within (signed_range 64) (convert Keep value)
 keep64 (Number n) e = e
 keep64 (Bit b) e = absurd (false≢true e)
 keep64 (Words low high day) e = absurd (false≢true e)
 keep64 (Octets bytes) e = absurd (false≢true e)
 
-pub low_bits_in : (bits : ℕ) (n : ℤ) → is_in (unsigned bits) (low_bits bits n) ≡ true
+pub low_bits_in : (bits : ℕ) (n : ℤ) → is_in (unsigned_range bits) (modulo_bits bits n) ≡ true
 low_bits_in bits (pos n) = and_from _ _ (le-leb 0 (n % 2 ^ bits) (omega arith)) (le-leb (n % 2 ^ bits) (2 ^ bits - 1) (omega (arith, mod-lt n (pow_pos bits))))
 low_bits_in bits (negsuc n) = and_from _ _ (le-leb 0 (2 ^ bits - 1 - n % 2 ^ bits) (omega arith)) (le-leb (2 ^ bits - 1 - n % 2 ^ bits) (2 ^ bits - 1) (omega (arith, pow_pos bits)))
 
-low : (bits : ℕ) (value : Stored) → Within (unsigned bits) (convert (LowUnsigned bits) value)
+low : (bits : ℕ) (value : Stored) → Within (unsigned_range bits) (convert (LowUnsigned bits) value)
 low bits (Number n) = low_bits_in bits n
 low bits (Bit b) = tt
 low bits (Words a b c) = tt
 low bits (Octets bytes) = tt
 
-low8 : (value : Stored) → Within (signed 8) (convert (LowSigned w8) value)
+low8 : (value : Stored) → Within (signed_range 8) (convert (LowSigned w8) value)
 low8 (Number n) = within_mag 127 (int_wrap w8 n) (omega (arith, (SFits-int_wrap w8 n).sfits))
 low8 (Bit b) = tt
 low8 (Words a b c) = tt
 low8 (Octets bytes) = tt
 
-low16 : (value : Stored) → Within (signed 16) (convert (LowSigned w16) value)
+low16 : (value : Stored) → Within (signed_range 16) (convert (LowSigned w16) value)
 low16 (Number n) = within_mag 32767 (int_wrap w16 n) (omega (arith, (SFits-int_wrap w16 n).sfits))
 low16 (Bit b) = tt
 low16 (Words a b c) = tt
 low16 (Octets bytes) = tt
 
 -- a number is given where a test holds
-tested : (b : Bool) (n : ℤ) → (b ≡ true → is_in (signed 64) n ≡ true) → Within (signed 64) (if b then Value (Int n) else NotInRange)
+tested : (b : Bool) (n : ℤ) → (b ≡ true → is_in (signed_range 64) n ≡ true) → Within (signed_range 64) (if b then Value (Int n) else NotInRange)
 tested true n h = h refl
 tested false n h = tt
 
-scale : (factor : ℕ) (multiply : Bool) (value : Stored) → Within (signed 64) (convert (Scale factor multiply) value)
-scale factor multiply (Number n) = tested (is_in (signed 64) (scaled factor multiply n)) _ (λ e. e)
+scale : (factor : ℕ) (multiply : Bool) (value : Stored) → Within (signed_range 64) (convert (Scale factor multiply) value)
+scale factor multiply (Number n) = tested (is_in (signed_range 64) (scaled factor multiply n)) _ (λ e. e)
 scale factor multiply (Bit b) = tt
 scale factor multiply (Words a b c) = tt
 scale factor multiply (Octets bytes) = tt
 
-divided : (unit : ℕ) → T (ltb 0 unit) → (z : ℤ) → is_in (signed 64) z ≡ true → is_in (signed 64) (int_div z (pos unit)) ≡ true
+divided : (unit : ℕ) → T (ltb 0 unit) → (z : ℤ) → is_in (signed_range 64) z ≡ true → is_in (signed_range 64) (int_div z (pos unit)) ≡ true
 divided unit h z e = within_mag 9223372036854775807 (int_div z (pos unit)) (omega (arith, (quot_fits w64 z (pos unit) (record { sfits = omega (arith, mag_within 9223372036854775807 z e) }) (record { lt = h })).sfits))
 
-pub since : (unit : ℕ) → T (ltb 0 unit) → (value : Stored) → Within (signed 64) (convert (SinceEpoch unit) value)
+pub since : (unit : ℕ) → T (ltb 0 unit) → (value : Stored) → Within (signed_range 64) (convert (SinceEpoch unit) value)
 since unit h (Words a b c) = tested _ _ (divided unit h (nanoseconds_of a b c))
 since unit h (Number n) = tt
 since unit h (Bit b) = tt
@@ -150,10 +150,10 @@ pub half : (b : Bool) (n : ℕ) → nat_lt n 2147483648 ≡ b → mag (sel b (po
 half true n e = omega (arith, ltb-true n 2147483648 e)
 half false n e = omega (arith, ltb-false n 2147483648 e)
 
-int32_in-within : (bytes : List ℕ) → is_in (signed 32) (int32_in bytes) ≡ true
+int32_in-within : (bytes : List ℕ) → is_in (signed_range 32) (int32_in bytes) ≡ true
 int32_in-within bytes = within_mag 2147483647 (int32_in bytes) (half (nat_lt (little_endian (take 4 bytes)) 2147483648) (little_endian (take 4 bytes)) refl)
 
-months : (value : Stored) → Within (signed 32) (convert Months value)
+months : (value : Stored) → Within (signed_range 32) (convert Months value)
 months (Octets bytes) = int32_in-within bytes
 months (Number n) = tt
 months (Bit b) = tt
@@ -172,27 +172,27 @@ abbrev pub Gives : Layer → Stored → Option Conversion → Type 0
 Gives layer value rule = IfSome rule (λ r. IsItemAt layer (convert r value))
 
 pub from_int32-gives : (layer : Layer) (value : Stored) → is_stored_as physical.Int32 value ≡ true → Gives layer value (from_int32 layer)
-from_int32-gives DataType-F.UInt8 value e = to_item DataType-F.UInt8 (unsigned 8) refl _ (low 8 value)
-from_int32-gives DataType-F.UInt16 value e = to_item DataType-F.UInt16 (unsigned 16) refl _ (low 16 value)
-from_int32-gives DataType-F.UInt32 value e = to_item DataType-F.UInt32 (unsigned 32) refl _ (low 32 value)
-from_int32-gives DataType-F.Int8 value e = to_item DataType-F.Int8 (signed 8) refl _ (low8 value)
-from_int32-gives DataType-F.Int16 value e = to_item DataType-F.Int16 (signed 16) refl _ (low16 value)
-from_int32-gives DataType-F.Int32 value e = to_item DataType-F.Int32 (signed 32) refl _ (keep32 value e)
-from_int32-gives DataType-F.Date32 value e = to_item DataType-F.Date32 (signed 32) refl _ (keep32 value e)
-from_int32-gives (DataType-F.Time32 unit) value e = to_item (DataType-F.Time32 unit) (signed 32) refl _ (keep32 value e)
-from_int32-gives (DataType-F.Decimal p s) value e = to_item (DataType-F.Decimal p s) (signed 128) refl _ (wider 2147483647 (2 ^ 127 - 1) (leb-true 2147483647 (2 ^ 127 - 1) refl) _ (keep32 value e))
-from_int32-gives DataType-F.Date64 value e = to_item DataType-F.Date64 (signed 64) refl _ (scale 86400000 true value)
+from_int32-gives DataType-F.UInt8 value e = to_item DataType-F.UInt8 (unsigned_range 8) refl _ (low 8 value)
+from_int32-gives DataType-F.UInt16 value e = to_item DataType-F.UInt16 (unsigned_range 16) refl _ (low 16 value)
+from_int32-gives DataType-F.UInt32 value e = to_item DataType-F.UInt32 (unsigned_range 32) refl _ (low 32 value)
+from_int32-gives DataType-F.Int8 value e = to_item DataType-F.Int8 (signed_range 8) refl _ (low8 value)
+from_int32-gives DataType-F.Int16 value e = to_item DataType-F.Int16 (signed_range 16) refl _ (low16 value)
+from_int32-gives DataType-F.Int32 value e = to_item DataType-F.Int32 (signed_range 32) refl _ (keep32 value e)
+from_int32-gives DataType-F.Date32 value e = to_item DataType-F.Date32 (signed_range 32) refl _ (keep32 value e)
+from_int32-gives (DataType-F.Time32 unit) value e = to_item (DataType-F.Time32 unit) (signed_range 32) refl _ (keep32 value e)
+from_int32-gives (DataType-F.Decimal p s) value e = to_item (DataType-F.Decimal p s) (signed_range 128) refl _ (wider 2147483647 (2 ^ 127 - 1) (leb-true 2147483647 (2 ^ 127 - 1) refl) _ (keep32 value e))
+from_int32-gives DataType-F.Date64 value e = to_item DataType-F.Date64 (signed_range 64) refl _ (scale 86400000 true value)
 from_int32-gives _ value e = tt
 
 pub from_int64-gives : (logical : Option PrimitiveLogicalType) (layer : Layer) (value : Stored) → is_stored_as physical.Int64 value ≡ true → Gives layer value (from_int64 logical layer)
-from_int64-gives logical DataType-F.UInt32 value e = to_item DataType-F.UInt32 (unsigned 32) refl _ (low 32 value)
-from_int64-gives logical DataType-F.UInt64 value e = to_item DataType-F.UInt64 (unsigned 64) refl _ (low 64 value)
-from_int64-gives logical DataType-F.Int64 value e = to_item DataType-F.Int64 (signed 64) refl _ (keep64 value e)
-from_int64-gives logical DataType-F.Date64 value e = to_item DataType-F.Date64 (signed 64) refl _ (keep64 value e)
-from_int64-gives logical (DataType-F.Time64 unit) value e = to_item (DataType-F.Time64 unit) (signed 64) refl _ (keep64 value e)
-from_int64-gives logical (DataType-F.Duration unit) value e = to_item (DataType-F.Duration unit) (signed 64) refl _ (keep64 value e)
-from_int64-gives logical (DataType-F.Decimal p s) value e = to_item (DataType-F.Decimal p s) (signed 128) refl _ (wider 9223372036854775807 (2 ^ 127 - 1) (leb-true 9223372036854775807 (2 ^ 127 - 1) refl) _ (keep64 value e))
-from_int64-gives logical (DataType-F.Timestamp unit zone) value e = to_item (DataType-F.Timestamp unit zone) (signed 64) refl _ (scale (unit_factor logical unit).0 (unit_factor logical unit).1 value)
+from_int64-gives logical DataType-F.UInt32 value e = to_item DataType-F.UInt32 (unsigned_range 32) refl _ (low 32 value)
+from_int64-gives logical DataType-F.UInt64 value e = to_item DataType-F.UInt64 (unsigned_range 64) refl _ (low 64 value)
+from_int64-gives logical DataType-F.Int64 value e = to_item DataType-F.Int64 (signed_range 64) refl _ (keep64 value e)
+from_int64-gives logical DataType-F.Date64 value e = to_item DataType-F.Date64 (signed_range 64) refl _ (keep64 value e)
+from_int64-gives logical (DataType-F.Time64 unit) value e = to_item (DataType-F.Time64 unit) (signed_range 64) refl _ (keep64 value e)
+from_int64-gives logical (DataType-F.Duration unit) value e = to_item (DataType-F.Duration unit) (signed_range 64) refl _ (keep64 value e)
+from_int64-gives logical (DataType-F.Decimal p s) value e = to_item (DataType-F.Decimal p s) (signed_range 128) refl _ (wider 9223372036854775807 (2 ^ 127 - 1) (leb-true 9223372036854775807 (2 ^ 127 - 1) refl) _ (keep64 value e))
+from_int64-gives logical (DataType-F.Timestamp unit zone) value e = to_item (DataType-F.Timestamp unit zone) (signed_range 64) refl _ (scale (unit_factor logical unit).0 (unit_factor logical unit).1 value)
 from_int64-gives logical _ value e = tt
 
 pub has_unit : (unit : TimeUnit) → T (ltb 0 (1000000000 / per_second unit))
@@ -202,7 +202,7 @@ has_unit Microsecond = tt
 has_unit Nanosecond = tt
 
 pub from_int96-gives : (layer : Layer) (value : Stored) → Gives layer value (from_int96 layer)
-from_int96-gives (DataType-F.Timestamp unit zone) value = to_item (DataType-F.Timestamp unit zone) (signed 64) refl _ (since (1000000000 / per_second unit) (has_unit unit) value)
+from_int96-gives (DataType-F.Timestamp unit zone) value = to_item (DataType-F.Timestamp unit zone) (signed_range 64) refl _ (since (1000000000 / per_second unit) (has_unit unit) value)
 from_int96-gives _ value = tt
 
 pub from_boolean-gives : (layer : Layer) (value : Stored) → is_stored_as physical.Boolean value ≡ true → Gives layer value (from_boolean layer)
@@ -247,7 +247,7 @@ same_size size wanted (Number n) e h = absurd (false≢true e)
 same_size size wanted (Bit b) e h = absurd (false≢true e)
 same_size size wanted (Words a b c) e h = absurd (false≢true e)
 
-decimal : (size : ℕ) (value : Stored) → is_stored_as (physical.FixedLenByteArray size) value ≡ true → (nat_lt 0 size && nat_le size 16) ≡ true → Within (signed 128) (convert BigEndian value)
+decimal : (size : ℕ) (value : Stored) → is_stored_as (physical.FixedLenByteArray size) value ≡ true → (nat_lt 0 size && nat_le size 16) ≡ true → Within (signed_range 128) (convert BigEndian value)
 decimal size (Octets bytes) e h = within_mag (2 ^ 127 - 1) (big_endian bytes)
     (big_endian-mag size bytes (eqb-true (length bytes) size e) (ltb-true 0 size (and_parts _ _ h).0) (leb-true size 16 (and_parts _ _ h).1))
 decimal size (Number n) e h = tt
@@ -258,9 +258,9 @@ pub from_fixed-gives : (size : ℕ) (layer : Layer) (value : Stored) → is_stor
 from_fixed-gives size (DataType-F.FixedSizeBinary wanted) value e =
     when (nat_lt 0 size && size == wanted) (DataType-F.FixedSizeBinary wanted) value Keep (λ h. same_size size wanted value e (and_parts _ _ h).1)
 from_fixed-gives size (DataType-F.Decimal p s) value e =
-    when (nat_lt 0 size && nat_le size 16) (DataType-F.Decimal p s) value BigEndian (λ h. to_item (DataType-F.Decimal p s) (signed 128) refl _ (decimal size value e h))
+    when (nat_lt 0 size && nat_le size 16) (DataType-F.Decimal p s) value BigEndian (λ h. to_item (DataType-F.Decimal p s) (signed_range 128) refl _ (decimal size value e h))
 from_fixed-gives size (DataType-F.Interval YearMonth) value e =
-    when (size == 12) (DataType-F.Interval YearMonth) value Months (λ h. to_item (DataType-F.Interval YearMonth) (signed 32) refl _ (months value))
+    when (size == 12) (DataType-F.Interval YearMonth) value Months (λ h. to_item (DataType-F.Interval YearMonth) (signed_range 32) refl _ (months value))
 from_fixed-gives size (DataType-F.Interval DayTime) value e = when (size == 12) (DataType-F.Interval DayTime) value DaysAndMilliseconds (λ h. days value)
 from_fixed-gives size _ value e = tt
 
@@ -285,7 +285,7 @@ entry_from_int32-gives DataType-F.Int16 value e = from_int32-gives DataType-F.In
 entry_from_int32-gives DataType-F.Int32 value e = from_int32-gives DataType-F.Int32 value e
 entry_from_int32-gives DataType-F.Date32 value e = from_int32-gives DataType-F.Date32 value e
 entry_from_int32-gives (DataType-F.Time32 unit) value e = from_int32-gives (DataType-F.Time32 unit) value e
-entry_from_int32-gives (DataType-F.Interval YearMonth) value e = to_item (DataType-F.Interval YearMonth) (signed 32) refl _ (keep32 value e)
+entry_from_int32-gives (DataType-F.Interval YearMonth) value e = to_item (DataType-F.Interval YearMonth) (signed_range 32) refl _ (keep32 value e)
 entry_from_int32-gives _ value e = tt
 
 entry_from_int64-gives : (logical : Option PrimitiveLogicalType) (layer : Layer) (value : Stored) → is_stored_as physical.Int64 value ≡ true → Gives layer value (entry_from_int64 logical layer)

@@ -10,7 +10,7 @@ use Rattle.std.proofs.lemmas.Simd.{map-map}
 use Rattle.columns_core.specs.Causes.{ExternalFormat, IsOneOf, cause_of, unless}
 use Rattle.columns_core.specs.declared.cell.Cell.{Cell, Bytes}
 use Rattle.columns_core.specs.declared.error.Error.{Error}
-use Rattle.columns_core.specs.Fixed.{pieces}
+use Rattle.columns_core.specs.Fixed.{fixed_pieces}
 use Rattle.parquet_encoding.specs.Places.{bytes_in, places_of}
 use Rattle.parquet_encoding.specs.Plain.{plain_fixed}
 use Rattle.parquet_encoding.proofs.FixedLemmas.{chunks_in, places-chunks, steps}
@@ -54,7 +54,7 @@ at_places size bytes count left there is =
     ∙ ap (λ o. map (bytes_in bytes) (unwrap_or o [])) (sym places))
 
 -- a part of plain values, cut into items
-pub cut_part : (size own count : ℕ) (part : List ℕ) (values : List (List ℕ)) → 0 < size → own ≡ size → length part ≡ count * own → first_chunks own count part ≡ values → pieces size part ≡ values
+pub cut_part : (size own count : ℕ) (part : List ℕ) (values : List (List ℕ)) → 0 < size → own ≡ size → length part ≡ count * own → first_chunks own count part ≡ values → fixed_pieces size part ≡ values
 cut_part size own count part values some same long is =
     pieces-chunks size part ∙ ap (λ n. first_chunks size n part) (ap (λ n. n / size) (long ∙ ap (λ n. count * n) same) ∙ mul-div_cancel count some) ∙ ap (λ n. first_chunks n count part) (sym same) ∙ is
 

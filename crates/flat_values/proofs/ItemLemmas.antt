@@ -7,7 +7,7 @@ use Rattle.std.proofs.Math.Nat.{mul-div_cancel, mul-mod_left}
 use Rattle.std.proofs.Math.Seq.{take-length}
 use Rattle.std.proofs.lemmas.List.{drop-drop, length-append, length-drop, length-replicate, replicate-append-replicate, take-append-drop, take-append-le, drop-append-le, take_all}
 use Rattle.std.proofs.lemmas.List.FromFn.{fill_by_all}
-use Rattle.columns_core.specs.Fixed.{pieces}
+use Rattle.columns_core.specs.Fixed.{fixed_pieces}
 use Rattle.flat_values.specs.FixedItems.{FixedItems}
 
 pub length-chunks : (size n : ℕ) (bytes : List ℕ) → length (first_chunks size n bytes) ≡ n
@@ -22,7 +22,7 @@ chunk_at size (suc n) (suc k) bytes lt =
     chunk_at size n k (drop size bytes) (omega (arith, lt)) ∙ ap (take size) (drop-drop (k * size) size bytes ∙ ap (λ m. drop m bytes) place)
 
 -- pieces, one behind the other
-pub pieces-chunks : (size : ℕ) (bytes : List ℕ) → pieces size bytes ≡ first_chunks size (length bytes / size) bytes
+pub pieces-chunks : (size : ℕ) (bytes : List ℕ) → fixed_pieces size bytes ≡ first_chunks size (length bytes / size) bytes
 pieces-chunks size bytes =
     let count = length bytes / size in
     sym (fill_by_all (λ i. take size (drop (i * size) bytes)) (first_chunks size count bytes) count [] (length-chunks size count bytes) (λ k lt. chunk_at size count k bytes lt))
@@ -68,7 +68,7 @@ module _ (size : ℕ) (bytes : List ℕ) (has_size : 0 < size) (whole : length b
   counted = omega (arith, has_size, whole)
 
   -- joined they are the bytes
-  pub joined : concat (pieces size bytes) ≡ bytes
+  pub joined : concat (fixed_pieces size bytes) ≡ bytes
   joined = ap concat (pieces-chunks size bytes) ∙ concat-chunks size (length bytes / size) bytes counted
 
   module _ (more : List ℕ) (n : ℕ) (items : length more ≡ n * size) where
@@ -78,27 +78,27 @@ module _ (size : ℕ) (bytes : List ℕ) (has_size : 0 < size) (whole : length b
     pub whole_with : length (bytes ++ more) % size ≡ 0
     whole_with = ap (λ m. m % size) counted_with ∙ mul-mod_left (length bytes / size + n) size
 
-    pieces-append : pieces size (bytes ++ more) ≡ pieces size bytes ++ first_chunks size n more
+    pieces-append : fixed_pieces size (bytes ++ more) ≡ fixed_pieces size bytes ++ first_chunks size n more
     pieces-append =
         let count : length (bytes ++ more) / size ≡ length bytes / size + n = ap (λ m. m / size) counted_with ∙ mul-div_cancel (length bytes / size + n) has_size in
         pieces-chunks size (bytes ++ more) ∙ chunks-append size (length bytes / size) n (length (bytes ++ more) / size) bytes more count counted
         ∙ ap (λ front. front ++ first_chunks size n more) (sym (pieces-chunks size bytes))
 
   -- one item more
-  pub with_item : (item : List ℕ) → length item ≡ size → pieces size (bytes ++ item) ≡ pieces size bytes ++ item ∷ []
+  pub with_item : (item : List ℕ) → length item ≡ size → fixed_pieces size (bytes ++ item) ≡ fixed_pieces size bytes ++ item ∷ []
   with_item item long =
       let one : size ≡ 1 * size = omega arith in
-      pieces-append item 1 (long ∙ one) ∙ ap (λ own. pieces size bytes ++ own) (one_chunk size item long)
+      pieces-append item 1 (long ∙ one) ∙ ap (λ own. fixed_pieces size bytes ++ own) (one_chunk size item long)
 
   -- a whole number of items more
-  pub with_items : (more : List ℕ) → length more % size ≡ 0 → pieces size (bytes ++ more) ≡ pieces size bytes ++ pieces size more
+  pub with_items : (more : List ℕ) → length more % size ≡ 0 → fixed_pieces size (bytes ++ more) ≡ fixed_pieces size bytes ++ fixed_pieces size more
   with_items more all =
       let count : length more ≡ length more / size * size = omega (arith, has_size, all) in
-      pieces-append more (length more / size) count ∙ ap (λ own. pieces size bytes ++ own) (sym (pieces-chunks size more))
+      pieces-append more (length more / size) count ∙ ap (λ own. fixed_pieces size bytes ++ own) (sym (pieces-chunks size more))
 
   -- so many items of zero bytes more
-  pub with_zeros : (n : ℕ) → pieces size (bytes ++ replicate (n * size) 0) ≡ pieces size bytes ++ replicate n (replicate size 0)
-  with_zeros n = pieces-append (replicate (n * size) 0) n (length-replicate (n * size) 0) ∙ ap (λ own. pieces size bytes ++ own) (chunks-replicate size n)
+  pub with_zeros : (n : ℕ) → fixed_pieces size (bytes ++ replicate (n * size) 0) ≡ fixed_pieces size bytes ++ replicate n (replicate size 0)
+  with_zeros n = pieces-append (replicate (n * size) 0) n (length-replicate (n * size) 0) ∙ ap (λ own. fixed_pieces size bytes ++ own) (chunks-replicate size n)
 
 -- the same item once more
 pub repeated_more : (item : List ℕ) (n : ℕ) → concat (replicate (n + 1) item) ≡ concat (replicate n item) ++ item
@@ -109,24 +109,24 @@ repeated_more item n = let next : n + 1 ≡ suc n = omega arith in ap (λ k. con
 
 -- the same item so many times
 pub with_repeated : (size : ℕ) (item : List ℕ) → 0 < size → length item ≡ size → (n : ℕ) (bytes : List ℕ) → length bytes % size ≡ 0
-    → (pieces size (bytes ++ concat (replicate n item)) ≡ pieces size bytes ++ replicate n item) × (length (bytes ++ concat (replicate n item)) % size ≡ 0)
-with_repeated size item has_size long zero bytes whole = (ap (pieces size) (append-nil bytes) ∙ sym (append-nil (pieces size bytes)), ap (λ l. length l % size) (append-nil bytes) ∙ whole)
+    → (fixed_pieces size (bytes ++ concat (replicate n item)) ≡ fixed_pieces size bytes ++ replicate n item) × (length (bytes ++ concat (replicate n item)) % size ≡ 0)
+with_repeated size item has_size long zero bytes whole = (ap (fixed_pieces size) (append-nil bytes) ∙ sym (append-nil (fixed_pieces size bytes)), ap (λ l. length l % size) (append-nil bytes) ∙ whole)
 with_repeated size item has_size long (suc n) bytes whole =
     let one : size ≡ 1 * size = omega arith in
     let rest = concat (replicate n item) in
     let more : length (bytes ++ item) % size ≡ 0 = whole_with size bytes has_size whole item 1 (long ∙ one) in
     let others = with_repeated size item has_size long n (bytes ++ item) more in
     let split = sym (append_assoc bytes item rest) in (
-      ap (pieces size) split ∙ others.0 ∙ ap (λ front. front ++ replicate n item) (with_item size bytes has_size whole item long) ∙ append_assoc (pieces size bytes) (item ∷ []) (replicate n item),
+      ap (fixed_pieces size) split ∙ others.0 ∙ ap (λ front. front ++ replicate n item) (with_item size bytes has_size whole item long) ∙ append_assoc (fixed_pieces size bytes) (item ∷ []) (replicate n item),
       ap (λ l. length l % size) split ∙ others.1,
     )
 
 -- ---- what a contract sees
 
 abbrev shown : ℕ → List ℕ → FixedItems
-shown size bytes = record { size = size; items = pieces size bytes }
+shown size bytes = record { size = size; items = fixed_pieces size bytes }
 
-pub items_more : (old : FixedItems) (size : ℕ) (bytes new : List ℕ) (own : List (List ℕ)) → shown size bytes ≡ old → pieces size new ≡ pieces size bytes ++ own →
+pub items_more : (old : FixedItems) (size : ℕ) (bytes new : List ℕ) (own : List (List ℕ)) → shown size bytes ≡ old → fixed_pieces size new ≡ fixed_pieces size bytes ++ own →
     shown size new ≡ record { size = old.size; items = old.items ++ own }
 items_more old size bytes new own same more =
     subst (λ (o : FixedItems). shown size new ≡ record { size = o.size; items = o.items ++ own }) same (ap (λ items. record { size = size; items = items }) more)

@@ -8,7 +8,7 @@ use Rattle.columns_core.specs.declared.data_type.TimeUnit.{TimeUnit}
 use Rattle.columns_core.specs.declared.data_type.TimeUnit.TheVariants.{Second, Millisecond, Microsecond, Nanosecond}
 use Rattle.parquet_meta.specs.declared.metadata.PrimitiveLogicalType.TheVariants.{Timestamp}
 use Rattle.parquet_meta.specs.declared.metadata.ParquetTimeUnit.TheVariants.{Milliseconds, Microseconds, Nanoseconds}
-use Rattle.columns_core.specs.Types.{signed}
+use Rattle.columns_core.specs.Types.{signed_range}
 use Rattle.flat_values.specs.CellTypes.{is_in}
 use Rattle.parquet_meta.specs.declared.metadata.PrimitiveLogicalType.{PrimitiveLogicalType}
 use Rattle.flat_values.specs.Conversion.{Item, Value, NotInRange, NotText, scaled}
@@ -78,7 +78,7 @@ pub keeps_order : KeepsOrder
 keeps_order stored unit a b x y e p q =
     let f : ℕ = (unit_factor stored unit).0 in
     let multiply : Bool = (unit_factor stored unit).1 in
-    ap₂ int_le (sym (given_is (is_in (signed 64) (scaled f multiply a)) (scaled f multiply a) x p)) (sym (given_is (is_in (signed 64) (scaled f multiply b)) (scaled f multiply b) y q))
+    ap₂ int_le (sym (given_is (is_in (signed_range 64) (scaled f multiply a)) (scaled f multiply a) x p)) (sym (given_is (is_in (signed_range 64) (scaled f multiply b)) (scaled f multiply b) y q))
     ∙ scaled_keeps f (has_factor stored unit) multiply a b e
 
 has_unit : (unit : TimeUnit) → 0 < 1000000000 / per_second unit
@@ -92,4 +92,4 @@ keeps_order_of_words unit low high day low_b high_b day_b x y e p q =
     let f : ℕ = 1000000000 / per_second unit in
     let a : ℤ = nanoseconds_of low high day in
     let b : ℤ = nanoseconds_of low_b high_b day_b in
-    ap₂ int_le (sym (given_is (is_in (signed 64) a) (scaled f false a) x p)) (sym (given_is (is_in (signed 64) b) (scaled f false b) y q)) ∙ by_keeps f (has_unit unit) a b e
+    ap₂ int_le (sym (given_is (is_in (signed_range 64) a) (scaled f false a) x p)) (sym (given_is (is_in (signed_range 64) b) (scaled f false b) y q)) ∙ by_keeps f (has_unit unit) a b e

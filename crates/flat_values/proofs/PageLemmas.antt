@@ -32,7 +32,7 @@ use Rattle.flat_values.specs.Conversion.{Conversion, Item, Value, NotInRange, No
 use Rattle.flat_values.specs.Items.{page_items}
 use Rattle.flat_values.specs.Pairs.{conversion}
 use Rattle.flat_values.specs.Sound.{is_stored_as, is_item_of, PageHasType}
-use Rattle.columns_core.specs.Types.{signed}
+use Rattle.columns_core.specs.Types.{signed_range}
 use Rattle.flat_values.proofs.ConversionLemmas.{converts_to_type, within_mag, half}
 
 -- what holds of each value that is mapped holds of the result
@@ -59,20 +59,20 @@ all_front p (suc n) (x ∷ xs) h = and_from _ _ (and_parts _ _ h).0 (all_front p
 
 -- ---- numbers of so many bits
 
-pub int32 : (n : ℕ) → is_in (signed 32) (cast_signed w32 n) ≡ true
+pub int32 : (n : ℕ) → is_in (signed_range 32) (cast_signed w32 n) ≡ true
 int32 n = within_mag 2147483647 (cast_signed w32 n) (half (nat_lt n 2147483648) n refl)
 
 half64 : (b : Bool) (n : ℕ) → nat_lt n 9223372036854775808 ≡ b → mag (sel b (pos n) (negsuc (18446744073709551616 - suc n))) ≤ 9223372036854775807
 half64 true n e = omega (arith, ltb-true n 9223372036854775808 e)
 half64 false n e = omega (arith, ltb-false n 9223372036854775808 e)
 
-pub int64 : (n : ℕ) → is_in (signed 64) (cast_signed w64 n) ≡ true
+pub int64 : (n : ℕ) → is_in (signed_range 64) (cast_signed w64 n) ≡ true
 int64 n = within_mag 9223372036854775807 (cast_signed w64 n) (half64 (nat_lt n 9223372036854775808) n refl)
 
-wrapped32 : (z : ℤ) → is_in (signed 32) (int_wrap w32 z) ≡ true
+wrapped32 : (z : ℤ) → is_in (signed_range 32) (int_wrap w32 z) ≡ true
 wrapped32 z = within_mag 2147483647 (int_wrap w32 z) (omega (arith, (SFits-int_wrap w32 z).sfits))
 
-wrapped64 : (z : ℤ) → is_in (signed 64) (int_wrap w64 z) ≡ true
+wrapped64 : (z : ℤ) → is_in (signed_range 64) (int_wrap w64 z) ≡ true
 wrapped64 z = within_mag 9223372036854775807 (int_wrap w64 z) (omega (arith, (SFits-int_wrap w64 z).sfits))
 
 -- ---- plain values
@@ -111,11 +111,11 @@ varint-below bytes read e =
     let test = cond_some (nat_lt n.0 18446744073709551616) n read more in
     subst (λ (m : ℕ). m < 18446744073709551616) (ap (λ (r : ℕ × List ℕ). r.0) test.1) (ltb-true n.0 18446744073709551616 test.0))
 
-sums_stored : (value : ℤ) (deltas : List ℤ) → is_in (signed 64) value ≡ true → list_all (is_in (signed 64)) (running_sums value deltas) ≡ true
+sums_stored : (value : ℤ) (deltas : List ℤ) → is_in (signed_range 64) value ≡ true → list_all (is_in (signed_range 64)) (running_sums value deltas) ≡ true
 sums_stored value [] h = and_from _ _ h refl
 sums_stored value (delta ∷ deltas) h = and_from _ _ h (sums_stored (int_wrap w64 (value +ℤ delta)) deltas (wrapped64 (value +ℤ delta)))
 
-delta_numbers : (count : ℕ) (bytes : List ℕ) (read : List ℤ × List ℕ) → delta_binary count bytes ≡ Some read → list_all (is_in (signed 64)) read.0 ≡ true
+delta_numbers : (count : ℕ) (bytes : List ℕ) (read : List ℤ × List ℕ) → delta_binary count bytes ≡ Some read → list_all (is_in (signed_range 64)) read.0 ≡ true
 unfolding delta_binary
 delta_numbers count bytes read e =
     option_and_then_some _ (shape_at bytes) read e (λ shape a more.
@@ -124,7 +124,7 @@ delta_numbers count bytes read e =
     let sums = running_sums (zigzag first.0) deltas.0 in
     let test = given_some (shape.0.total == count) (take count sums, deltas.1) read last in
     let small = within_mag 9223372036854775807 (zigzag first.0) (half_of (first.0 % 2 == 0) first.0 (varint-below shape.1 first b)) in
-    subst (λ (r : List ℤ × List ℕ). list_all (is_in (signed 64)) r.0 ≡ true) test.1 (all_front _ count sums (sums_stored (zigzag first.0) deltas.0 small)))))
+    subst (λ (r : List ℤ × List ℕ). list_all (is_in (signed_range 64)) r.0 ≡ true) test.1 (all_front _ count sums (sums_stored (zigzag first.0) deltas.0 small)))))
 
 delta_stored : (type : PhysicalType) (bytes : List ℕ) (count : ℕ) (values : List Stored) → delta_values type bytes count ≡ Some values → AllStored type values
 unfolding delta_values

@@ -7,7 +7,7 @@ use Rattle.columns_core.specs.declared.data_type.DataType.{DataType}
 use Rattle.columns_core.specs.declared.error.Error.{Error}
 use Rattle.parquet_page.specs.Content.{Content, DataContent, DictContent}
 use Rattle.page_decoding.specs.Bytes.{cell_bytes, fits_most}
-use Rattle.page_decoding.specs.Chunks.{GivesNext, IfGiven, Reads}
+use Rattle.page_decoding.specs.Chunks.{GivesFirstChunk, IfGiven, ReadsChunks}
 use Rattle.page_decoding.specs.Outcome.{Outcome}
 use Rattle.page_decoding.specs.Standing.{NoneComes, Standing, still_wanted}
 
@@ -40,11 +40,11 @@ module _ {X : Type 0} (type_of : X → DataType) (shown : X → List Cell) where
   -- An array of the first chunk of the rows that are wanted, whose bytes fit, and the others are left; or an error that tells of these
   -- rows; or none is wanted. The pages that were lent for it are steps.
   pub record GivesColumn (old : ColumnLeft) (result : Option (Result X Error)) (new : ColumnLeft) (steps steps_now : ℕ) : Type 0 where
-    pub chunk : GivesNext shown old.decoding.most_bytes old.size (wanted old) (wanted new) result
+    pub chunk : GivesFirstChunk shown old.decoding.most_bytes old.size (wanted old) (wanted new) result
     pub typed : IfGiven result (λ array. type_of array ≡ old.data_type)
     pub fits : IfGiven result (λ array. fits_most old.decoding.most_bytes (sum_by cell_bytes (shown array)) ≡ true)
     pub pages :
-        Reads shown old.decoding.entries old.decoding.outcomes old.decoding.most_bytes old.size result
+        ReadsChunks shown old.decoding.entries old.decoding.outcomes old.decoding.most_bytes old.size result
         old.pages new.pages old.causes old.standing new.standing steps steps_now old.lent new.lent
     pub end : IfNone result (NoneComes new.standing.remaining new.pages new.causes)
     pub ended : wanted old ≡ [] → NoneComes old.standing.remaining old.pages old.causes → result ≡ None

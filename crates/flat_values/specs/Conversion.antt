@@ -5,7 +5,7 @@ use Rattle.std.specs.Str.{is_utf8}
 use Rattle.parquet_base.specs.Bytes.{little_endian}
 use Rattle.columns_core.specs.declared.cell.Cell.{Cell, Null, Bool as Truth, Int, DaysMs, Text, Bytes}
 use Rattle.parquet_page.specs.Stored.{Stored, Number, Truth as Bit, Words, Octets}
-use Rattle.columns_core.specs.Types.{signed}
+use Rattle.columns_core.specs.Types.{signed_range}
 use Rattle.flat_values.specs.CellTypes.{is_in}
 use Rattle.flat_values.specs.Units.{nanoseconds_of}
 
@@ -40,8 +40,8 @@ pub data Conversion : Type 0 where
 -- ---- numbers
 
 -- the low bits of a number in two's complement
-abbrev pub low_bits : ℕ → ℤ → ℤ
-low_bits bits n = int_rem_euclid n (pos (2 ^ bits))
+abbrev pub modulo_bits : ℕ → ℤ → ℤ
+modulo_bits bits n = int_rem_euclid n (pos (2 ^ bits))
 
 -- a pattern of bits as a number with a sign
 abbrev pub with_sign : ℕ → ℕ → ℤ
@@ -54,15 +54,15 @@ scaled factor false n = int_div n (pos factor)
 
 -- a number of 64 bits, if it is one
 abbrev pub int64 : ℤ → Item
-int64 n = if is_in (signed 64) n then Value (Int n) else NotInRange
+int64 n = if is_in (signed_range 64) n then Value (Int n) else NotInRange
 
 -- Also in a coarser unit the nanoseconds themselves have to be a number of 64 bits.
 abbrev pub since_epoch : ℕ → ℤ → Item
-since_epoch unit nanoseconds = if is_in (signed 64) nanoseconds then Value (Int (int_div nanoseconds (pos unit))) else NotInRange
+since_epoch unit nanoseconds = if is_in (signed_range 64) nanoseconds then Value (Int (int_div nanoseconds (pos unit))) else NotInRange
 
 -- Also of low bits the nanoseconds themselves have to be a number of 64 bits.
 abbrev pub low_nanoseconds : ℤ → Item
-low_nanoseconds nanoseconds = if is_in (signed 64) nanoseconds then Value (Int (low_bits 64 nanoseconds)) else NotInRange
+low_nanoseconds nanoseconds = if is_in (signed_range 64) nanoseconds then Value (Int (modulo_bits 64 nanoseconds)) else NotInRange
 
 -- ---- bytes
 
@@ -84,7 +84,7 @@ convert Nulls stored = Value Null
 convert Keep (Bit b) = Value (Truth b)
 convert Keep (Number n) = Value (Int n)
 convert Keep (Octets bytes) = Value (Bytes bytes)
-convert (LowUnsigned bits) (Number n) = Value (Int (low_bits bits n))
+convert (LowUnsigned bits) (Number n) = Value (Int (modulo_bits bits n))
 convert (LowSigned width) (Number n) = Value (Int (int_wrap width n))
 convert (Scale factor multiply) (Number n) = int64 (scaled factor multiply n)
 convert (SinceEpoch unit) (Words low high day) = since_epoch unit (nanoseconds_of low high day)

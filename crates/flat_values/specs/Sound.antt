@@ -8,7 +8,7 @@ use Rattle.parquet_meta.specs.declared.metadata.PhysicalType.TheVariants.{Boolea
 use Rattle.parquet_meta.specs.declared.metadata.PrimitiveType.{PrimitiveType}
 use Rattle.parquet_page.specs.Content.{DataContent, DictContent}
 use Rattle.parquet_page.specs.Stored.{Stored, Number, Truth, Words, Octets}
-use Rattle.columns_core.specs.Types.{signed}
+use Rattle.columns_core.specs.Types.{signed_range}
 use Rattle.flat_values.specs.CellTypes.{is_in, is_cell_of}
 use Rattle.flat_values.specs.Conversion.{Conversion, Item, Value, NotInRange, NotText, convert}
 use Rattle.flat_values.specs.Ends.{stored_end}
@@ -18,8 +18,8 @@ use Rattle.flat_values.specs.Pairs.{conversion}
 -- a value that a column of this type stores
 abbrev pub is_stored_as : PhysicalType → Stored → Bool
 is_stored_as Boolean (Truth b) = true
-is_stored_as Int32 (Number n) = is_in (signed 32) n
-is_stored_as Int64 (Number n) = is_in (signed 64) n
+is_stored_as Int32 (Number n) = is_in (signed_range 32) n
+is_stored_as Int64 (Number n) = is_in (signed_range 64) n
 is_stored_as Int96 (Words low high day) = true
 is_stored_as ByteArray (Octets bytes) = true
 is_stored_as (FixedLenByteArray size) (Octets bytes) = length bytes == size

@@ -97,7 +97,8 @@ impl<T: NativeType> DecodedNumbers<T> {
         ensures array { IfOk result (λ array.
             array ≡ record { data_type = data_type; items = marked self.values.items self.validity }) }
         ensures ok { IfOk result (λ _. IsTrue (T.stores data_type)) }
-        ensures err { IfErr result (λ e. IsTrue (is_invalid_argument e) × (IsTrue (T.stores data_type) → ⊥)) }
+        ensures err { IfErr result (λ e.
+            IsTrue (is_invalid_argument e) × (IsTrue (T.stores data_type) → ⊥)) }
     {
         let DecodedNumbers { values, validity } = self;
         PrimitiveArray::try_new(data_type, values, freeze_mask(validity))
@@ -109,7 +110,8 @@ impl<T: NativeType> DecodedNumbers<T> {
         ensures array { IfOk result (λ array.
             array ≡ record { data_type = data_type; items = marked self.values.items self.validity }) }
         ensures ok { IfOk result (λ _. IsTrue (T.stores data_type)) }
-        ensures err { IfErr result (λ e. IsTrue (is_invalid_argument e) × (IsTrue (T.stores data_type) → ⊥)) }
+        ensures err { IfErr result (λ e.
+            IsTrue (is_invalid_argument e) × (IsTrue (T.stores data_type) → ⊥)) }
     {
         let DecodedNumbers { values, validity } = self;
         MutablePrimitiveArray::try_new(data_type, values, freeze_mask(validity))

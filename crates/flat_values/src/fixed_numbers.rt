@@ -1,7 +1,7 @@
 //! Numbers of a column of byte strings of one size, read and converted.
 ghost use Rattle.std.specs.Prelude.{◌≡◌, ◌<◌, ◌%◌, IsTrue, None, Some, refl, IfOk, IfErr, OnOk, IsSome, length, take, drop, map, option_map};
 ghost use Rattle.columns_core.specs.Causes.{ComesOf, IsWantOfMemory};
-ghost use Rattle.columns_core.specs.Fixed.{pieces};
+ghost use Rattle.columns_core.specs.Fixed.{fixed_pieces};
 ghost use Rattle.page_decoding.specs.Outcome.{causes_in};
 ghost use Rattle.flat_values.specs.Added.{Adds};
 ghost use Rattle.flat_values.specs.Decoded.{IsMaskFor};
@@ -38,7 +38,7 @@ fn extend_strings<T: NativeType, C: ConvertFixed<T>>(
     requires some { 0 < size }
     requires whole { length bytes.now % size ≡ 0 }
     ensures { OnOk result (Adds T.cell values.old.items values.new.items
-        (map (λ value. stored_outcome (C.rule rule) (Octets value)) (pieces size bytes.now))) }
+        (map (λ value. stored_outcome (C.rule rule) (Octets value)) (fixed_pieces size bytes.now))) }
 {
     values.extend(
         bytes

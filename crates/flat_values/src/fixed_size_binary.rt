@@ -3,7 +3,7 @@ ghost use Rattle.std.specs.Prelude.{◌≡◌, ◌<◌, ◌+◌, ◌*◌, ◌%�
 ghost use Rattle.std.specs.List.{concat};
 ghost use Rattle.columns_core.specs.Causes.{IsWantOfMemory, is_invalid_argument};
 ghost use Rattle.columns_core.specs.ElementType.{fixed_size};
-ghost use Rattle.columns_core.specs.Fixed.{pieces};
+ghost use Rattle.columns_core.specs.Fixed.{fixed_pieces};
 ghost use Rattle.page_decoding.specs.Queue.{IsChunkSize};
 ghost use Rattle.page_decoding.specs.Pushing.{GrowsByBlank};
 ghost use Rattle.flat_values.specs.FixedItems.{AreOfSize};
@@ -24,14 +24,14 @@ pub struct FixedSizeBinary {
 
 impl Model for FixedSizeBinary {
     ghost use Rattle.std.specs.Prelude.{◌≡◌, ◌<◌, ◌%◌, length};
-    ghost use Rattle.columns_core.specs.Fixed.{pieces};
+    ghost use Rattle.columns_core.specs.Fixed.{fixed_pieces};
     ghost use Rattle.flat_values.specs.FixedItems.{FixedItems, fixed_items_code};
 
     ghost Value = { FixedItems };
 
     ghost coded = { fixed_items_code };
 
-    ghost view = { λ inside. record { size = inside.size; items = pieces inside.size inside.values.items } };
+    ghost view = { λ inside. record { size = inside.size; items = fixed_pieces inside.size inside.values.items } };
 
     ghost invariant = { λ inside. (0 < inside.size) × (length inside.values.items % inside.size ≡ 0) };
 }
@@ -59,7 +59,7 @@ impl FixedSizeBinary {
 
     /// The bytes of all items, joined.
     pub fn into_values(self) -> Vec<u8>
-        ensures items { pieces self.size result.items ≡ self.items }
+        ensures items { fixed_pieces self.size result.items ≡ self.items }
         ensures whole { length result.items % self.size ≡ 0 }
         ensures size { 0 < self.size }
     {
@@ -107,7 +107,7 @@ impl FixedSizeBinary {
     pub fn extend_from_plain(&mut self, bytes: &[u8]) -> Result<(), Error>
         requires { length bytes.now % self.old.size ≡ 0 }
         ensures ok { OnOk result (self.new
-            ≡ record self.old { items = self.old.items ++ pieces self.old.size bytes.now }) }
+            ≡ record self.old { items = self.old.items ++ fixed_pieces self.old.size bytes.now }) }
         ensures err { IfErr result (λ e. IsWantOfMemory e × (self.new ≡ self.old)) }
     {
         self.values.extend_from_slice(bytes)?;

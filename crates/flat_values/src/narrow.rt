@@ -1,6 +1,6 @@
 //! Numbers of fewer bits.
 ghost use Rattle.std.specs.Prelude.{◌≡◌, pos};
-ghost use Rattle.flat_values.specs.Conversion.{low_bits};
+ghost use Rattle.flat_values.specs.Conversion.{modulo_bits};
 
 use crate::bulk::{extend_deltas, extend_plain};
 use crate::{Convert, ConvertAll};
@@ -225,19 +225,19 @@ impl Convert<i64, u64> for Narrow {
 }
 
 fn low_byte(x: i32) -> u8
-    ensures { pos result ≡ low_bits 8 x }
+    ensures { pos result ≡ modulo_bits 8 x }
 {
     (x & 0xff) as u8
 }
 
 fn low_half(x: i32) -> u16
-    ensures { pos result ≡ low_bits 16 x }
+    ensures { pos result ≡ modulo_bits 16 x }
 {
     (x & 0xffff) as u16
 }
 
 pub(crate) fn low_word(x: i64) -> u32
-    ensures { pos result ≡ low_bits 32 x }
+    ensures { pos result ≡ modulo_bits 32 x }
 {
     (x & 0xffff_ffff) as u32
 }

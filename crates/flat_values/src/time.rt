@@ -1,7 +1,7 @@
 //! Times: their units, and the day and nanoseconds of older files.
 ghost use Rattle.std.specs.Prelude.{◌≡◌, true, false, ◌/◌, pos, int_div, nat_abs, option_copied, IfOk, IfErr};
 ghost use Rattle.flat_values.specs.CellTypes.{is_in};
-ghost use Rattle.columns_core.specs.Types.{signed};
+ghost use Rattle.columns_core.specs.Types.{signed_range};
 ghost use Rattle.flat_values.specs.Units.{nanoseconds_of, per_second, unit_factor, stored_per_second};
 ghost use Rattle.flat_values.specs.Units.{factor_between as factor_of};
 ghost use Rattle.flat_values.specs.Numbers.{nanoseconds_in, IsFactor};
@@ -17,9 +17,9 @@ const NANOSECONDS_PER_DAY: i128 = 86_400_000_000_000;
 /// The nanoseconds since 1970 of three words: the nanoseconds of the day in two, and the Julian day.
 pub fn int96_to_i64_ns(value: [u32; 3]) -> Result<i64, Error>
     ensures nanoseconds { IfOk result (λ n. n ≡ nanoseconds_in value) }
-    ensures in_range { IfOk result (λ _. is_in (signed 64) (nanoseconds_in value) ≡ true) }
+    ensures in_range { IfOk result (λ _. is_in (signed_range 64) (nanoseconds_in value) ≡ true) }
     ensures refused { IfErr result
-        (λ e. (e ≡ Error.Overflow) × (is_in (signed 64) (nanoseconds_in value) ≡ false)) }
+        (λ e. (e ≡ Error.Overflow) × (is_in (signed_range 64) (nanoseconds_in value) ≡ false)) }
 {
     let [low, high, day] = value;
     narrow(nanoseconds_since_1970(low, high, day))
@@ -35,8 +35,8 @@ fn nanoseconds_since_1970(low: u32, high: u32, day: u32) -> i128
 /// A number of 64 bits, if it is one.
 fn narrow(n: i128) -> Result<i64, Error>
     ensures value { IfOk result (λ y. y ≡ n) }
-    ensures in_range { IfOk result (λ _. is_in (signed 64) n ≡ true) }
-    ensures refused { IfErr result (λ e. (e ≡ Error.Overflow) × (is_in (signed 64) n ≡ false)) }
+    ensures in_range { IfOk result (λ _. is_in (signed_range 64) n ≡ true) }
+    ensures refused { IfErr result (λ e. (e ≡ Error.Overflow) × (is_in (signed_range 64) n ≡ false)) }
 {
     match i64::try_from(n) {
         Ok(narrow) => Ok(narrow),

@@ -14,7 +14,7 @@ use Rattle.page_decoding.specs.Queue.{IsChunkSize, IsCut, first_chunk, joined}
 use Rattle.page_decoding.specs.NextChunk.{BeginsFull, Ends, GivesChunk, IfChunk, IfFault, IsFirstChunk, Moves, OnNoError, Opens, Stays, front_of}
 use Rattle.page_decoding.specs.declared.queue.MaybeNext.TheVariants as next
 use Rattle.page_decoding.specs.Standing.{Advances, AreNeeded, FailsBy, IsFinished, IsNeeded, IsShort, NoneComes, Passes, Rests, Standing, TellsOf, after_page, after_pages, causes_behind, standing, still_wanted}
-use Rattle.page_decoding.specs.Chunks.{GivesNext, IfFailed, IfGiven, Reaches, Reads, lent_behind}
+use Rattle.page_decoding.specs.Chunks.{GivesFirstChunk, IfFailed, IfGiven, Reaches, ReadsChunks, lent_more}
 use Rattle.page_decoding.proofs.NextLemmas.{fails-caused, still-pages}
 
 -- ---- one more page
@@ -28,7 +28,7 @@ module _ (entries : DictContent → Result (List Cell) (List Cause)) (outcomes :
   needed-more size s [] page needed need = (need, tt)
   needed-more size s (first ∷ lent_pages) page needed need = (needed.0, needed-more size (after_page entries outcomes s first) lent_pages page needed.1 need)
 
-counted-more : (lent : ℕ) (lent_pages : List Content) (page : Content) → lent_behind lent (length (lent_pages ++ page ∷ [])) ≡ raised (lent_behind lent (length lent_pages)) 1
+counted-more : (lent : ℕ) (lent_pages : List Content) (page : Content) → lent_more lent (length (lent_pages ++ page ∷ [])) ≡ raised (lent_more lent (length lent_pages)) 1
 counted-more lent [] page = refl
 counted-more lent (first ∷ lent_pages) page = let long = length-append lent_pages (page ∷ []) in omega (arith, long)
 
@@ -68,8 +68,8 @@ lent-one page (first ∷ second ∷ lent_pages) left e = absurd (omega (arith, a
 module _ {X : Type 0} (shown : X → List Cell) (entries : DictContent → Result (List Cell) (List Cause)) (outcomes : Option (List Cell) → DataContent → List Outcome) (most size : Option ℕ) where
   -- one more page is lent
   one-more : {result : Option (Result X Error)} {old mid new : List Content} {causes : List Cause} {before now after : Standing} {steps steps_now steps_then lent lent_now lent_then : ℕ} (page : Content)
-      → (reads : Reads shown entries outcomes most size None old mid causes before now steps steps_now lent lent_now) → mid ≡ page ∷ new → list_all is_data new ≡ true → IsNeeded size now → steps_then ≡ steps_now + 1 → lent_then ≡ raised lent_now 1
-      → Reaches shown result (after_page entries outcomes now page) after → IfFailed result (TellsOf entries outcomes most size before (reads.lent_pages ++ page ∷ []) new causes) → Reads shown entries outcomes most size result old new causes before after steps steps_then lent lent_then
+      → (reads : ReadsChunks shown entries outcomes most size None old mid causes before now steps steps_now lent lent_now) → mid ≡ page ∷ new → list_all is_data new ≡ true → IsNeeded size now → steps_then ≡ steps_now + 1 → lent_then ≡ raised lent_now 1
+      → Reaches shown result (after_page entries outcomes now page) after → IfFailed result (TellsOf entries outcomes most size before (reads.lent_pages ++ page ∷ []) new causes) → ReadsChunks shown entries outcomes most size result old new causes before after steps steps_then lent lent_then
   one-more {result = result} {old = old} {mid = mid} {new = new} {before = before} {now = now} {after = after} {lent = lent} page reads first alone need ticked counted reaches tells =
       let N : Standing → Type 0 = λ s. IsNeeded size s in
       let R : Standing → Type 0 = λ s. Reaches shown result s after in
@@ -86,8 +86,8 @@ module _ {X : Type 0} (shown : X → List Cell) (entries : DictContent → Resul
 
   -- no more page is lent
   no-more : {result : Option (Result X Error)} {old mid new : List Content} {causes : List Cause} {before now after : Standing} {steps steps_now steps_then lent lent_now lent_then : ℕ}
-      → (reads : Reads shown entries outcomes most size None old mid causes before now steps steps_now lent lent_now) → new ≡ mid → steps_then ≡ steps_now → lent_then ≡ lent_now
-      → Reaches shown result now after → IfFailed result (TellsOf entries outcomes most size before reads.lent_pages new causes) → Reads shown entries outcomes most size result old new causes before after steps steps_then lent lent_then
+      → (reads : ReadsChunks shown entries outcomes most size None old mid causes before now steps steps_now lent lent_now) → new ≡ mid → steps_then ≡ steps_now → lent_then ≡ lent_now
+      → Reaches shown result now after → IfFailed result (TellsOf entries outcomes most size before reads.lent_pages new causes) → ReadsChunks shown entries outcomes most size result old new causes before after steps steps_then lent lent_then
   no-more {result = result} {after = after} reads same ticked counted reaches tells =
       let R : Standing → Type 0 = λ s. Reaches shown result s after in
       let A : List Content → Type 0 = λ pages. (reads.lent_pages ≡ []) ⊎ (list_all is_data pages ≡ true) in
@@ -103,8 +103,8 @@ module _ {X : Type 0} (shown : X → List Cell) (entries : DictContent → Resul
       }
 
   pub reads-on : {result : Option (Result X Error)} {old mid new : List Content} {causes wrong wrong_now : List Cause} {before now reached after : Standing} {steps steps_now steps_then lent lent_now lent_then : ℕ} (needs : Type 0)
-      → Reads shown entries outcomes most size None old mid causes before now steps steps_now lent lent_now → Moves needs mid new wrong wrong_now steps_now steps_then lent_now lent_then → Advances entries outcomes mid new now reached
-      → (needs → IsNeeded size now) → Reaches shown result reached after → ((lent_pages : List Content) → IfFailed result (TellsOf entries outcomes most size before lent_pages new causes)) → Reads shown entries outcomes most size result old new causes before after steps steps_then lent lent_then
+      → ReadsChunks shown entries outcomes most size None old mid causes before now steps steps_now lent lent_now → Moves needs mid new wrong wrong_now steps_now steps_then lent_now lent_then → Advances entries outcomes mid new now reached
+      → (needs → IsNeeded size now) → Reaches shown result reached after → ((lent_pages : List Content) → IfFailed result (TellsOf entries outcomes most size before lent_pages new causes)) → ReadsChunks shown entries outcomes most size result old new causes before after steps steps_then lent lent_then
   reads-on {result = result} {after = after} needs reads (Stays same causes ticked counted) (Rests still stands) need reaches tells =
       let R : Standing → Type 0 = λ s. Reaches shown result s after in no-more reads same ticked counted (subst R stands reaches) (tells reads.lent_pages)
   reads-on {new = new} needs reads (Stays same causes ticked counted) (Passes page first stands) need reaches tells = absurd (not_behind page new (same ∙ first))
@@ -116,15 +116,15 @@ module _ {X : Type 0} (shown : X → List Cell) (entries : DictContent → Resul
   reads-on needs reads (Ends own none over ticked counted) (Passes page first stands) need reaches tells = cc
 
   -- an error tells of the pages that were lent before it, too
-  tells-all : {old mid : List Content} {causes : List Cause} {before now : Standing} {steps steps_now lent lent_now : ℕ} (new : List Content) (error : Error) (lent_pages : List Content) (reads : Reads shown entries outcomes most size None old mid causes before now steps steps_now lent lent_now)
+  tells-all : {old mid : List Content} {causes : List Cause} {before now : Standing} {steps steps_now lent lent_now : ℕ} (new : List Content) (error : Error) (lent_pages : List Content) (reads : ReadsChunks shown entries outcomes most size None old mid causes before now steps steps_now lent lent_now)
       → TellsOf entries outcomes most size now lent_pages new causes error → TellsOf entries outcomes most size before (reads.lent_pages ++ lent_pages) new causes error
   tells-all {causes = causes} {before = before} new error lent_pages reads told =
       let P : List Outcome → Type 0 = λ rows. IsCausedByChunks most size rows error in
       subst P (sym (ap (λ s. still_wanted entries outcomes s lent_pages (causes_behind new causes)) reads.reached) ∙ still-pages entries outcomes before reads.lent_pages lent_pages (causes_behind new causes)) told
 
   reads-failed : {old mid new : List Content} {causes wrong wrong_now : List Cause} {before now after : Standing} {steps steps_now steps_then lent lent_now lent_then : ℕ} (needs : Type 0) (error : Error)
-      → Reads shown entries outcomes most size None old mid causes before now steps steps_now lent lent_now → Moves needs mid new wrong wrong_now steps_now steps_then lent_now lent_then
-      → (needs → IsNeeded size now) → FailsBy entries outcomes most size mid new causes now error → IsFinished after → Reads shown entries outcomes most size (Some (Err error)) old new causes before after steps steps_then lent lent_then
+      → ReadsChunks shown entries outcomes most size None old mid causes before now steps steps_now lent lent_now → Moves needs mid new wrong wrong_now steps_now steps_then lent_now lent_then
+      → (needs → IsNeeded size now) → FailsBy entries outcomes most size mid new causes now error → IsFinished after → ReadsChunks shown entries outcomes most size (Some (Err error)) old new causes before after steps steps_then lent lent_then
   reads-failed {new = new} {causes = causes} {before = before} {now = now} needs error reads (Stays same wrong ticked counted) need fails finished =
       let T : List Content → Type 0 = λ pages. TellsOf entries outcomes most size now pages new causes error in
       let none = lent-none fails.lent_pages new (same ∙ fails.split) in
@@ -152,7 +152,7 @@ module _ {X : Type 0} (shown : X → List Cell) (entries : DictContent → Resul
   none-still (page ∷ lent_pages) old mid causes before now split needed reached (inl none) = absurd (omega (arith, none, needed.0.0))
   none-still (page ∷ lent_pages) old mid causes before now split needed reached (inr over) = let e : [] ≡ page ∷ (lent_pages ++ mid) = sym over.none ∙ split in cc
 
-  pub reads-no_error : {old mid new : List Content} {causes : List Cause} {before now : Standing} {steps steps_now lent lent_now : ℕ} (error : Error) → Reads shown entries outcomes most size None old mid causes before now steps steps_now lent lent_now
+  pub reads-no_error : {old mid new : List Content} {causes : List Cause} {before now : Standing} {steps steps_now lent lent_now : ℕ} (error : Error) → ReadsChunks shown entries outcomes most size None old mid causes before now steps steps_now lent lent_now
       → FailsBy entries outcomes most size mid new causes now error → NoneComes before.remaining old causes → ⊥
   reads-no_error {old = old} {mid = mid} {causes = causes} {before = before} {now = now} error reads fails none = fails.awaited (none-still reads.lent_pages old mid causes before now reads.split reads.needed reads.reached none)
 
@@ -186,7 +186,7 @@ module _ {X Dict : Type 0} (shown : X → List Cell) (dict_shown : Dict → List
   pub gives-next : (chunk : Result X Error) (items items' : List X) (remaining remaining' : ℕ) (dict dict' : Option Dict) (before : Standing) (mid pages : List Content) (wrong causes : List Cause) (old : List Outcome)
       → items' ≡ (if is_ok chunk then items else []) → remaining' ≡ (if is_ok chunk then remaining else 0) → dict' ≡ (if is_ok chunk then dict else None) → still_wanted entries outcomes before mid wrong ≡ old
       → GivesChunk shown size (still_wanted entries outcomes before mid wrong) (still_wanted entries outcomes (standing shown dict_shown items remaining dict) pages causes) (next.Some chunk) → IfFault (next.Some chunk) (FailsBy entries outcomes most size mid pages wrong before)
-      → GivesNext shown most size old (still_wanted entries outcomes (standing shown dict_shown items' remaining' dict') pages causes) (Some chunk)
+      → GivesFirstChunk shown most size old (still_wanted entries outcomes (standing shown dict_shown items' remaining' dict') pages causes) (Some chunk)
   gives-next (Ok item) items items' remaining remaining' dict dict' before mid pages wrong causes old is left told same first cause =
       let P : List Outcome → Type 0 = λ xs. IsFirstChunk shown size xs (still_wanted entries outcomes (standing shown dict_shown items remaining dict) pages causes) item in
       rw (is, left, told) (subst P same first)
@@ -196,9 +196,9 @@ module _ {X Dict : Type 0} (shown : X → List Cell) (dict_shown : Dict → List
 
   pub reads-next : {old mid new : List Content} {causes wrong wrong_now : List Cause} {before now : Standing} {steps steps_now steps_then lent lent_now lent_then : ℕ} (needs : Type 0) (chunk : Result X Error) (items items' : List X) (remaining remaining' : ℕ) (dict dict' : Option Dict)
       → items' ≡ (if is_ok chunk then items else []) → remaining' ≡ (if is_ok chunk then remaining else 0) → dict' ≡ (if is_ok chunk then dict else None)
-      → Reads shown entries outcomes most size None old mid causes before now steps steps_now lent lent_now → Moves needs mid new wrong wrong_now steps_now steps_then lent_now lent_then
+      → ReadsChunks shown entries outcomes most size None old mid causes before now steps steps_now lent lent_now → Moves needs mid new wrong wrong_now steps_now steps_then lent_now lent_then
       → OnNoError (next.Some chunk) (Advances entries outcomes mid new now (standing shown dict_shown (front_of (next.Some chunk) ++ items) remaining dict)) → (needs → IsNeeded size now) → IfFault (next.Some chunk) (FailsBy entries outcomes most size mid new causes now)
-      → Reads shown entries outcomes most size (Some chunk) old new causes before (standing shown dict_shown items' remaining' dict') steps steps_then lent lent_then
+      → ReadsChunks shown entries outcomes most size (Some chunk) old new causes before (standing shown dict_shown items' remaining' dict') steps steps_then lent lent_then
   reads-next needs (Ok item) items items' remaining remaining' dict dict' is left told reads moves advances need cause =
       rw (is, left, told) (reads-on shown entries outcomes most size needs reads moves advances need (reaches-given shown dict_shown item items remaining dict) (λ lent_pages. tt))
   reads-next needs (Err error) items items' remaining remaining' dict dict' is left told reads moves advances need cause =
@@ -206,7 +206,7 @@ module _ {X Dict : Type 0} (shown : X → List Cell) (dict_shown : Dict → List
 
   -- where no row is wanted and none comes, there is no chunk and no error
   pub none-next : {old mid : List Content} {causes : List Cause} {before now : Standing} {steps steps_now lent lent_now : ℕ} (chunk : Result X Error) (new : List Content) (others : List Outcome)
-      → Reads shown entries outcomes most size None old mid causes before now steps steps_now lent lent_now → IfFault (next.Some chunk) (FailsBy entries outcomes most size mid new causes now) → GivesNext shown most size (still_wanted entries outcomes before old causes) others (Some chunk)
+      → ReadsChunks shown entries outcomes most size None old mid causes before now steps steps_now lent lent_now → IfFault (next.Some chunk) (FailsBy entries outcomes most size mid new causes now) → GivesFirstChunk shown most size (still_wanted entries outcomes before old causes) others (Some chunk)
       → still_wanted entries outcomes before old causes ≡ [] → NoneComes before.remaining old causes → Some chunk ≡ None
   none-next {old = old} {causes = causes} {before = before} (Ok item) new others reads cause gives empty none = absurd (no-chunk shown size (still_wanted entries outcomes before old causes) others item empty gives)
   none-next (Err error) new others reads cause gives empty none = absurd (reads-no_error shown entries outcomes most size error reads cause none)

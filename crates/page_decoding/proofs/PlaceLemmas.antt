@@ -16,7 +16,7 @@ use Rattle.parquet_page.specs.declared.validity_part.ValidityPart.{ValidityPart}
 use Rattle.parquet_page.specs.declared.validity_part.ValidityPart.TheVariants.{Run as OfRun, Word as OfWord}
 use Rattle.parquet_page.proofs.PlanLemmas.{kept_as}
 use Rattle.parquet_page.proofs.ValidityLemmas.{length-all, plan-all}
-use Rattle.page_decoding.specs.FilteredLeft.{IsPartOf, IsRunOf, IsWholePart, places_left}
+use Rattle.page_decoding.specs.FilteredLeft.{IsPartOf, IsRunOf, IsWholePart, optional_places}
 
 same-kept : (x y : Bool) → kept_as x ≡ kept_as y → x ≡ y
 same-kept true true e = refl
@@ -100,7 +100,7 @@ part-of limit old new (OfWord word) gives = with-places limit old new (OfWord wo
 
 pub whole-of : (limit : ℕ) (page : DataContent) (old new : OptionalPageValidity) (part : ValidityPart) → GivesPart limit (optional_steps old page) (optional_steps new page) (Some part) → IsLongestPart limit (Some part) (optional_steps new page)
     → IsWholePart limit page old new part
-whole-of limit page old new (OfRun run) gives longest = run-of limit (places_left old page) (places_left new page) run gives longest
+whole-of limit page old new (OfRun run) gives longest = run-of limit (optional_places old page) (optional_places new page) run gives longest
 whole-of limit page old new (OfWord word) gives longest = longest
 
 pub none-left : (places : List Bool) → plan None places ≡ [] → places ≡ []

@@ -8,10 +8,10 @@ use Rattle.std.proofs.lemmas.List.FromFn.{length-range_with_len}
 use Rattle.parquet_page.specs.Content.{DataContent}
 use Rattle.parquet_page.specs.Levels.{present_count}
 use Rattle.parquet_page.specs.Plan.{Pass, Step, is_selected, plan, plan_from}
-use Rattle.parquet_page.specs.Runs.{GivesRun, expand, run_length, run_rows}
+use Rattle.parquet_page.specs.Runs.{GivesRun, expand, run_items, run_rows}
 use Rattle.parquet_base.specs.Intervals.{end, rows_of}
 use Rattle.parquet_base.specs.declared.interval.Interval.{Interval}
-use Rattle.parquet_page.specs.SliceLeft.{GivesRun as SliceGives, IsWalkOver, first_count, first_left, rows_from, rows_left}
+use Rattle.parquet_page.specs.SliceLeft.{GivesSliceRows as SliceGives, IsWalkOver, first_count, first_left, rows_from, rows_left}
 use Rattle.parquet_page.specs.Stretches.{BeginsOtherwise}
 use Rattle.parquet_page.specs.ValidityLeft.{optional_left, step_of}
 use Rattle.parquet_page.specs.ValidityParts.{GivesPart, part_length, part_rows}
@@ -22,7 +22,7 @@ use Rattle.parquet_page.specs.declared.validity_part.ValidityPart.{ValidityPart}
 use Rattle.parquet_page.specs.declared.validity_part.ValidityPart.TheVariants.{Run as OfRun, Word as OfWord}
 use Rattle.parquet_page.proofs.PlanLemmas.{kept_as}
 use Rattle.parquet_page.proofs.ValidityLemmas.{copies-kept, plan-all}
-use Rattle.page_decoding.specs.FilteredLeft.{AreGiven, EndsInterval, IsLongestOf, IsLongestPartOf, IsPageOf, IsPartOf, IsRunOf, IsWholePart, PassesOver, filtered_steps, places_left, selected_rows}
+use Rattle.page_decoding.specs.FilteredLeft.{AreGiven, EndsInterval, IsLongestOf, IsLongestPartOf, IsPageOf, IsPartOf, IsRunOf, IsWholePart, PassesOver, filtered_steps, optional_places, selected_rows}
 use Rattle.page_decoding.specs.declared.filtered_validity.FilteredOptionalPageValidity.{FilteredOptionalPageValidity}
 use Rattle.page_decoding.proofs.FilteredLemmas.{begins, behind-gap, is_range, keeps-rows, none-selected, not-passed, other-step, passes-rows}
 
@@ -37,7 +37,7 @@ pub record Goes (limit : ℕ) (page : DataContent) (old new : FilteredOptionalPa
 -- what passing over rows leaves
 pub record Leaves (page : DataContent) (rows : ℕ) (old new : FilteredOptionalPageValidity) : Type 0 where
   pub levels : IsSome (optional_left new.places page)
-  pub left : places_left new.places page ≡ drop rows (places_left old.places page)
+  pub left : optional_places new.places page ≡ drop rows (optional_places old.places page)
   pub row : new.row ≡ old.row + rows
   pub same_rows : new.rows ≡ old.rows
   pub place : new.place ≡ old.place
@@ -47,11 +47,11 @@ pub record Passes (page : DataContent) (values : ℕ) (old new : FilteredOptiona
   pub is_page : IsPageOf new page
   pub steps : filtered_steps old page ≡ replicate values Pass ++ filtered_steps new page
 
-pub passes : (page : DataContent) (rows values : ℕ) (old new : FilteredOptionalPageValidity) → IsPageOf old page → rows ≤ length (places_left old.places page) → ((k : ℕ) → k < rows → is_selected page.selected (old.row + k) ≡ false)
-    → values ≡ present_count (take rows (places_left old.places page)) → Leaves page rows old new → Passes page values old new
+pub passes : (page : DataContent) (rows values : ℕ) (old new : FilteredOptionalPageValidity) → IsPageOf old page → rows ≤ length (optional_places old.places page) → ((k : ℕ) → k < rows → is_selected page.selected (old.row + k) ≡ false)
+    → values ≡ present_count (take rows (optional_places old.places page)) → Leaves page rows old new → Passes page values old new
 passes page rows values old new is within fails counted leaves =
-    let before = places_left old.places page in
-    let behind = places_left new.places page in
+    let before = optional_places old.places page in
+    let behind = optional_places new.places page in
     let moved = passes-rows page.selected old.row rows values before behind within fails counted leaves.left in
     let size : length before - rows ≡ length behind = sym (ap length leaves.left ∙ length-drop rows before) in
     let W : SliceFiltered → Type 0 = λ rows. IsWalkOver rows (selected_rows page) in
@@ -73,21 +73,21 @@ passes page rows values old new is within fails counted leaves =
     }
 
 -- no selected row is left
-pub ends : (limit : ℕ) (page : DataContent) (rows : ℕ) (old new : FilteredOptionalPageValidity) (result : Option Run) → IsPageOf old page → rows_left old.rows (selected_rows page) ≡ [] → rows ≡ length (places_left old.places page) → Leaves page rows old new
-    → PassesOver (present_count (take rows (places_left old.places page))) result → Goes limit page old new result
+pub ends : (limit : ℕ) (page : DataContent) (rows : ℕ) (old new : FilteredOptionalPageValidity) (result : Option Run) → IsPageOf old page → rows_left old.rows (selected_rows page) ≡ [] → rows ≡ length (optional_places old.places page) → Leaves page rows old new
+    → PassesOver (present_count (take rows (optional_places old.places page))) result → Goes limit page old new result
 ends limit page rows old new result is over all leaves passed =
-    let before = places_left old.places page in
+    let before = optional_places old.places page in
     let values = present_count (take rows before) in
     let fails : (k : ℕ) → k < rows → is_selected page.selected (old.row + k) ≡ false = λ k h. none-selected (is_selected page.selected) old.row (length before) (sym is.rows ∙ over) k (omega (arith, all, h)) in
     let moved = passes page rows values old new is (omega (arith, all)) fails refl leaves in
-    let nothing : length (places_left new.places page) ≡ 0 = omega (arith, ap length leaves.left, length-drop rows before, all) in
-    let none : filtered_steps new page ≡ [] = no_steps (places_left new.places page) nothing in
+    let nothing : length (optional_places new.places page) ≡ 0 = omega (arith, ap length leaves.left, length-drop rows before, all) in
+    let none : filtered_steps new page ≡ [] = no_steps (optional_places new.places page) nothing in
     go result passed moved none where
       no_steps : (places : List Bool) → length places ≡ 0 → plan_from page.selected new.row places ≡ []
       no_steps [] e = refl
       no_steps (place ∷ places) e = absurd (omega (arith, e))
 
-      go : (result : Option Run) → PassesOver (present_count (take rows (places_left old.places page))) result → Passes page (present_count (take rows (places_left old.places page))) old new → filtered_steps new page ≡ [] → Goes limit page old new result
+      go : (result : Option Run) → PassesOver (present_count (take rows (optional_places old.places page))) result → Passes page (present_count (take rows (optional_places old.places page))) old new → filtered_steps new page ≡ [] → Goes limit page old new result
       go None passed moved none = record {
         run = (moved.steps ∙ ap (λ n. replicate n Pass ++ filtered_steps new page) passed ∙ none, none);
         longest = tt;
@@ -103,27 +103,27 @@ ends limit page rows old new result is over all leaves passed =
 -- the rows before the next selected one are not selected
 pub record Nears (page : DataContent) (first taken : ℕ) (old : FilteredOptionalPageValidity) : Type 0 where
   pub low : old.row ≤ first
-  pub high : first < old.row + length (places_left old.places page)
+  pub high : first < old.row + length (optional_places old.places page)
   pub fails : (k : ℕ) → k < first - old.row → is_selected page.selected (old.row + k) ≡ false
   pub passes : is_selected page.selected first ≡ true
 
 pub nears : (page : DataContent) (first taken : ℕ) (old : FilteredOptionalPageValidity) (rest : List ℕ) → IsPageOf old page → 0 < taken → rows_left old.rows (selected_rows page) ≡ range_with_len first taken ++ rest → Nears page first taken old
 nears page first zero old rest is some e = absurd (omega arith)
 nears page first (suc taken) old rest is some e =
-    let own = begins (is_selected page.selected) old.row (length (places_left old.places page)) first (range_with_len (first + 1) taken ++ rest) (sym is.rows ∙ e) in
+    let own = begins (is_selected page.selected) old.row (length (optional_places old.places page)) first (range_with_len (first + 1) taken ++ rest) (sym is.rows ∙ e) in
     record { low = own.low; high = own.high; fails = λ k h. own.fails k (omega (arith, own.low, h)); passes = own.passes }
 
 -- stored values before it are passed over
 pub passes-gap : (limit : ℕ) (page : DataContent) (first taken : ℕ) (old new : FilteredOptionalPageValidity) (run : Run) → IsPageOf old page → Nears page first taken old → Leaves page (first - old.row) old new
-    → PassesOver (present_count (take (first - old.row) (places_left old.places page))) (Some run) → Goes limit page old new (Some run)
+    → PassesOver (present_count (take (first - old.row) (optional_places old.places page))) (Some run) → Goes limit page old new (Some run)
 passes-gap limit page first taken old new run is near leaves passed =
-    let before = places_left old.places page in
+    let before = optional_places old.places page in
     let moved = passes page (first - old.row) (present_count (take (first - old.row) before)) old new is (omega (arith, near.low, near.high)) near.fails refl leaves in
     let there : new.row ≡ first = omega (arith, leaves.row, near.low) in
     let P : Run → Type 0 = λ r. Goes limit page old new (Some r) in
     subst P (sym passed.0) (record {
       run = (moved.steps, passed.1, omega arith);
-      longest = inr (inr (not-passed page.selected new.row (places_left new.places page) (ap (is_selected page.selected) there ∙ near.passes)));
+      longest = inr (inr (not-passed page.selected new.row (optional_places new.places page) (ap (is_selected page.selected) there ∙ near.passes)));
       is_page = moved.is_page;
     })
 
@@ -133,12 +133,12 @@ pub record StandsAt (page : DataContent) (first : ℕ) (old new : FilteredOption
   pub same : filtered_steps old page ≡ filtered_steps new page
   pub row : new.row ≡ first
   pub rows : new.rows ≡ old.rows
-  pub some : 0 < length (places_left new.places page)
+  pub some : 0 < length (optional_places new.places page)
 
 pub stands-at : (page : DataContent) (first taken : ℕ) (old new : FilteredOptionalPageValidity) → IsPageOf old page → Nears page first taken old → Leaves page (first - old.row) old new
-    → PassesOver (present_count (take (first - old.row) (places_left old.places page))) None → StandsAt page first old new
+    → PassesOver (present_count (take (first - old.row) (optional_places old.places page))) None → StandsAt page first old new
 stands-at page first taken old new is near leaves passed =
-    let before = places_left old.places page in
+    let before = optional_places old.places page in
     let moved = passes page (first - old.row) (present_count (take (first - old.row) before)) old new is (omega (arith, near.low, near.high)) near.fails refl leaves in
     record {
       is_page = moved.is_page;
@@ -172,11 +172,11 @@ record GivesRows (page : DataContent) (taken : ℕ) (places : List Bool) (before
   pub is_page : IsPageOf new page
 
 gives-rows : (page : DataContent) (first taken count : ℕ) (places : List Bool) (before old new : FilteredOptionalPageValidity) (rest : List ℕ) → StandsAt page first before old → 0 < taken → rows_left before.rows (selected_rows page) ≡ range_with_len first taken ++ rest
-    → Takes page count old new → places_left old.places page ≡ places ++ places_left new.places page → length places ≡ count → 0 < count → GivesRows page taken places before old new
+    → Takes page count old new → optional_places old.places page ≡ places ++ optional_places new.places page → length places ≡ count → 0 < count → GivesRows page taken places before old new
 gives-rows page first taken count places before old new rest stands some split took front long positive =
     let test = is_selected page.selected in
-    let all = places_left old.places page in
-    let behind = places_left new.places page in
+    let all = optional_places old.places page in
+    let behind = optional_places new.places page in
     let here : rows_left old.rows (selected_rows page) ≡ range_with_len first taken ++ rest = ap (λ rows. rows_left rows (selected_rows page)) stands.rows ∙ split in
     let start : first ≡ took.given.first = same-first taken count first took.given.first rest (rows_left new.rows (selected_rows page)) some positive (sym here ∙ took.given.split) in
     let at : old.row ≡ first = stands.row in
@@ -210,12 +210,12 @@ stepped : (kind : Bool) (n : ℕ) (run : Run) → run ≡ (if kind then Present 
 stepped true n run e = sym (ap step_of e)
 stepped false n run e = sym (ap step_of e)
 
-long : (kind : Bool) (n : ℕ) (run : Run) → run ≡ (if kind then Present n else Null n) → 0 < n → (0 < run_length run)
-long true n run e some = let P : Run → Type 0 = λ r. 0 < run_length r in subst P (sym e) some
-long false n run e some = let P : Run → Type 0 = λ r. 0 < run_length r in subst P (sym e) some
+long : (kind : Bool) (n : ℕ) (run : Run) → run ≡ (if kind then Present n else Null n) → 0 < n → (0 < run_items run)
+long true n run e some = let P : Run → Type 0 = λ r. 0 < run_items r in subst P (sym e) some
+long false n run e some = let P : Run → Type 0 = λ r. 0 < run_items r in subst P (sym e) some
 
 takes : (limit : ℕ) (page : DataContent) (first taken : ℕ) (before old new : FilteredOptionalPageValidity) (run : Run) (rest : List ℕ) → StandsAt page first before old → 0 < taken → taken ≡ min limit (first_left before.rows (selected_rows page))
-    → rows_left before.rows (selected_rows page) ≡ range_with_len first taken ++ rest → IsRunOf taken (places_left old.places page) (places_left new.places page) run → Takes page (run_rows run) old new → Goes limit page before new (Some run)
+    → rows_left before.rows (selected_rows page) ≡ range_with_len first taken ++ rest → IsRunOf taken (optional_places old.places page) (optional_places new.places page) run → Takes page (run_rows run) old new → Goes limit page before new (Some run)
 takes limit page first taken before old new run rest stands some most split own took =
     let count = run_rows run in
     let places = replicate count own.kind in
@@ -232,13 +232,13 @@ takes limit page first taken before old new run rest stands some most split own 
       ended : run_rows run ≡ taken → (run_rows run ≡ limit) ⊎ (EndsInterval before page run ⊎ BeginsOtherwise (step_of run) (filtered_steps new page))
       ended all = elim (cases_lt limit (first_left before.rows (selected_rows page))) [ inl less ↦ inl (omega (arith, all, most, less)) | inr more ↦ inr (inl (own.some, omega (arith, all, most, more))) ]
 
-      otherwise : BeginsOtherwise own.kind (places_left new.places page) → ((k : ℕ) → k < taken → is_selected page.selected (old.row + k) ≡ true) → run_rows run ≤ taken
+      otherwise : BeginsOtherwise own.kind (optional_places new.places page) → ((k : ℕ) → k < taken → is_selected page.selected (old.row + k) ≡ true) → run_rows run ≤ taken
           → (run_rows run ≡ limit) ⊎ (EndsInterval before page run ⊎ BeginsOtherwise (step_of run) (filtered_steps new page))
       otherwise other all within =
           let next = λ (less : run_rows run < taken). ap (is_selected page.selected) took.row ∙ all (run_rows run) less in
           let S : Step → Type 0 = λ step. BeginsOtherwise step (filtered_steps new page) in
           elim (cases_lt (run_rows run) taken) [
-            | inl less ↦ inr (inr (subst S (stepped own.kind (run_rows run) run own.is) (other-step page.selected new.row own.kind (places_left new.places page) (next less) other)))
+            | inl less ↦ inr (inr (subst S (stepped own.kind (run_rows run) run own.is) (other-step page.selected new.row own.kind (optional_places new.places page) (next less) other)))
             | inr more ↦ ended (omega (arith, more, within))
           ]
 
@@ -285,8 +285,8 @@ no-rows limit page rows walk ahead same gives = ap (rows_left walk.rows) (sym sa
 
 -- the call that takes them gives some, since there is one
 pub taken-rows : (limit : ℕ) (page : DataContent) (rows : List Interval) (first taken : ℕ) (before old new : FilteredOptionalPageValidity) (result : Option Run) (rest : List ℕ) → rows ≡ selected_rows page → StandsAt page first before old → 0 < taken
-    → taken ≡ min limit (first_left before.rows (selected_rows page)) → rows_left before.rows (selected_rows page) ≡ range_with_len first taken ++ rest → IfNone result (places_left old.places page ≡ [])
-    → IfSome result (IsRunOf taken (places_left old.places page) (places_left new.places page)) → IfSome result (λ run. AreGiven (run_rows run) (rows_left old.rows rows) (rows_left new.rows rows) new.rows.place) → IfSome result (λ run. new.row ≡ old.row + run_rows run)
+    → taken ≡ min limit (first_left before.rows (selected_rows page)) → rows_left before.rows (selected_rows page) ≡ range_with_len first taken ++ rest → IfNone result (optional_places old.places page ≡ [])
+    → IfSome result (IsRunOf taken (optional_places old.places page) (optional_places new.places page)) → IfSome result (λ run. AreGiven (run_rows run) (rows_left old.rows rows) (rows_left new.rows rows) new.rows.place) → IfSome result (λ run. new.row ≡ old.row + run_rows run)
     → IfSome result (λ run. new.place ≡ new.row) → IsSome (optional_left new.places page) → IsWalkOver new.rows rows → Goes limit page before new result
 taken-rows limit page rows first taken before old new None rest same stands some most split ended own given row place levels walk = absurd (omega (arith, stands.some, ap length ended))
 taken-rows limit page rows first taken before old new (Some run) rest same stands some most split ended own given row place levels walk =
@@ -318,8 +318,8 @@ longest-part limit page first taken before old new (OfRun run) rest stands some 
 longest-part limit page first taken before old new (OfWord word) rest stands some most split whole took = whole
 
 pub taken-part : (limit : ℕ) (page : DataContent) (rows : List Interval) (first taken : ℕ) (before old new : FilteredOptionalPageValidity) (result : Option ValidityPart) (rest : List ℕ) → rows ≡ selected_rows page → StandsAt page first before old → 0 < taken
-    → taken ≡ min limit (first_left before.rows (selected_rows page)) → rows_left before.rows (selected_rows page) ≡ range_with_len first taken ++ rest → IfNone result (places_left old.places page ≡ [])
-    → IfSome result (IsPartOf taken (places_left old.places page) (places_left new.places page)) → IfSome result (IsWholePart taken page old.places new.places) → IfSome result (λ part. AreGiven (part_rows part) (rows_left old.rows rows) (rows_left new.rows rows) new.rows.place) → IfSome result (λ part. new.row ≡ old.row + part_rows part)
+    → taken ≡ min limit (first_left before.rows (selected_rows page)) → rows_left before.rows (selected_rows page) ≡ range_with_len first taken ++ rest → IfNone result (optional_places old.places page ≡ [])
+    → IfSome result (IsPartOf taken (optional_places old.places page) (optional_places new.places page)) → IfSome result (IsWholePart taken page old.places new.places) → IfSome result (λ part. AreGiven (part_rows part) (rows_left old.rows rows) (rows_left new.rows rows) new.rows.place) → IfSome result (λ part. new.row ≡ old.row + part_rows part)
     → IfSome result (λ part. new.place ≡ new.row) → IsSome (optional_left new.places page) → IsWalkOver new.rows rows → GoesPart limit page before new result
 taken-part limit page rows first taken before old new None rest same stands some most split ended own whole given row place levels walk = absurd (omega (arith, stands.some, ap length ended))
 taken-part limit page rows first taken before old new (Some part) rest same stands some most split ended own whole given row place levels walk =

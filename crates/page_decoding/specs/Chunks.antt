@@ -37,10 +37,10 @@ ended chunks = record chunks { waiting = []; remaining = 0; dictionary = None }
 
 -- The first chunk of all rows that are wanted, and the others are left; or an error that tells of what is wrong with them or of a chunk
 -- of them whose bytes do not fit, and none is wanted any more; or none is wanted.
-abbrev pub GivesNext : {X : Type 0} → (X → List Cell) → Option ℕ → Option ℕ → List Outcome → List Outcome → Option (Result X Error) → Type 0
-GivesNext shown most size old new (Some (Ok chunk)) = IsFirstChunk shown size old new chunk
-GivesNext shown most size old new (Some (Err error)) = IsCausedByChunks most size old error × (new ≡ [])
-GivesNext shown most size old new None = (old ≡ []) × (new ≡ [])
+abbrev pub GivesFirstChunk : {X : Type 0} → (X → List Cell) → Option ℕ → Option ℕ → List Outcome → List Outcome → Option (Result X Error) → Type 0
+GivesFirstChunk shown most size old new (Some (Ok chunk)) = IsFirstChunk shown size old new chunk
+GivesFirstChunk shown most size old new (Some (Err error)) = IsCausedByChunks most size old error × (new ≡ [])
+GivesFirstChunk shown most size old new None = (old ≡ []) × (new ≡ [])
 
 -- P of a chunk
 abbrev pub IfGiven : {X : Type 0} → Option (Result X Error) → (X → Type 0) → Type 0
@@ -55,9 +55,9 @@ IfFailed (Some (Err error)) P = P error
 IfFailed None P = Unit {0}
 
 -- the count of pages that were lent, where so many more are lent
-abbrev pub lent_behind : ℕ → ℕ → ℕ
-lent_behind lent zero = lent
-lent_behind lent (suc more) = raised lent (suc more)
+abbrev pub lent_more : ℕ → ℕ → ℕ
+lent_more lent zero = lent
+lent_more lent (suc more) = raised lent (suc more)
 
 -- The reading has come so far, and the rows of the chunk wait no more. After an error no row waits and none is wanted.
 abbrev pub Reaches : {X : Type 0} → (X → List Cell) → Option (Result X Error) → Standing → Standing → Type 0
@@ -67,7 +67,7 @@ Reaches shown None reached now = reached ≡ now
 
 -- These pages were lent, each where one was needed and each in one step. Behind them there are data pages alone. An error tells of
 -- them or, where none is left, of what is wrong behind them.
-pub record Reads {X : Type 0} (shown : X → List Cell) (entries : DictContent → Result (List Cell) (List Cause)) (outcomes : Option (List Cell) → DataContent → List Outcome) (most size : Option ℕ)
+pub record ReadsChunks {X : Type 0} (shown : X → List Cell) (entries : DictContent → Result (List Cell) (List Cause)) (outcomes : Option (List Cell) → DataContent → List Outcome) (most size : Option ℕ)
     (result : Option (Result X Error)) (old new : List Content) (causes : List Cause) (before after : Standing) (steps steps_now lent lent_now : ℕ) : Type 0 where
   pub lent_pages : List Content
   pub split : old ≡ lent_pages ++ new
@@ -76,4 +76,4 @@ pub record Reads {X : Type 0} (shown : X → List Cell) (entries : DictContent �
   pub reached : Reaches shown result (after_pages entries outcomes before lent_pages) after
   pub tells : IfFailed result (TellsOf entries outcomes most size before lent_pages new causes)
   pub ticked : steps_now ≡ steps + length lent_pages
-  pub counted : lent_now ≡ lent_behind lent (length lent_pages)
+  pub counted : lent_now ≡ lent_more lent (length lent_pages)

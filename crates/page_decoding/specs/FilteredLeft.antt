@@ -27,12 +27,12 @@ abbrev pub selected_rows : DataContent → List Interval
 selected_rows page = intervals_of (header_values page.header) page.selected
 
 -- the places that a walk over all rows has still to give
-abbrev pub places_left : OptionalPageValidity → DataContent → List Bool
-places_left walk page = unwrap_or (optional_left walk page) []
+abbrev pub optional_places : OptionalPageValidity → DataContent → List Bool
+optional_places walk page = unwrap_or (optional_left walk page) []
 
 -- what is to be done with the places that are left
 abbrev pub filtered_steps : FilteredOptionalPageValidity → DataContent → List Step
-filtered_steps walk page = plan_from page.selected walk.row (places_left walk.places page)
+filtered_steps walk page = plan_from page.selected walk.row (optional_places walk.places page)
 
 -- how many stored values steps take or pass over
 abbrev pub stored_values : List Step → ℕ
@@ -46,9 +46,9 @@ pub record IsPageOf (walk : FilteredOptionalPageValidity) (page : DataContent) :
   pub levels : IsSome (optional_left walk.places page)
   pub intervals : IsWalkOver walk.rows (selected_rows page)
   pub place : walk.place ≡ walk.rows.place
-  pub row : walk.row + length (places_left walk.places page) ≡ header_values page.header
+  pub row : walk.row + length (optional_places walk.places page) ≡ header_values page.header
   pub fits : header_values page.header < 2 ^ 64
-  pub rows : rows_left walk.rows (selected_rows page) ≡ filter (is_selected page.selected) (range_with_len walk.row (length (places_left walk.places page)))
+  pub rows : rows_left walk.rows (selected_rows page) ≡ filter (is_selected page.selected) (range_with_len walk.row (length (optional_places walk.places page)))
 
 -- a run of selected rows that is all that is left of an interval
 abbrev pub EndsInterval : FilteredOptionalPageValidity → DataContent → Run → Type 0
@@ -89,7 +89,7 @@ pub record IsPartOf (limit : ℕ) (old new : List Bool) (part : ValidityPart) : 
 
 -- a run of all rows of one kind up to a limit, or a word of both kinds
 abbrev pub IsWholePart : ℕ → DataContent → OptionalPageValidity → OptionalPageValidity → ValidityPart → Type 0
-IsWholePart limit page old new (OfRun run) = IsRunOf limit (places_left old page) (places_left new page) run
+IsWholePart limit page old new (OfRun run) = IsRunOf limit (optional_places old page) (optional_places new page) run
 IsWholePart limit page old new (OfWord word) = HasBothKinds word
 
 -- so many of the selected rows are given, up to the row at which the others are looked for

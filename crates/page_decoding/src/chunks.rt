@@ -2,7 +2,7 @@
 ghost use Rattle.std.specs.Prelude.{◌≡◌, IsTrue, if◌then◌else◌, is_ok, All, [], map, None, IfOk, IfErr, IfNone, IfSome, option_map};
 ghost use Rattle.std.specs.Option.{option_copied};
 ghost use Rattle.columns_core.specs.Causes.{is_invalid_argument};
-ghost use Rattle.page_decoding.specs.Chunks.{GivesNext, IfGiven, Reads, ended, standing_of};
+ghost use Rattle.page_decoding.specs.Chunks.{GivesFirstChunk, IfGiven, ReadsChunks, ended, standing_of};
 ghost use Rattle.page_decoding.specs.Column.{DataPagesAre};
 ghost use Rattle.page_decoding.specs.Queue.{IsChunkSize, IsCut};
 ghost use Rattle.page_decoding.specs.Standing.{NoneComes, standing, still_wanted};
@@ -52,14 +52,14 @@ fn read_chunk<I: Pages, D: Decoder, L: Ledger>(
     requires own_dict { IfSome dict.old (D.is_own_dict decoder.now) }
     requires cut { IsCut chunk_size (map D.DecodedState.shown items.old.items) }
     requires own { All (D.is_own decoder.now) items.old.items }
-    ensures chunk { GivesNext D.DecodedState.shown (D.most_bytes decoder.now) chunk_size
+    ensures chunk { GivesFirstChunk D.DecodedState.shown (D.most_bytes decoder.now) chunk_size
         (still_wanted (D.entries decoder.now) (D.outcomes decoder.now)
         (standing D.DecodedState.shown (D.dict_shown decoder.now) items.old.items remaining.old dict.old)
         (I.to_come iter.old) (I.causes iter.old))
         (still_wanted (D.entries decoder.now) (D.outcomes decoder.now)
         (standing D.DecodedState.shown (D.dict_shown decoder.now) items.new.items remaining.new dict.new)
         (I.to_come iter.new) (I.causes iter.new)) result }
-    ensures pages { Reads D.DecodedState.shown (D.entries decoder.now) (D.outcomes decoder.now)
+    ensures pages { ReadsChunks D.DecodedState.shown (D.entries decoder.now) (D.outcomes decoder.now)
         (D.most_bytes decoder.now) chunk_size result (I.to_come iter.old) (I.to_come iter.new)
         (I.causes iter.old) (standing D.DecodedState.shown
         (D.dict_shown decoder.now) items.old.items remaining.old dict.old)
@@ -166,13 +166,13 @@ impl<I: Pages, D: Decoder + Drop> Chunks<I, D> {
         &mut self,
         steps: &mut Steps<L>,
     ) -> Option<Result<D::DecodedState, Error>>
-        ensures chunk { GivesNext D.DecodedState.shown (D.most_bytes self.old.decoder) self.old.size
+        ensures chunk { GivesFirstChunk D.DecodedState.shown (D.most_bytes self.old.decoder) self.old.size
             (still_wanted (D.entries self.old.decoder) (D.outcomes self.old.decoder) (standing_of self.old)
             (I.to_come self.old.pages) (I.causes self.old.pages))
             (still_wanted (D.entries self.new.decoder) (D.outcomes self.new.decoder) (standing_of self.new)
             (I.to_come self.new.pages) (I.causes self.new.pages)) result }
-        ensures pages { Reads D.DecodedState.shown (D.entries self.old.decoder) (D.outcomes self.old.decoder)
-            (D.most_bytes self.old.decoder) self.old.size result (I.to_come self.old.pages)
+        ensures pages { ReadsChunks D.DecodedState.shown (D.entries self.old.decoder)
+            (D.outcomes self.old.decoder) (D.most_bytes self.old.decoder) self.old.size result (I.to_come self.old.pages)
             (I.to_come self.new.pages) (I.causes self.old.pages) (standing_of self.old)
             (standing_of self.new) steps.old steps.new (I.lent_count self.old.pages)
             (I.lent_count self.new.pages) }

@@ -9,7 +9,7 @@ ghost use Rattle.parquet_page.specs.Runs.{GivesRun, run_rows};
 ghost use Rattle.parquet_page.specs.SliceLeft.{IsWalkOver, first_left, rows_left};
 ghost use Rattle.parquet_page.specs.ValidityLeft.{levels_causes, optional_left, page_places};
 ghost use Rattle.parquet_page.specs.ValidityParts.{GivesPart, part_rows};
-ghost use Rattle.page_decoding.specs.FilteredLeft.{AreGiven, IsPartOf, IsRunOf, IsWholePart, PassesOver, intervals_of, places_left};
+ghost use Rattle.page_decoding.specs.FilteredLeft.{AreGiven, IsPartOf, IsRunOf, IsWholePart, PassesOver, intervals_of, optional_places};
 
 use columns_core::Error;
 use parquet_page::{DataPage, Interval, OptionalPageValidity, Run, SliceFiltered, ValidityPart};
@@ -162,9 +162,9 @@ impl FilteredOptionalPageValidity {
         requires page { IsSome (optional_left self.old.places (data_content page.now)) }
         requires fits { self.old.row + rows < 2 ^ 64 }
         ensures run { PassesOver (present_count
-            (take rows (places_left self.old.places (data_content page.now)))) result }
-        ensures left { places_left self.new.places (data_content page.now)
-            ≡ drop rows (places_left self.old.places (data_content page.now)) }
+            (take rows (optional_places self.old.places (data_content page.now)))) result }
+        ensures left { optional_places self.new.places (data_content page.now)
+            ≡ drop rows (optional_places self.old.places (data_content page.now)) }
         ensures page { IsSome (optional_left self.new.places (data_content page.now)) }
         ensures row { self.new.row ≡ self.old.row + rows }
         ensures rows { self.new.rows ≡ self.old.rows }
@@ -188,10 +188,11 @@ impl FilteredOptionalPageValidity {
         requires walk { IsWalkOver self.old.rows rows.now }
         requires some { 0 < limit }
         requires most { limit ≤ first_left self.old.rows rows.now }
-        requires fits { self.old.row + length (places_left self.old.places (data_content page.now)) < 2 ^ 64 }
-        ensures ended { IfNone result (places_left self.old.places (data_content page.now) ≡ []) }
-        ensures run { IfSome result (IsRunOf limit (places_left self.old.places (data_content page.now))
-            (places_left self.new.places (data_content page.now))) }
+        requires fits { self.old.row
+            + length (optional_places self.old.places (data_content page.now)) < 2 ^ 64 }
+        ensures ended { IfNone result (optional_places self.old.places (data_content page.now) ≡ []) }
+        ensures run { IfSome result (IsRunOf limit (optional_places self.old.places (data_content page.now))
+            (optional_places self.new.places (data_content page.now))) }
         ensures given { IfSome result (λ run.
             AreGiven (run_rows run) (rows_left self.old.rows rows.now)
             (rows_left self.new.rows rows.now) self.new.rows.place) }
@@ -219,10 +220,11 @@ impl FilteredOptionalPageValidity {
         requires walk { IsWalkOver self.old.rows rows.now }
         requires some { 0 < limit }
         requires most { limit ≤ first_left self.old.rows rows.now }
-        requires fits { self.old.row + length (places_left self.old.places (data_content page.now)) < 2 ^ 64 }
-        ensures ended { IfNone result (places_left self.old.places (data_content page.now) ≡ []) }
-        ensures part { IfSome result (IsPartOf limit (places_left self.old.places (data_content page.now))
-            (places_left self.new.places (data_content page.now))) }
+        requires fits { self.old.row
+            + length (optional_places self.old.places (data_content page.now)) < 2 ^ 64 }
+        ensures ended { IfNone result (optional_places self.old.places (data_content page.now) ≡ []) }
+        ensures part { IfSome result (IsPartOf limit (optional_places self.old.places (data_content page.now))
+            (optional_places self.new.places (data_content page.now))) }
         ensures whole { IfSome result (IsWholePart limit
             (data_content page.now) self.old.places self.new.places) }
         ensures given { IfSome result (λ part.

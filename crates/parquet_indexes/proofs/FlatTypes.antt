@@ -8,7 +8,7 @@ use Rattle.std.proofs.lemmas.Option.{none-some}
 use Rattle.parquet_base.specs.Reading.{given}
 use Rattle.columns_core.specs.Causes.{Cause, ExternalFormat, NotYetImplemented, unless}
 use Rattle.columns_core.specs.DictionaryType.{entry_type, entry_type_at}
-use Rattle.columns_core.specs.Types.{Layer, signed, unsigned, value_type, value_type_at}
+use Rattle.columns_core.specs.Types.{Layer, signed_range, unsigned_range, value_type, value_type_at}
 use Rattle.columns_core.specs.declared.cell.Cell.{Cell, Int}
 use Rattle.columns_core.specs.declared.data_type.DataType.{DataType, out-DataType}
 use Rattle.columns_core.specs.declared.data_type.DataType.TheOpen.{DataType-F}
@@ -23,7 +23,7 @@ use Rattle.parquet_meta.specs.declared.metadata.PrimitiveType.{PrimitiveType}
 use Rattle.parquet_encoding.proofs.StepLemmas.{some_is}
 use Rattle.parquet_page.specs.Stored.{Stored, Number, Truth, Words, Octets}
 use Rattle.flat_values.specs.CellTypes.{is_cell_at, is_in}
-use Rattle.flat_values.specs.Conversion.{Conversion, Item, Value, NotInRange, NotText, Keep, LowNanoseconds, convert, low_bits}
+use Rattle.flat_values.specs.Conversion.{Conversion, Item, Value, NotInRange, NotText, Keep, LowNanoseconds, convert, modulo_bits}
 use Rattle.flat_values.specs.Pairs.{from_boolean, from_int32, from_int64, from_byte_array, page_conversion, page_from_fixed, page_from_int96, page_from_physical}
 use Rattle.flat_values.specs.Sound.{is_stored_as}
 use Rattle.flat_values.specs.Units.{nanoseconds_of, per_second}
@@ -99,23 +99,23 @@ own_value_type data_type flat = own_values data_type (out-DataType data_type) fl
 
 -- ---- what is read is of the type
 
-low_if : (test : Bool) (n : ℤ) → Within (unsigned 64) (if test then Value (Int (low_bits 64 n)) else NotInRange)
+low_if : (test : Bool) (n : ℤ) → Within (unsigned_range 64) (if test then Value (Int (modulo_bits 64 n)) else NotInRange)
 low_if true n = low_bits_in 64 n
 low_if false n = tt
 
-low_nanoseconds_of : (value : Stored) → Within (unsigned 64) (convert LowNanoseconds value)
-low_nanoseconds_of (Words low high day) = low_if (is_in (signed 64) (nanoseconds_of low high day)) (nanoseconds_of low high day)
+low_nanoseconds_of : (value : Stored) → Within (unsigned_range 64) (convert LowNanoseconds value)
+low_nanoseconds_of (Words low high day) = low_if (is_in (signed_range 64) (nanoseconds_of low high day)) (nanoseconds_of low high day)
 low_nanoseconds_of (Number n) = tt
 low_nanoseconds_of (Truth b) = tt
 low_nanoseconds_of (Octets bytes) = tt
 
 from_int96-gives : (layer : Layer) (value : Stored) → Gives layer value (page_from_int96 layer)
-from_int96-gives DataType-F.UInt64 value = to_item DataType-F.UInt64 (unsigned 64) refl _ (low_nanoseconds_of value)
-from_int96-gives DataType-F.Int64 value = to_item DataType-F.Int64 (signed 64) refl _ (since 1 tt value)
-from_int96-gives DataType-F.Date64 value = to_item DataType-F.Date64 (signed 64) refl _ (since 1 tt value)
-from_int96-gives (DataType-F.Time64 unit) value = to_item (DataType-F.Time64 unit) (signed 64) refl _ (since 1 tt value)
-from_int96-gives (DataType-F.Duration unit) value = to_item (DataType-F.Duration unit) (signed 64) refl _ (since 1 tt value)
-from_int96-gives (DataType-F.Timestamp unit zone) value = to_item (DataType-F.Timestamp unit zone) (signed 64) refl _ (since (1000000000 / per_second unit) (has_unit unit) value)
+from_int96-gives DataType-F.UInt64 value = to_item DataType-F.UInt64 (unsigned_range 64) refl _ (low_nanoseconds_of value)
+from_int96-gives DataType-F.Int64 value = to_item DataType-F.Int64 (signed_range 64) refl _ (since 1 tt value)
+from_int96-gives DataType-F.Date64 value = to_item DataType-F.Date64 (signed_range 64) refl _ (since 1 tt value)
+from_int96-gives (DataType-F.Time64 unit) value = to_item (DataType-F.Time64 unit) (signed_range 64) refl _ (since 1 tt value)
+from_int96-gives (DataType-F.Duration unit) value = to_item (DataType-F.Duration unit) (signed_range 64) refl _ (since 1 tt value)
+from_int96-gives (DataType-F.Timestamp unit zone) value = to_item (DataType-F.Timestamp unit zone) (signed_range 64) refl _ (since (1000000000 / per_second unit) (has_unit unit) value)
 from_int96-gives _ value = tt
 
 from_fixed_page-gives : (size : ℕ) (layer : Layer) (value : Stored) → is_stored_as (physical.FixedLenByteArray size) value ≡ true → Gives layer value (page_from_fixed size layer)

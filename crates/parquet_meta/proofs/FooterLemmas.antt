@@ -6,7 +6,7 @@ use Rattle.std.proofs.lemmas.Bool.{lt-leb}
 use Rattle.std.proofs.lemmas.List.{length-drop, take_all}
 use Rattle.columns_core.specs.declared.error.Part.{Part}
 use Rattle.parquet_base.specs.Reading.{◌>>=◌, given}
-use Rattle.parquet_meta.specs.Fault.{Refuses, error_of}
+use Rattle.parquet_meta.specs.Fault.{IsFaultOf, error_of}
 use Rattle.parquet_meta.specs.File.{meta_data_in, footer_length, footer_at, footer, most_taken}
 use Rattle.parquet_meta.specs.Places.{bytes_at, part_at}
 use Rattle.parquet_meta.specs.Source.{Finds}
@@ -74,7 +74,7 @@ says (Some file) place bytes r at there read =
     ap (λ (o : Option Place). o >>= λ place. meta_data_in (bytes_at file place)) at ∙ ap meta_data_in (part-there file place bytes there) ∙ read
 
 pub refuses : (part : Part) (fault : Fault) (told : Option (List ℕ)) (before now : ℕ) (place : Place) (bytes : List ℕ) → IfSome told (λ file. footer_at file ≡ Some place) → IfSome told (λ file. part_at file place ≡ Some bytes) →
-    Refuses true fault (meta_data_in bytes) → Finds {X = FileMetaData} {A = FileMetaData} (λ metadata. metadata) footer told before now (Err (error_of part fault))
+    IsFaultOf true fault (meta_data_in bytes) → Finds {X = FileMetaData} {A = FileMetaData} (λ metadata. metadata) footer told before now (Err (error_of part fault))
 refuses part faults.Unspelled told before now place bytes at there none = says told place bytes None at there none
 refuses part faults.OutOfMemory told before now place bytes at there want = tt
 

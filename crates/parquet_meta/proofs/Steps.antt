@@ -8,7 +8,7 @@ use Rattle.parquet_thrift.proofs.Lengths.{field_header-takes}
 use Rattle.parquet_thrift.proofs.ValueLemmas.{value-takes, fields-next}
 use Rattle.parquet_meta.specs.declared.fault.Fault.{Fault}
 use Rattle.parquet_meta.specs.declared.fault.Fault.TheVariants as faults
-use Rattle.parquet_meta.specs.Fault.{Refuses, ReadsOr, MakesOr}
+use Rattle.parquet_meta.specs.Fault.{IsFaultOf, ReadsOr, MakesOr}
 use Rattle.parquet_meta.specs.Meaning.{Rule, Field, with_rest, by_rule, in_turn, fields_by, made}
 
 -- ---- what reading makes of a state
@@ -89,7 +89,7 @@ goes_on-smaller field s previous now id kind at next then header one =
 
 -- ---- refusals
 
-pub refuses-on : {A B : Type 0} (may_want : Bool) (e : Fault) (o : Option A) (p : Option B) → (o ≡ None → p ≡ None) → Refuses may_want e o → Refuses may_want e p
+pub refuses-on : {A B : Type 0} (may_want : Bool) (e : Fault) (o : Option A) (p : Option B) → (o ≡ None → p ≡ None) → IsFaultOf may_want e o → IsFaultOf may_want e p
 refuses-on may_want faults.OutOfMemory o p h r = r
 refuses-on may_want faults.Unspelled o p h r = h r
 
@@ -116,7 +116,7 @@ by_rule_made {A = A} context rule make kind bytes = through (value context kind 
     through (Some v) = one (rule kind v.0) v.1
 
 pub made_refuses : {A B : Type 0} (may_want : Bool) (context : Context) (rule : Rule A) (make : A → Option B) (kind : ℕ) (bytes : List ℕ) (e : Fault) →
-    Refuses may_want e (by_rule context rule kind bytes) → Refuses may_want e (by_rule context (made rule make) kind bytes)
+    IsFaultOf may_want e (by_rule context rule kind bytes) → IsFaultOf may_want e (by_rule context (made rule make) kind bytes)
 made_refuses may_want context rule make kind bytes e refusal =
     refuses-on may_want e (by_rule context rule kind bytes) (by_rule context (made rule make) kind bytes) (λ none. by_rule_made context rule make kind bytes ∙ rw none refl) refusal
 

@@ -60,8 +60,8 @@ abbrev pub numbers_of : PhysicalType → Option ChunkMetaData → Option ChunkNu
 numbers_of physical_type None = Some no_numbers
 numbers_of physical_type (Some m) = given (has_code physical_type m.type_code) m.numbers
 
-abbrev pub column_of : ColumnDescriptor → ColumnChunk → Option ColumnChunkMetaData
-column_of leaf chunk = option_map (column_with leaf chunk) (numbers_of leaf.primitive_type.physical_type chunk.meta_data)
+abbrev pub column_data_of : ColumnDescriptor → ColumnChunk → Option ColumnChunkMetaData
+column_data_of leaf chunk = option_map (column_with leaf chunk) (numbers_of leaf.primitive_type.physical_type chunk.meta_data)
 
 -- as many chunks as leaves, in their order
 unfoldable pub columns_of : List ColumnDescriptor → List ColumnChunk → Option (List ColumnChunkMetaData)
@@ -69,7 +69,7 @@ columns_of [] [] = Some []
 columns_of [] (chunk ∷ chunks) = None
 columns_of (leaf ∷ leaves) [] = None
 columns_of (leaf ∷ leaves) (chunk ∷ chunks) = do
-  first ← column_of leaf chunk
+  first ← column_data_of leaf chunk
   others ← columns_of leaves chunks
   Some (first ∷ others)
 
@@ -79,14 +79,14 @@ group_with group columns = record { columns = columns; num_rows = group.num_rows
 abbrev pub group_of : List ColumnDescriptor → RowGroup → Option RowGroupMetaData
 group_of leaves group = option_map (group_with group) (columns_of leaves group.columns)
 
-abbrev pub rows_of : List RowGroup → ℕ
-rows_of groups = sum_by (λ group. group.num_rows) groups
+abbrev pub rows_in_groups : List RowGroup → ℕ
+rows_in_groups groups = sum_by (λ group. group.num_rows) groups
 
 -- the rows of all groups together are at most 2 ^ 63 - 1
 unfoldable pub meta_data_of : Footer → Option FileMetaData
 meta_data_of footer = do
   groups ← all_of (group_of footer.columns) footer.row_groups
-  given (nat_lt (rows_of footer.row_groups) (2 ^ 63)) (record { num_rows = footer.num_rows; columns = footer.columns; row_groups = groups })
+  given (nat_lt (rows_in_groups footer.row_groups) (2 ^ 63)) (record { num_rows = footer.num_rows; columns = footer.columns; row_groups = groups })
 
 -- the metadata in the struct that the bytes begin with
 unfoldable pub meta_data_in : List ℕ → Option FileMetaData

@@ -98,11 +98,11 @@ FindsIndexes view columns told before now (Err _) = ⊥
 
 -- ---- how much is read
 
-abbrev pub length_of : Option Place → ℕ
-length_of place = option_map_or (λ p. p.length) place 0
+abbrev pub place_length : Option Place → ℕ
+place_length place = option_map_or (λ p. p.length) place 0
 
 abbrev pub offset_index_length : ColumnChunkMetaData → ℕ
-offset_index_length column = length_of column.offset_index
+offset_index_length column = place_length column.offset_index
 
 abbrev pub column_index_length : ColumnChunkMetaData → ℕ
-column_index_length column = length_of column.column_index
+column_index_length column = place_length column.column_index

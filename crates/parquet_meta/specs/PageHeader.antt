@@ -98,15 +98,15 @@ kind_of s DataPage = s.data_page
 kind_of s DictionaryPage = s.dictionary_page
 kind_of s DataPageV2 = s.data_page_v2
 
-unfoldable pub header_of : HeaderFields → Option PageHeader
-header_of s = do
+unfoldable pub page_header_of : HeaderFields → Option PageHeader
+page_header_of s = do
   t ← s.page_type
   k ← kind_of s t
   n ← s.size
   Some (record { kind = k; size = n })
 
 unfoldable pub header : Rule PageHeader
-header = made (struct_of header_field (record { page_type = None; size = None; data_page = None; dictionary_page = None; data_page_v2 = None })) header_of
+header = made (struct_of header_field (record { page_type = None; size = None; data_page = None; dictionary_page = None; data_page_v2 = None })) page_header_of
 
 -- the header that the bytes begin with
 unfoldable pub page_header : Read PageHeader

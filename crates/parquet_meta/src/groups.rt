@@ -2,7 +2,7 @@
 
 ghost use Rattle.std.specs.Prelude.{◌≡◌, ◌^◌, nat_lt, Some, true};
 ghost use Rattle.parquet_meta.specs.Fault.{MakesOr};
-ghost use Rattle.parquet_meta.specs.File.{column_of, columns_of, group_of, has_code, meta_data_of, numbers_of, rows_of};
+ghost use Rattle.parquet_meta.specs.File.{column_data_of, columns_of, group_of, has_code, meta_data_of, numbers_of, rows_in_groups};
 ghost use Rattle.parquet_meta.specs.Lists.{all_of};
 
 use crate::code::TypeCode;
@@ -79,7 +79,7 @@ fn column_of(
     leaf: &ColumnDescriptor,
     chunk: ColumnChunk,
 ) -> Result<ColumnChunkMetaData, Fault>
-    ensures { MakesOr true result (column_of leaf.now chunk) }
+    ensures { MakesOr true result (column_data_of leaf.now chunk) }
 {
     let ColumnChunk {
         meta_data,
@@ -158,7 +158,7 @@ fn groups_of(
 
 /// The rows of all groups can be counted.
 fn are_few(groups: &[RowGroup]) -> bool
-    ensures { result ≡ nat_lt (rows_of groups.now) (2 ^ 63) }
+    ensures { result ≡ nat_lt (rows_in_groups groups.now) (2 ^ 63) }
 {
     let mut rows = 0;
     'groups: for group in groups {

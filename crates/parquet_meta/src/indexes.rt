@@ -2,7 +2,7 @@
 
 ghost use Rattle.std.specs.Prelude.{◌≡◌, ◌+◌, ◌≤◌, map, sum_by, true, OnOk};
 ghost use Rattle.parquet_meta.specs.Fault.{MakesOr};
-ghost use Rattle.parquet_meta.specs.Indexes.{FindsIndex, FindsIndexes, column_index_length, field_columns, index_in, is_read, length_of, locations_at, locations_of, offset_index_length};
+ghost use Rattle.parquet_meta.specs.Indexes.{FindsIndex, FindsIndexes, column_index_length, field_columns, index_in, is_read, place_length, locations_at, locations_of, offset_index_length};
 ghost use Rattle.parquet_meta.specs.Lists.{all_of};
 ghost use Rattle.parquet_meta.specs.OffsetIndex.{locations_in};
 ghost use Rattle.parquet_meta.specs.Places.{part_at};
@@ -51,7 +51,7 @@ fn read_locations<S: Source>(
     ensures quiet { OnOk result (S.faults source.new ≡ S.faults source.old) }
     ensures found { Finds (λ list. list.items) (λ file. locations_at file place)
         (S.told source.old) (S.faults source.old) (S.faults source.new) result }
-    ensures taken { S.taken source.new ≤ S.taken source.old + length_of place }
+    ensures taken { S.taken source.new ≤ S.taken source.old + place_length place }
 {
     let Some(place) = place else {
         return Ok(Vec::new(alloc));

@@ -253,11 +253,11 @@ impl Structure<NoMemory> for HeaderFields {
 }
 
 impl Make<PageHeader, NoMemory> for HeaderFields {
-    ghost use Rattle.parquet_meta.specs.PageHeader.{header_of};
+    ghost use Rattle.parquet_meta.specs.PageHeader.{page_header_of};
 
-    ghost make = { header_of };
+    ghost make = { page_header_of };
 
-    #[tactic(auto, unfolding(crate::specs::PageHeader::header_of))]
+    #[tactic(auto, unfolding(crate::specs::PageHeader::page_header_of))]
     fn make(self, _memory: NoMemory) -> Result<PageHeader, Fault> {
         let kind = match self.page_type.ok_or(Fault::Unspelled)? {
             PageType::DataPage => self.data_page,

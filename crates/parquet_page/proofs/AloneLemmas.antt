@@ -15,7 +15,7 @@ use Rattle.parquet_meta.specs.declared.page_header.PageHeader.{PageHeader}
 use Rattle.parquet_meta.specs.declared.page_header.PageKind.{PageKind}
 use Rattle.parquet_meta.specs.declared.page_header.PageKind.TheVariants as kind
 use Rattle.parquet_page.specs.Alone.{IsDictionaryReadAlone, IsReadAlone}
-use Rattle.parquet_page.specs.Chunk.{AnyPage, ChunkPage, Defined, DictionaryPage, NoDictionary, Walk, chunk_dictionary, chunk_pages, data_header, data_page_at, dictionary_at, dictionary_page, dictionary_size, if_defined, page_at, pages_from, placed_pages, walk_on}
+use Rattle.parquet_page.specs.Chunk.{AnyPage, ChunkPage, Defined, DictionaryPage, NoDictionary, PageWalk, chunk_dictionary, chunk_pages, as_data_header, data_page_at, dictionary_at, dictionary_page, dictionary_size, if_defined, page_at, pages_from, placed_pages, walk_on}
 use Rattle.parquet_page.specs.Content.{header_values}
 use Rattle.parquet_page.specs.Located.{dictionary_in, located_page, page_in}
 use Rattle.parquet_encoding.proofs.StepLemmas.{bind_some, given_some}
@@ -86,12 +86,12 @@ data_front left bytes = go (page_at bytes) (page_front bytes) where
   of_header rest header body at true few = data_here left bytes rest header body at few
 
   of_kind : (rest : List ℕ) (page_kind : PageKind) (body : List ℕ) → IsAtFront page_at 1 bytes (record { kind = page_kind; body = body }, rest)
-      → IfSome (data_header page_kind >>= λ header. given (leb (header_values header) left) (record { size = length bytes - length rest; header = header; body = body }, rest)) (IsAtFront (data_page_at left) 1 bytes)
+      → IfSome (as_data_header page_kind >>= λ header. given (leb (header_values header) left) (record { size = length bytes - length rest; header = header; body = body }, rest)) (IsAtFront (data_page_at left) 1 bytes)
   of_kind rest (kind.Data header) body at = of_header rest header body at (leb (header_values header) left) refl
   of_kind rest (kind.Dictionary values encoding) body at = tt
 
   go : (o : Option (AnyPage × List ℕ)) → IfSome o (IsAtFront page_at 1 bytes)
-      → IfSome (o >>= λ page. data_header page.0.kind >>= λ header. given (leb (header_values header) left) (record { size = length bytes - length page.1; header = header; body = page.0.body }, page.1)) (IsAtFront (data_page_at left) 1 bytes)
+      → IfSome (o >>= λ page. as_data_header page.0.kind >>= λ header. given (leb (header_values header) left) (record { size = length bytes - length page.1; header = header; body = page.0.body }, page.1)) (IsAtFront (data_page_at left) 1 bytes)
   go None at = tt
   go (Some page) at = of_kind page.1 page.0.kind page.0.body at
 
@@ -160,13 +160,13 @@ pub exact_read : (left : ℕ) (bytes : List ℕ) (page : ChunkPage) (rest : List
     → (data_page_at (header_values page.header) bytes ≡ Some (page, rest)) × (page.size ≡ length bytes - length rest)
 unfolding data_page_at
 exact_read left bytes page rest e =
-    let read = bind_some (page_at bytes) (λ page. data_header page.0.kind >>= λ header. given (leb (header_values header) left) (record { size = length bytes - length page.1; header = header; body = page.0.body }, page.1)) (page, rest) e in
-    let header = bind_some (data_header read.0.0.kind) (λ header. given (leb (header_values header) left) (record { size = length bytes - length read.0.1; header = header; body = read.0.0.body }, read.0.1)) (page, rest) read.2 in
+    let read = bind_some (page_at bytes) (λ page. as_data_header page.0.kind >>= λ header. given (leb (header_values header) left) (record { size = length bytes - length page.1; header = header; body = page.0.body }, page.1)) (page, rest) e in
+    let header = bind_some (as_data_header read.0.0.kind) (λ header. given (leb (header_values header) left) (record { size = length bytes - length read.0.1; header = header; body = read.0.0.body }, read.0.1)) (page, rest) read.2 in
     let same = (given_some _ _ (page, rest) header.2).1 in
     let own : page.header ≡ header.0 = ap (λ (p : ChunkPage × List ℕ). p.0.header) (sym same) in
     let values = header_values page.header in
     let few : leb (header_values header.0) values ≡ true = le-leb _ _ (omega (arith, ap header_values own)) in
-    let found = ap (λ (o : Option (AnyPage × List ℕ)). o >>= λ page. data_header page.0.kind >>= λ header. given (leb (header_values header) values) (record { size = length bytes - length page.1; header = header; body = page.0.body }, page.1)) read.1 in
+    let found = ap (λ (o : Option (AnyPage × List ℕ)). o >>= λ page. as_data_header page.0.kind >>= λ header. given (leb (header_values header) values) (record { size = length bytes - length page.1; header = header; body = page.0.body }, page.1)) read.1 in
     let with_header = ap (λ (o : Option DataPageHeader). o >>= λ header. given (leb (header_values header) values) (record { size = length bytes - length read.0.1; header = header; body = read.0.0.body }, read.0.1)) header.1 in (
       found ∙ with_header ∙ ap (λ b. given b (record { size = length bytes - length read.0.1; header = header.0; body = read.0.0.body }, read.0.1)) few ∙ ap Some same,
       ap (λ (p : ChunkPage × List ℕ). p.0.size) (sym same) ∙ ap (λ (p : ChunkPage × List ℕ). length bytes - length p.1) same,
@@ -182,7 +182,7 @@ own_part left bytes page rest e =
     let there = exact_read left at.front page [] (ap (data_page_at left) (sym (append-nil at.front)) ∙ at.same []) in
     record { part = at.front; whole = at.whole; size = (exact_read left bytes page rest e).1 ∙ before_rest at.front rest bytes at.whole; alone = alone_in at.front page there.0 }
 
-walked_on : (chunk : List ℕ) (left start row : ℕ) → start ≤ length chunk → (further : ChunkPage → List ℕ → Walk)
+walked_on : (chunk : List ℕ) (left start row : ℕ) → start ≤ length chunk → (further : ChunkPage → List ℕ → PageWalk)
     → ((page : ChunkPage) (rest : List ℕ) → rest ≡ drop (start + page.size) chunk → start + page.size ≤ length chunk
     → AllByRecursion (IsReadAlone chunk) (placed_pages (start + page.size) (row + header_values page.header) (further page rest).pages))
     → (o : Option (ChunkPage × List ℕ)) → data_page_at left (drop start chunk) ≡ o → AllByRecursion (IsReadAlone chunk) (placed_pages start row (walk_on o further).pages)

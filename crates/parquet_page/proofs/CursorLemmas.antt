@@ -11,12 +11,12 @@ use Rattle.columns_core.specs.declared.error.Error.TheVariants as error
 use Rattle.parquet_meta.specs.declared.metadata.PrimitiveType.{PrimitiveType}
 use Rattle.parquet_meta.specs.declared.page_header.DataPageHeader.{DataPageHeader}
 use Rattle.parquet_meta.specs.declared.page_header.PageKind.TheVariants as kind
-use Rattle.parquet_page.specs.Chunk.{ChunkPage, DictionaryPage, Walk, page_at, data_page_at, dictionary_at, pages_from, chunk_pages, if_defined, NoDictionary, walk_on}
+use Rattle.parquet_page.specs.Chunk.{ChunkPage, DictionaryPage, PageWalk, page_at, data_page_at, dictionary_at, pages_from, chunk_pages, if_defined, NoDictionary, walk_on}
 use Rattle.parquet_page.specs.Content.{Content, header_values, is_data}
 use Rattle.parquet_page.specs.Cursor.{lent_behind, lent_from}
-use Rattle.parquet_page.specs.Taking.{IsOver, IsRefused, Takes}
+use Rattle.parquet_page.specs.Taking.{IsOver, IsRefused, TakesPage}
 use Rattle.parquet_page.specs.Found.{FoundAt, found_body, found_content}
-use Rattle.parquet_page.specs.Lent.{Lent, damaged, behind_dictionary, chunk_lent, dictionary_of, lent_data, data_of}
+use Rattle.parquet_page.specs.Lent.{Lent, damaged, behind_dictionary, chunk_lent, lent_dictionary_of, lent_data, lent_data_of}
 use Rattle.parquet_page.specs.Spelling.{has_plain_entries}
 use Rattle.parquet_page.specs.declared.found.FoundPage.{FoundPage}
 use Rattle.parquet_page.proofs.HeaderLemmas.{data_page_behind, behind_size}
@@ -77,16 +77,16 @@ pub record InFront (page : Content) (old new : Lent) : Type 0 where
   pub same : old.causes ≡ new.causes
 
 lends_dictionary : (limit : ℕ) (type : PrimitiveType) (left : ℕ) (bytes : List ℕ) (read : DictionaryPage × List ℕ) → 0 < left → dictionary_at bytes ≡ Some read → has_plain_entries read.0.encoding ≡ true
-    → InFront (dictionary_of read.0) (lent_from limit type true left bytes) (lent_from limit type false left read.1)
+    → InFront (lent_dictionary_of read.0) (lent_from limit type true left bytes) (lent_from limit type false left read.1)
 unfolding lent_from
 lends_dictionary limit type zero bytes read positive e encoding = absurd (omega arith)
 lends_dictionary limit type (suc left) bytes read positive e encoding = rw (e, encoding) (record { first = refl; same = refl })
 
 -- ---- a data page
 
-same_walk_on : (r : Option (ChunkPage × List ℕ)) (f g : ChunkPage → List ℕ → Walk) → ((page : ChunkPage) (rest : List ℕ) → r ≡ Some (page, rest) → f page rest ≡ g page rest) → walk_on r f ≡ walk_on r g
+same_walk_on : (r : Option (ChunkPage × List ℕ)) (f g : ChunkPage → List ℕ → PageWalk) → ((page : ChunkPage) (rest : List ℕ) → r ≡ Some (page, rest) → f page rest ≡ g page rest) → walk_on r f ≡ walk_on r g
 same_walk_on None f g h = refl
-same_walk_on (Some read) f g h = ap (λ (walk : Walk). record { pages = read.0 ∷ walk.pages; is_whole = walk.is_whole }) (h read.0 read.1 refl)
+same_walk_on (Some read) f g h = ap (λ (walk : PageWalk). record { pages = read.0 ∷ walk.pages; is_whole = walk.is_whole }) (h read.0 read.1 refl)
 
 no_bytes : (left : ℕ) (bytes : List ℕ) → length bytes ≤ 0 → data_page_at left bytes ≡ None
 no_bytes left bytes h = go (data_page_at left bytes) refl where
@@ -130,17 +130,17 @@ walk_step limit zero bytes page rest positive h e = absurd (omega arith)
 walk_step zero (suc left) bytes page rest positive h e = let behind = data_page_behind (suc left) bytes (page, rest) e in absurd (omega (arith, behind.shorter))
 walk_step (suc limit) (suc left) bytes page rest positive h e =
     let behind = data_page_behind (suc left) bytes (page, rest) e in
-    rw e (ap (λ (walk : Walk). record { pages = page ∷ walk.pages; is_whole = walk.is_whole })
+    rw e (ap (λ (walk : PageWalk). record { pages = page ∷ walk.pages; is_whole = walk.is_whole })
     (pages-limit limit (suc limit) (suc left - header_values page.header) rest (omega (arith, behind.shorter)) (omega (arith, behind.shorter))))
 
 lends_data : (limit : ℕ) (type : PrimitiveType) (is_first : Bool) (left : ℕ) (bytes : List ℕ) (page : ChunkPage) (rest : List ℕ) → 0 < left → length bytes ≤ limit → (is_first ≡ true → dictionary_at bytes ≡ None)
     → data_page_at left bytes ≡ Some (page, rest)
-    → InFront (data_of type None page) (lent_from limit type is_first left bytes) (lent_from limit type false (left - header_values page.header) rest)
+    → InFront (lent_data_of type None page) (lent_from limit type is_first left bytes) (lent_from limit type false (left - header_values page.header) rest)
 lends_data limit type is_first left bytes page rest positive h dictionary e =
     let whole = lends_walk limit type is_first left bytes dictionary ∙ ap (lent_data type) (walk_step limit left bytes page rest positive h e) in
     let others = lends_rest limit type (left - header_values page.header) rest in
     record {
-      first = ap (λ (lent : Lent). lent.pages) whole ∙ ap (λ (lent : Lent). data_of type None page ∷ lent.pages) (sym others);
+      first = ap (λ (lent : Lent). lent.pages) whole ∙ ap (λ (lent : Lent). lent_data_of type None page ∷ lent.pages) (sym others);
       same = ap (λ (lent : Lent). lent.causes) whole ∙ ap (λ (lent : Lent). lent.causes) (sym others);
     }
 
@@ -154,7 +154,7 @@ differ : (b : Bool) → b ≡ false → b ≡ true → ⊥
 differ b late first = absurd cc
 
 -- behind the first page there are data pages alone
-pub data_alone : (type : PrimitiveType) (pages : List ChunkPage) → list_all is_data (map (data_of type None) pages) ≡ true
+pub data_alone : (type : PrimitiveType) (pages : List ChunkPage) → list_all is_data (map (lent_data_of type None) pages) ≡ true
 data_alone type [] = refl
 data_alone type (page ∷ pages) = data_alone type pages
 
@@ -194,7 +194,7 @@ opens_long_page type is_first left chunk place found header part positive at sam
 
 pub opens_dictionary : (type : PrimitiveType) (is_first : Bool) (count left : ℕ) (chunk : List ℕ) (place : ℕ) (found : FoundPage) (num_values : ℕ) (encoding : ℤ) → 0 < left → FoundAt chunk place found
     → found.kind ≡ kind.Dictionary num_values encoding → is_first ≡ true → has_plain_entries encoding ≡ true
-    → Takes (found_content type None chunk found) (lent_from (length chunk) type is_first left (drop place chunk)) (lent_from (length chunk) type false left (drop found.end chunk)) (count - left) (count - left)
+    → TakesPage (found_content type None chunk found) (lent_from (length chunk) type is_first left (drop place chunk)) (lent_from (length chunk) type false left (drop found.end chunk)) (count - left) (count - left)
 opens_dictionary type is_first count left chunk place found num_values encoding positive at same first read =
     let page = page_of_dictionary left num_values encoding (found_body chunk found) (drop found.end chunk) (drop place chunk) (rw (← same) at.value) in
     let lends = lends_dictionary (length chunk) type left (drop place chunk) _ positive page.1 read in
@@ -202,7 +202,7 @@ opens_dictionary type is_first count left chunk place found num_values encoding 
 
 pub opens_data : (type : PrimitiveType) (is_first : Bool) (count left : ℕ) (chunk : List ℕ) (place : ℕ) (found : FoundPage) (header : DataPageHeader) → 0 < left → left ≤ count → FoundAt chunk place found
     → found.kind ≡ kind.Data header → header_values header ≤ left
-    → Takes (found_content type None chunk found) (lent_from (length chunk) type is_first left (drop place chunk)) (lent_from (length chunk) type false (left - header_values header) (drop found.end chunk)) (count - left) (count - (left - header_values header))
+    → TakesPage (found_content type None chunk found) (lent_from (length chunk) type is_first left (drop place chunk)) (lent_from (length chunk) type false (left - header_values header) (drop found.end chunk)) (count - left) (count - (left - header_values header))
 opens_data type is_first count left chunk place found header positive fewer at same few =
     let page = page_of_data left header (found_body chunk found) (drop found.end chunk) (drop place chunk) (rw (← same) at.value) in
     let lends = lends_data (length chunk) type is_first left (drop place chunk) _ (drop found.end chunk) positive (omega (arith, length-drop place chunk)) (λ _. page.2) (page.0 few) in

@@ -11,7 +11,7 @@ use Rattle.parquet_base.specs.Reading.{given}
 use Rattle.parquet_meta.specs.declared.metadata.PrimitiveType.{PrimitiveType}
 use Rattle.parquet_page.specs.Lent.{are_well_shaped, first_start, is_wanted, lie_within, located_chunk, located_lent, located_parts, selected_count}
 use Rattle.parquet_page.specs.Located.{dictionary_in, located_dictionary}
-use Rattle.parquet_page.specs.Parts.{are_shaped, lent_left, parts_from, part_at, part_before}
+use Rattle.parquet_page.specs.Parts.{are_shaped, lent_left, parts_from, wanted_part, part_before}
 use Rattle.parquet_page.specs.declared.page.FilteredPage.{FilteredPage}
 use Rattle.parquet_page.specs.declared.parts.Parts.{Parts}
 use Rattle.parquet_base.proofs.ShapeLemmas.{shape-count}
@@ -53,7 +53,7 @@ rows_wanted (entry ∷ entries) = go (is_wanted entry) refl (rows_wanted entries
 abbrev pub in_chunk : List ℕ → FilteredPage → FilteredPage × List ℕ
 in_chunk bytes entry = (entry, slice_range bytes entry.start (entry.start + entry.length))
 
-chunk_parts : (parts : Parts) (bytes : List ℕ) (k : ℕ) (entries : List FilteredPage) → ((k : ℕ) (entry : FilteredPage) → part_at parts k entry ≡ slice_range bytes entry.start (entry.start + entry.length))
+chunk_parts : (parts : Parts) (bytes : List ℕ) (k : ℕ) (entries : List FilteredPage) → ((k : ℕ) (entry : FilteredPage) → wanted_part parts k entry ≡ slice_range bytes entry.start (entry.start + entry.length))
     → parts_from parts k entries ≡ map (in_chunk bytes) entries
 chunk_parts parts bytes k [] same = refl
 chunk_parts parts bytes k (entry ∷ entries) same =
@@ -68,7 +68,7 @@ same_first type bytes first (entry ∷ wanted) e =
     rw within refl
 
 pub lends_chunk : (type : PrimitiveType) (parts : Parts) (bytes : List ℕ) (entries : List FilteredPage) → part_before parts ≡ take (first_start entries) bytes
-    → ((k : ℕ) (entry : FilteredPage) → part_at parts k entry ≡ slice_range bytes entry.start (entry.start + entry.length))
+    → ((k : ℕ) (entry : FilteredPage) → wanted_part parts k entry ≡ slice_range bytes entry.start (entry.start + entry.length))
     → lie_within (length bytes) entries ≡ true → lent_left type parts true 0 (filter is_wanted entries) ≡ located_chunk type bytes entries
 lends_chunk type parts bytes entries before same e =
     ap (λ part. located_lent type (dictionary_in part) (parts_from parts 0 (filter is_wanted entries))) before
@@ -77,7 +77,7 @@ lends_chunk type parts bytes entries before same e =
 
 -- ---- in parts
 
-body_parts_from : (parts : Parts) (bodies : List (List ℕ)) (k : ℕ) (entries : List FilteredPage) → ((k : ℕ) (entry : FilteredPage) → part_at parts k entry ≡ get_or bodies k []) → k + length entries ≡ length bodies
+body_parts_from : (parts : Parts) (bodies : List (List ℕ)) (k : ℕ) (entries : List FilteredPage) → ((k : ℕ) (entry : FilteredPage) → wanted_part parts k entry ≡ get_or bodies k []) → k + length entries ≡ length bodies
     → parts_from parts k entries ≡ zip entries (drop k bodies)
 body_parts_from parts bodies k [] same all = refl
 body_parts_from parts bodies k (entry ∷ entries) same all =
@@ -86,7 +86,7 @@ body_parts_from parts bodies k (entry ∷ entries) same all =
     ∙ ap (zip (entry ∷ entries)) (sym (drop_more bodies k [] (omega (arith, all))))
 
 pub lends_parts : (type : PrimitiveType) (parts : Parts) (before : Option (List ℕ)) (bodies : List (List ℕ)) (entries : List FilteredPage) → part_before parts ≡ unwrap_or before []
-    → ((k : ℕ) (entry : FilteredPage) → part_at parts k entry ≡ get_or bodies k []) → length (filter is_wanted entries) ≡ length bodies
+    → ((k : ℕ) (entry : FilteredPage) → wanted_part parts k entry ≡ get_or bodies k []) → length (filter is_wanted entries) ≡ length bodies
     → lent_left type parts true 0 (filter is_wanted entries) ≡ located_parts type before entries bodies
 lends_parts type parts before bodies entries first same all =
     ap (λ part. located_lent type (dictionary_in part) (parts_from parts 0 (filter is_wanted entries))) first

@@ -8,7 +8,7 @@ use Rattle.parquet_page.specs.Lent.{Lent, behind_dictionary}
 use Rattle.parquet_page.specs.Located.{dictionary_in}
 use Rattle.parquet_page.specs.LocatedLeft.{FindsFirst, data_left, located_left}
 use Rattle.parquet_page.specs.Parts.{FindsDictionary, part_before}
-use Rattle.parquet_page.specs.Taking.{IsRefused, Takes}
+use Rattle.parquet_page.specs.Taking.{IsRefused, TakesPage}
 use Rattle.parquet_page.specs.declared.found.FoundPage.{FoundPage}
 use Rattle.parquet_page.specs.declared.located.Located.{Located}
 use Rattle.parquet_page.proofs.LocatedLemmas.{left_behind}
@@ -39,5 +39,5 @@ none_first type located o e finds = subst (λ (o : Option FoundPage). FindsFirst
 pub refused_behind : (old others : Lent) (error : Error) → old ≡ others → IsRefused others error → IsRefused old error
 refused_behind old others error e refused = subst (λ (lent : Lent). IsRefused lent error) (sym e) refused
 
-pub takes_behind : (page : Content) (old others new : Lent) (given given_now : ℕ) → old ≡ others → Takes page others new given given_now → Takes page old new given given_now
-takes_behind page old others new given given_now e takes = subst (λ (lent : Lent). Takes page lent new given given_now) (sym e) takes
+pub takes_behind : (page : Content) (old others new : Lent) (given given_now : ℕ) → old ≡ others → TakesPage page others new given given_now → TakesPage page old new given given_now
+takes_behind page old others new given given_now e takes = subst (λ (lent : Lent). TakesPage page lent new given given_now) (sym e) takes

@@ -11,7 +11,7 @@ use Rattle.parquet_meta.proofs.PageHeaderLemmas.{page_header-front}
 use Rattle.parquet_meta.specs.PageHeader.{page_header}
 use Rattle.parquet_meta.specs.declared.page_header.PageHeader.{PageHeader}
 use Rattle.parquet_meta.specs.declared.page_header.PageKind.TheVariants as kind
-use Rattle.parquet_page.specs.Chunk.{AnyPage, ChunkPage, DictionaryPage, page_at, data_header, dictionary_page, data_page_at, dictionary_at}
+use Rattle.parquet_page.specs.Chunk.{AnyPage, ChunkPage, DictionaryPage, page_at, as_data_header, dictionary_page, data_page_at, dictionary_at}
 use Rattle.parquet_page.specs.Content.{header_values}
 use Rattle.parquet_page.specs.Found.{FoundAt}
 
@@ -38,8 +38,8 @@ page_behind bytes read e =
 pub data_page_behind : (left : ℕ) (bytes : List ℕ) (read : ChunkPage × List ℕ) → data_page_at left bytes ≡ Some read → IsBehind bytes read.1
 unfolding data_page_at
 data_page_behind left bytes read e =
-    let page = bind_some (page_at bytes) (λ page. data_header page.0.kind >>= λ header. given (leb (header_values header) left) (record { size = length bytes - length page.1; header = header; body = page.0.body }, page.1)) read e in
-    let header = bind_some (data_header page.0.0.kind) (λ header. given (leb (header_values header) left) (record { size = length bytes - length page.0.1; header = header; body = page.0.0.body }, page.0.1)) read page.2 in
+    let page = bind_some (page_at bytes) (λ page. as_data_header page.0.kind >>= λ header. given (leb (header_values header) left) (record { size = length bytes - length page.1; header = header; body = page.0.body }, page.1)) read e in
+    let header = bind_some (as_data_header page.0.0.kind) (λ header. given (leb (header_values header) left) (record { size = length bytes - length page.0.1; header = header; body = page.0.0.body }, page.0.1)) read page.2 in
     let same = given_some _ _ read header.2 in
     rw (← same.1) (page_behind bytes page.0 page.1)
 

@@ -4,7 +4,7 @@ use Rattle.std.specs.Prelude.{Result, Ok, Err}
 use Rattle.std.specs.List.{list_all}
 use Rattle.columns_core.specs.declared.error.Error.{Error}
 use Rattle.parquet_page.specs.Content.{Content, content, content_rows, is_data, is_shaped}
-use Rattle.parquet_page.specs.Taking.{Takes, Walks}
+use Rattle.parquet_page.specs.Taking.{TakesPage, Walks}
 use Rattle.parquet_page.specs.Lending.{GoesOn, Leaves, Lends, LendsShaped}
 use Rattle.parquet_page.specs.Lent.{Lent}
 use Rattle.parquet_page.specs.declared.page.Page.{Page}
@@ -35,7 +35,7 @@ has_ended old new rows rows_now given given_now lent none ends none_now ends_now
   shaped = tt;
 }
 
-pub lends_first : (page : Page) (first : Content) (old new : Lent) (rows rows_now given given_now lent lent_now : ℕ) → content page ≡ first → Takes first old new given given_now
+pub lends_first : (page : Page) (first : Content) (old new : Lent) (rows rows_now given given_now lent lent_now : ℕ) → content page ≡ first → TakesPage first old new given given_now
     → rows_now ≡ rows → lent_now ≡ min (lent + 1) (2 ^ 64 - 1) → Lending (Ok (Some page)) old new rows rows_now given given_now lent lent_now
 lends_first page first old new rows rows_now given given_now lent lent_now same_page takes same one_more = record {
   leaves = record {
@@ -57,7 +57,7 @@ walk_ends shown (Ok (Some found)) o old new rows rows_now given given_now lent i
 walk_ends shown (Err error) o old new rows rows_now given given_now lent is none walks same = absurd cc
 
 taken : {X : Type 0} (shown : X → Content) (result : Result (Option X) Error) (found : X) (old new : Lent) (given given_now : ℕ) → result ≡ Ok (Some found)
-    → Walks shown result old new given given_now → Takes (shown found) old new given given_now
+    → Walks shown result old new given given_now → TakesPage (shown found) old new given given_now
 taken {X = X} shown result found old new given given_now is walks = subst (λ (r : Result (Option X) Error). Walks shown r old new given given_now) is walks
 
 pub walk_lends : {X : Type 0} (shown : X → Content) (result : Result (Option X) Error) (o : Option X) (found : X) (page : Page) (old new : Lent) (rows rows_now given given_now lent lent_now : ℕ) → result ≡ Ok o → o ≡ Some found

@@ -21,7 +21,7 @@ use Rattle.parquet_encoding.proofs.HybridLemmas.{no_bits}
 use Rattle.parquet_meta.specs.declared.metadata.Repetition.{Repetition}
 use Rattle.parquet_meta.specs.declared.metadata.Repetition.TheVariants.{Required, Optional, Repeated}
 use Rattle.parquet_page.specs.Levels.{presence, present_count, top_level}
-use Rattle.parquet_page.specs.LevelsLeft.{places_of}
+use Rattle.parquet_page.specs.LevelsLeft.{level_places}
 use Rattle.parquet_page.specs.Stretches.{BeginsOtherwise, BeginsWith}
 use Rattle.parquet_page.proofs.WordLemmas.{bits_of_levels, ones_present}
 
@@ -210,14 +210,14 @@ pub record TellOf (top : ℕ) (left : Option (List ℕ)) (places : List Bool) : 
   pub low : list_all (λ level. nat_le level top) levels ≡ true
   pub tell : places ≡ map (λ level. level == top) levels
 
-pub tells : (top : ℕ) (left : Option (List ℕ)) → IsSome (places_of top left) → TellOf top left (unwrap_or (places_of top left) [])
+pub tells : (top : ℕ) (left : Option (List ℕ)) → IsSome (level_places top left) → TellOf top left (unwrap_or (level_places top left) [])
 tells top None h = absurd cc
 tells top (Some levels) h = go (list_all (λ level. nat_le level top) levels) refl h where
   go : (b : Bool) → list_all (λ level. nat_le level top) levels ≡ b → is_some (given b (map (λ level. level == top) levels)) ≡ true → TellOf top (Some levels) (unwrap_or (given (list_all (λ level. nat_le level top) levels) (map (λ level. level == top) levels)) [])
   go false e h = absurd cc
   go true e h = record { levels = levels; are = refl; low = e; tell = rw e refl }
 
-pub told : (top : ℕ) (left : Option (List ℕ)) (levels : List ℕ) → left ≡ Some levels → list_all (λ level. nat_le level top) levels ≡ true → places_of top left ≡ Some (map (λ level. level == top) levels)
+pub told : (top : ℕ) (left : Option (List ℕ)) (levels : List ℕ) → left ≡ Some levels → list_all (λ level. nat_le level top) levels ≡ true → level_places top left ≡ Some (map (λ level. level == top) levels)
 told top left levels e low = rw (e, low) refl
 
 -- ---- the levels of a page
@@ -236,26 +236,26 @@ zeros-tell : (n : ℕ) → map (λ level. level == 0) (replicate n 0) ≡ replic
 zeros-tell zero = refl
 zeros-tell (suc n) = ap (λ xs. true ∷ xs) (zeros-tell n)
 
-pub presence_is : (repetition : Repetition) (levels : List ℕ) (count top : ℕ) → Some top ≡ top_level repetition → presence repetition levels count ≡ places_of top (hybrid top levels count)
+pub presence_is : (repetition : Repetition) (levels : List ℕ) (count top : ℕ) → Some top ≡ top_level repetition → presence repetition levels count ≡ level_places top (hybrid top levels count)
 unfolding presence
 presence_is Required levels count top e =
     let zero_top : top ≡ 0 = cc in
-    let all : places_of 0 (Some (replicate count 0)) ≡ Some (replicate count true) = told 0 (Some (replicate count 0)) (replicate count 0) refl (zeros-low count) ∙ ap (λ xs. Some xs) (zeros-tell count) in
-    sym (ap (λ n. places_of n (hybrid n levels count)) zero_top ∙ ap (places_of 0) (no_bits levels 0 count refl) ∙ all)
+    let all : level_places 0 (Some (replicate count 0)) ≡ Some (replicate count true) = told 0 (Some (replicate count 0)) (replicate count 0) refl (zeros-low count) ∙ ap (λ xs. Some xs) (zeros-tell count) in
+    sym (ap (λ n. level_places n (hybrid n levels count)) zero_top ∙ ap (level_places 0) (no_bits levels 0 count refl) ∙ all)
 presence_is Optional levels count top e =
     let one : 1 ≡ top = cc in
-    ap (λ n. places_of n (hybrid n levels count)) one
+    ap (λ n. level_places n (hybrid n levels count)) one
 presence_is Repeated levels count top e = absurd cc
 
-pub none-spelled : (top : ℕ) (left : Option (List ℕ)) → false ≡ is_some left → places_of top left ≡ None
+pub none-spelled : (top : ℕ) (left : Option (List ℕ)) → false ≡ is_some left → level_places top left ≡ None
 none-spelled top None e = refl
 none-spelled top (Some levels) e = absurd cc
 
-pub refused-above : (top : ℕ) (left : Option (List ℕ)) → list_all (λ level. nat_le level top) (unwrap_or left []) ≡ false → places_of top left ≡ None
+pub refused-above : (top : ℕ) (left : Option (List ℕ)) → list_all (λ level. nat_le level top) (unwrap_or left []) ≡ false → level_places top left ≡ None
 refused-above top None e = refl
 refused-above top (Some levels) e = rw e refl
 
-pub all-told : (top : ℕ) (left : Option (List ℕ)) → IsSome left → list_all (λ level. nat_le level top) (unwrap_or left []) ≡ true → IsSome (places_of top left)
+pub all-told : (top : ℕ) (left : Option (List ℕ)) → IsSome left → list_all (λ level. nat_le level top) (unwrap_or left []) ≡ true → IsSome (level_places top left)
 all-told top None some low = absurd cc
 all-told top (Some levels) some low = ap is_some (told top (Some levels) levels refl low)
 
@@ -283,11 +283,11 @@ otherwise-kind top x (y ∷ ys) t hx low other = other-kind top x y t hx (leb-tr
 -- the next places of one kind, from the next levels of one number
 pub record IsRunOf (top limit level count : ℕ) (old new : List Bool) (left_new : Option (List ℕ)) : Type 0 where
   pub begins : BeginsWith limit (level == top) count old new
-  pub spelled : IsSome (places_of top left_new)
+  pub spelled : IsSome (level_places top left_new)
 
-pub run_of_places : (top limit level count : ℕ) (left_old left_new : Option (List ℕ)) → top ≤ 1 → IsSome (places_of top left_old) → IsSome left_new
+pub run_of_places : (top limit level count : ℕ) (left_old left_new : Option (List ℕ)) → top ≤ 1 → IsSome (level_places top left_old) → IsSome left_new
     → 0 < count → BeginsWith limit level count (unwrap_or left_old []) (unwrap_or left_new [])
-    → IsRunOf top limit level count (unwrap_or (places_of top left_old) []) (unwrap_or (places_of top left_new) []) left_new
+    → IsRunOf top limit level count (unwrap_or (level_places top left_old) []) (unwrap_or (level_places top left_new) []) left_new
 run_of_places top limit level count left_old left_new t spelled some positive begins =
     let old = tells top left_old spelled in
     let new = is_something left_new some in
@@ -296,14 +296,14 @@ run_of_places top limit level count left_old left_new t spelled some positive be
     let both : (leb level top && list_all (λ level. nat_le level top) new.0) ≡ true = sym (ap (list_all (λ level. nat_le level top)) levels ∙ all-copies (λ level. nat_le level top) count level new.0 positive) ∙ old.low in
     let parts = and_parts (leb level top) (list_all (λ level. nat_le level top) new.0) both in
     let is = told top left_new new.0 new.1 parts.1 in
-    let behind : unwrap_or (places_of top left_new) [] ≡ map (λ level. level == top) new.0 = ap (λ (o : Option (List Bool)). unwrap_or o []) is in
+    let behind : unwrap_or (level_places top left_new) [] ≡ map (λ level. level == top) new.0 = ap (λ (o : Option (List Bool)). unwrap_or o []) is in
     let O : List ℕ → Type 0 = λ ys. BeginsOtherwise level ys in
     let B : List Bool → Type 0 = λ ys. BeginsOtherwise (level == top) ys in
     record {
       begins = record {
         split = old.tell ∙ ap (map (λ level. level == top)) levels ∙ map-copies top count level new.0 ∙ ap (λ rest. replicate count (level == top) ++ rest) (sym behind);
         most = begins.most;
-        longest = elim begins.longest as (λ _. (count ≡ limit) ⊎ BeginsOtherwise (level == top) (unwrap_or (places_of top left_new) [])) [
+        longest = elim begins.longest as (λ _. (count ≡ limit) ⊎ BeginsOtherwise (level == top) (unwrap_or (level_places top left_new) [])) [
           | inl all ↦ inl all
           | inr other ↦ inr (subst B (sym behind) (otherwise-kind top level new.0 t (leb-true level top parts.0) parts.1 (subst O (ap (λ (o : Option (List ℕ)). unwrap_or o []) new.1) other)))
         ];
@@ -317,11 +317,11 @@ run_of_places top limit level count left_old left_new t spelled some positive be
 record TellBehind (top n : ℕ) (left_old left_new : Option (List ℕ)) : Type 0 where
   pub levels : List ℕ
   pub are : unwrap_or left_old [] ≡ levels
-  pub old : unwrap_or (places_of top left_old) [] ≡ map (λ level. level == top) levels
-  pub new : unwrap_or (places_of top left_new) [] ≡ map (λ level. level == top) (drop n levels)
-  pub spelled : IsSome (places_of top left_new)
+  pub old : unwrap_or (level_places top left_old) [] ≡ map (λ level. level == top) levels
+  pub new : unwrap_or (level_places top left_new) [] ≡ map (λ level. level == top) (drop n levels)
+  pub spelled : IsSome (level_places top left_new)
 
-tells-behind : (top n : ℕ) (left_old left_new : Option (List ℕ)) → IsSome (places_of top left_old) → left_new ≡ Some (drop n (unwrap_or left_old [])) → TellBehind top n left_old left_new
+tells-behind : (top n : ℕ) (left_old left_new : Option (List ℕ)) → IsSome (level_places top left_old) → left_new ≡ Some (drop n (unwrap_or left_old [])) → TellBehind top n left_old left_new
 tells-behind top n left_old left_new spelled behind =
     let old = tells top left_old spelled in
     let own : unwrap_or left_old [] ≡ old.levels = ap (λ (o : Option (List ℕ)). unwrap_or o []) old.are in
@@ -334,10 +334,10 @@ tells-behind top n left_old left_new spelled behind =
 -- the next places are those of a word
 pub record IsWordOf (top : ℕ) (word old new : List Bool) (left_new : Option (List ℕ)) : Type 0 where
   pub split : old ≡ word ++ new
-  pub spelled : IsSome (places_of top left_new)
+  pub spelled : IsSome (level_places top left_new)
 
-pub word_of_places : (top rows many : ℕ) (left_old left_new : Option (List ℕ)) (run : List ℕ) (word : List Bool) → top ≡ 1 → IsSome (places_of top left_old) → left_new ≡ Some (drop rows (unwrap_or left_old []))
-    → run ≡ take many (unwrap_or left_old []) → rows ≤ many → word ≡ map (λ level. level == 1) (take rows run) → IsWordOf top word (unwrap_or (places_of top left_old) []) (unwrap_or (places_of top left_new) []) left_new
+pub word_of_places : (top rows many : ℕ) (left_old left_new : Option (List ℕ)) (run : List ℕ) (word : List Bool) → top ≡ 1 → IsSome (level_places top left_old) → left_new ≡ Some (drop rows (unwrap_or left_old []))
+    → run ≡ take many (unwrap_or left_old []) → rows ≤ many → word ≡ map (λ level. level == 1) (take rows run) → IsWordOf top word (unwrap_or (level_places top left_old) []) (unwrap_or (level_places top left_new) []) left_new
 word_of_places top rows many left_old left_new run word one spelled behind front less told =
     let p : ℕ → Bool = λ level. level == top in
     let left = tells-behind top rows left_old left_new spelled behind in
@@ -384,10 +384,10 @@ pub record ArePassed (top n count left : ℕ) (old new : List Bool) (left_new : 
   pub counted : present_count (take left old) ≡ count + present_count (take (left - n) new)
   pub behind : drop left old ≡ drop (left - n) new
   pub few : count ≤ n
-  pub spelled : IsSome (places_of top left_new)
+  pub spelled : IsSome (level_places top left_new)
 
-pub passes : (top n count left : ℕ) (left_old left_new : Option (List ℕ)) → IsSome (places_of top left_old) → left_new ≡ Some (drop n (unwrap_or left_old [])) → n ≤ left
-    → count ≡ count_by (λ level. level == top) (take n (unwrap_or left_old [])) → ArePassed top n count left (unwrap_or (places_of top left_old) []) (unwrap_or (places_of top left_new) []) left_new
+pub passes : (top n count left : ℕ) (left_old left_new : Option (List ℕ)) → IsSome (level_places top left_old) → left_new ≡ Some (drop n (unwrap_or left_old [])) → n ≤ left
+    → count ≡ count_by (λ level. level == top) (take n (unwrap_or left_old [])) → ArePassed top n count left (unwrap_or (level_places top left_old) []) (unwrap_or (level_places top left_new) []) left_new
 passes top n count left left_old left_new spelled behind most counted =
     let p : ℕ → Bool = λ level. level == top in
     let all = tells-behind top n left_old left_new spelled behind in

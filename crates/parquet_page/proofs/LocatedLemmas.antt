@@ -15,11 +15,11 @@ use Rattle.parquet_meta.specs.declared.page_header.PageKind.TheVariants as kind
 use Rattle.parquet_page.specs.Chunk.{ChunkPage, Dictionary, NoDictionary, Undefined, Defined, data_page_at}
 use Rattle.parquet_page.specs.Content.{Content, content_rows, header_values, is_data, is_shaped}
 use Rattle.parquet_page.specs.Found.{IsInside, found_body, kind_content}
-use Rattle.parquet_page.specs.Lent.{Lent, behind_dictionary, data_of, dictionary_of, if_there, in_front, lent_parts, located_lent, selected_count, wanted_page}
+use Rattle.parquet_page.specs.Lent.{Lent, behind_dictionary, lent_data_of, lent_dictionary_of, if_there, in_front, lent_parts, located_lent, selected_count, wanted_page}
 use Rattle.parquet_page.specs.Located.{dictionary_in, page_in}
-use Rattle.parquet_page.specs.Parts.{Begins, Fills, HasEntries, IsFilled, are_shaped, bytes_for, entry_at, lent_left, no_entry, part_at, part_before, parts_from}
+use Rattle.parquet_page.specs.Parts.{Begins, Fills, HasEntries, IsFilled, are_shaped, bytes_for, entry_at, lent_left, no_entry, wanted_part, part_before, parts_from}
 use Rattle.parquet_page.specs.Spelling.{has_plain_entries}
-use Rattle.parquet_page.specs.Taking.{IsOver, IsRefused, Takes}
+use Rattle.parquet_page.specs.Taking.{IsOver, IsRefused, TakesPage}
 use Rattle.parquet_page.specs.declared.found.FoundPage.{FoundPage}
 use Rattle.parquet_page.specs.declared.page.FilteredPage.{FilteredPage}
 use Rattle.parquet_page.specs.declared.parts.Parts.{Parts}
@@ -61,11 +61,11 @@ left_behind type parts false k entries e h = absurd cc
 
 -- the first of the pages that are left
 next_left : (type : PrimitiveType) (parts : Parts) (k : ℕ) (entries : List FilteredPage) → k < length entries
-    → lent_left type parts false k (drop k entries) ≡ if_there type (entry_at entries k) (wanted_page (entry_at entries k) (part_at parts k (entry_at entries k))) (lent_left type parts false (k + 1) (drop (k + 1) entries))
+    → lent_left type parts false k (drop k entries) ≡ if_there type (entry_at entries k) (wanted_page (entry_at entries k) (wanted_part parts k (entry_at entries k))) (lent_left type parts false (k + 1) (drop (k + 1) entries))
 unfolding lent_parts
 next_left type parts k entries h = ap (λ left. lent_parts type (parts_from parts k left)) (drop_more entries k no_entry h)
 
-pub refused_page : (type : PrimitiveType) (parts : Parts) (k : ℕ) (entries : List FilteredPage) (part : Part) → k < length entries → wanted_page (entry_at entries k) (part_at parts k (entry_at entries k)) ≡ None
+pub refused_page : (type : PrimitiveType) (parts : Parts) (k : ℕ) (entries : List FilteredPage) (part : Part) → k < length entries → wanted_page (entry_at entries k) (wanted_part parts k (entry_at entries k)) ≡ None
     → IsRefused (lent_left type parts false k (drop k entries)) (error.ExternalFormat part)
 refused_page type parts k entries part h none =
     is_damaged _ part (next_left type parts k entries h ∙ ap (λ o. if_there type (entry_at entries k) o (lent_left type parts false (k + 1) (drop (k + 1) entries))) none)
@@ -99,22 +99,22 @@ wanted_rows entry part page e =
 -- the page that fills a part, and what is lent of it
 record HasPage (type : PrimitiveType) (parts : Parts) (entries : List FilteredPage) (k : ℕ) (found : FoundPage) (page_kind : PageKind) : Type 0 where
   page : ChunkPage
-  there : wanted_page (entry_at entries k) (part_at parts k (entry_at entries k)) ≡ Some page
-  same : kind_content type (Some (entry_at entries k).selected_rows) page_kind (found_body (bytes_for parts entries k page_kind) found) ≡ data_of type (Some (entry_at entries k).selected_rows) page
+  there : wanted_page (entry_at entries k) (wanted_part parts k (entry_at entries k)) ≡ Some page
+  same : kind_content type (Some (entry_at entries k).selected_rows) page_kind (found_body (bytes_for parts entries k page_kind) found) ≡ lent_data_of type (Some (entry_at entries k).selected_rows) page
 
-has_page : (type : PrimitiveType) (parts : Parts) (entries : List FilteredPage) (k : ℕ) (found : FoundPage) (page_kind : PageKind) → IsFilled (entry_at entries k) (part_at parts k (entry_at entries k)) found page_kind
+has_page : (type : PrimitiveType) (parts : Parts) (entries : List FilteredPage) (k : ℕ) (found : FoundPage) (page_kind : PageKind) → IsFilled (entry_at entries k) (wanted_part parts k (entry_at entries k)) found page_kind
     → HasPage type parts entries k found page_kind
 has_page type parts entries k found (kind.Data header) is =
-    record { page = record { size = length (part_at parts k (entry_at entries k)); header = header; body = found_body (part_at parts k (entry_at entries k)) found }; there = is; same = refl }
+    record { page = record { size = length (wanted_part parts k (entry_at entries k)); header = header; body = found_body (wanted_part parts k (entry_at entries k)) found }; there = is; same = refl }
 has_page type parts entries k found (kind.Dictionary num_values encoding) is = absurd is
 
 page_is_shaped : (type : PrimitiveType) (entry : FilteredPage) (page : ChunkPage) → header_values page.header ≡ entry.num_rows → is_well_shaped entry.selected_rows entry.num_rows ≡ true
-    → is_shaped (data_of type (Some entry.selected_rows) page) ≡ true
+    → is_shaped (lent_data_of type (Some entry.selected_rows) page) ≡ true
 page_is_shaped type entry page rows shaped = ap (is_well_shaped entry.selected_rows) rows ∙ shaped
 
 pub takes_page : (type : PrimitiveType) (parts : Parts) (entries : List FilteredPage) (k count : ℕ) (found : FoundPage) → k < length entries → are_shaped entries ≡ true → count ≡ selected_count entries
-    → Fills (entry_at entries k) (part_at parts k (entry_at entries k)) found
-    → Takes (kind_content type (Some (entry_at entries k).selected_rows) found.kind (found_body (bytes_for parts entries k found.kind) found)) (lent_left type parts false k (drop k entries)) (lent_left type parts false (k + 1) (drop (k + 1) entries))
+    → Fills (entry_at entries k) (wanted_part parts k (entry_at entries k)) found
+    → TakesPage (kind_content type (Some (entry_at entries k).selected_rows) found.kind (found_body (bytes_for parts entries k found.kind) found)) (lent_left type parts false k (drop k entries)) (lent_left type parts false (k + 1) (drop (k + 1) entries))
     (count - selected_count (drop k entries)) (count - selected_count (drop (k + 1) entries))
 takes_page type parts entries k count found h shaped total fills =
     let has = has_page type parts entries k found found.kind fills.is in
@@ -125,13 +125,13 @@ takes_page type parts entries k count found h shaped total fills =
       first = ap (λ (lent : Lent). lent.pages) step ∙ ap (λ (c : Content). c ∷ others.pages) (sym has.same);
       same = ap (λ (lent : Lent). lent.causes) step;
       data_alone = data_alone type (parts_from parts (k + 1) (drop (k + 1) entries));
-      shaped = ap is_shaped has.same ∙ page_is_shaped type entry has.page (wanted_rows entry (part_at parts k entry) has.page has.there) (shaped_at entries k h shaped);
+      shaped = ap is_shaped has.same ∙ page_is_shaped type entry has.page (wanted_rows entry (wanted_part parts k entry) has.page has.there) (shaped_at entries k h shaped);
       more = omega (arith, rows_step entries k h, fewer_rows entries k, total, ap content_rows has.same);
     }
 
-pub fills_inside : (parts : Parts) (entries : List FilteredPage) (k : ℕ) (found : FoundPage) → Fills (entry_at entries k) (part_at parts k (entry_at entries k)) found → IsInside (bytes_for parts entries k found.kind) found
+pub fills_inside : (parts : Parts) (entries : List FilteredPage) (k : ℕ) (found : FoundPage) → Fills (entry_at entries k) (wanted_part parts k (entry_at entries k)) found → IsInside (bytes_for parts entries k found.kind) found
 fills_inside parts entries k found fills = go found.kind fills.is where
-  go : (page_kind : PageKind) → IsFilled (entry_at entries k) (part_at parts k (entry_at entries k)) found page_kind → IsInside (bytes_for parts entries k page_kind) found
+  go : (page_kind : PageKind) → IsFilled (entry_at entries k) (wanted_part parts k (entry_at entries k)) found page_kind → IsInside (bytes_for parts entries k page_kind) found
   go (kind.Data header) is = fills.inside
   go (kind.Dictionary num_values encoding) is = absurd is
 
@@ -146,7 +146,7 @@ same_dictionary type parts entries k found (kind.Dictionary num_values encoding)
 
 pub takes_dictionary : (type : PrimitiveType) (parts : Parts) (entries : List FilteredPage) (k count : ℕ) (found : FoundPage) (old : Lent)
     → (old ≡ behind_dictionary (dictionary_in (part_before parts)) (lent_left type parts false k (drop k entries))) × Begins (part_before parts) found (lent_left type parts false k (drop k entries))
-    → Takes (kind_content type (Some (entry_at entries k).selected_rows) found.kind (found_body (bytes_for parts entries k found.kind) found)) old (lent_left type parts false k (drop k entries))
+    → TakesPage (kind_content type (Some (entry_at entries k).selected_rows) found.kind (found_body (bytes_for parts entries k found.kind) found)) old (lent_left type parts false k (drop k entries))
     (count - selected_count (drop k entries)) (count - selected_count (drop k entries))
 takes_dictionary type parts entries k count found old begins =
     let others = lent_left type parts false k (drop k entries) in
@@ -170,20 +170,20 @@ begins_inside parts entries k found others begins = go found.kind begins.is wher
 sum_left : (type : PrimitiveType) (parts : Parts) (k : ℕ) (entries : List FilteredPage) → (lent_parts type (parts_from parts k entries)).causes ≡ [] → sum_by content_rows (lent_parts type (parts_from parts k entries)).pages ≡ selected_count entries
 unfolding lent_parts
 sum_left type parts k [] e = refl
-sum_left type parts k (entry ∷ entries) e = go (wanted_page entry (part_at parts k entry)) (sum_left type parts (k + 1) entries) e where
+sum_left type parts k (entry ∷ entries) e = go (wanted_page entry (wanted_part parts k entry)) (sum_left type parts (k + 1) entries) e where
   go : (o : Option ChunkPage) → ((lent_parts type (parts_from parts (k + 1) entries)).causes ≡ [] → sum_by content_rows (lent_parts type (parts_from parts (k + 1) entries)).pages ≡ selected_count entries)
       → (if_there type entry o (lent_parts type (parts_from parts (k + 1) entries))).causes ≡ []
       → sum_by content_rows (if_there type entry o (lent_parts type (parts_from parts (k + 1) entries))).pages ≡ selected_count (entry ∷ entries)
   go None rest e = absurd cc
   go (Some page) rest e =
-      omega (arith, rest e, sum_by-cons content_rows (data_of type (Some entry.selected_rows) page) (lent_parts type (parts_from parts (k + 1) entries)).pages, sum_by-cons (λ other. row_count other.selected_rows) entry entries)
+      omega (arith, rest e, sum_by-cons content_rows (lent_data_of type (Some entry.selected_rows) page) (lent_parts type (parts_from parts (k + 1) entries)).pages, sum_by-cons (λ other. row_count other.selected_rows) entry entries)
 
 sum_behind : (dictionary : Dictionary) (others : Lent) → (behind_dictionary dictionary others).causes ≡ [] → (others.causes ≡ []) × (sum_by content_rows (behind_dictionary dictionary others).pages ≡ sum_by content_rows others.pages)
 sum_behind NoDictionary others e = (e, refl)
 sum_behind Undefined others e = absurd cc
 sum_behind (Defined page) others e = go (has_plain_entries page.encoding) e where
-  go : (b : Bool) → (cond b (in_front (dictionary_of page) others) not_carried).causes ≡ [] → (others.causes ≡ []) × (sum_by content_rows (cond b (in_front (dictionary_of page) others) not_carried).pages ≡ sum_by content_rows others.pages)
-  go true e = (e, omega (arith, sum_by-cons content_rows (dictionary_of page) others.pages))
+  go : (b : Bool) → (cond b (in_front (lent_dictionary_of page) others) not_carried).causes ≡ [] → (others.causes ≡ []) × (sum_by content_rows (cond b (in_front (lent_dictionary_of page) others) not_carried).pages ≡ sum_by content_rows others.pages)
+  go true e = (e, omega (arith, sum_by-cons content_rows (lent_dictionary_of page) others.pages))
   go false e = absurd cc
 
 pub rows_left : (type : PrimitiveType) (parts : Parts) (is_first : Bool) (k : ℕ) (entries : List FilteredPage) → (lent_left type parts is_first k entries).causes ≡ [] → sum_by content_rows (lent_left type parts is_first k entries).pages ≡ selected_count entries

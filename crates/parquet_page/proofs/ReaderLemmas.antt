@@ -8,14 +8,14 @@ use Rattle.parquet_meta.specs.declared.metadata.PrimitiveType.{PrimitiveType}
 use Rattle.parquet_page.specs.Chunk.{ChunkPage, Dictionary, NoDictionary, Undefined, Defined, chunk_dictionary, chunk_pages}
 use Rattle.parquet_page.specs.Content.{Content, DataContent, is_data}
 use Rattle.parquet_page.specs.Lending.{DataPagesAre, has_data_behind}
-use Rattle.parquet_page.specs.Lent.{Lent, behind_dictionary, chunk_lent, data_of, dictionary_of, if_there, in_front, lent_data, lent_parts, located_lent, wanted_page}
+use Rattle.parquet_page.specs.Lent.{Lent, behind_dictionary, chunk_lent, lent_data_of, lent_dictionary_of, if_there, in_front, lent_data, lent_parts, located_lent, wanted_page}
 use Rattle.parquet_page.specs.Spelling.{has_plain_entries}
 use Rattle.parquet_page.specs.declared.page.FilteredPage.{FilteredPage}
 use Rattle.parquet_page.proofs.CursorLemmas.{data_alone}
 use Rattle.parquet_page.proofs.LocatedLemmas.{data_alone as parts_alone}
 
 module _ (P : DataContent → Type 0) (type : PrimitiveType) (all : (page : DataContent) → page.type ≡ type → P page) where
-  data_pages : (pages : List ChunkPage) → DataPagesAre P (map (data_of type None) pages)
+  data_pages : (pages : List ChunkPage) → DataPagesAre P (map (lent_data_of type None) pages)
   data_pages [] = tt
   data_pages (page ∷ pages) = (all (record { header = page.header; body = page.body; type = type; selected = None }) refl, data_pages pages)
 
@@ -23,7 +23,7 @@ module _ (P : DataContent → Type 0) (type : PrimitiveType) (all : (page : Data
   behind NoDictionary others own = own
   behind Undefined others own = tt
   behind (Defined page) others own =
-      elim (has_plain_entries page.encoding) as (λ plain. DataPagesAre P (if plain then in_front (dictionary_of page) others else record { pages = []; causes = NotYetImplemented ∷ [] }).pages) [ true ↦ own | false ↦ tt ]
+      elim (has_plain_entries page.encoding) as (λ plain. DataPagesAre P (if plain then in_front (lent_dictionary_of page) others else record { pages = []; causes = NotYetImplemented ∷ [] }).pages) [ true ↦ own | false ↦ tt ]
 
   pub chunk_pages_are : (num_values : ℕ) (chunk : List ℕ) → DataPagesAre P (chunk_lent type num_values chunk).pages
   unfolding chunk_lent
@@ -54,7 +54,7 @@ behind-dictionary : (dictionary : Dictionary) (others : Lent) → list_all is_da
 behind-dictionary NoDictionary others alone = alone-behind others.pages alone
 behind-dictionary Undefined others alone = refl
 behind-dictionary (Defined page) others alone =
-    elim (has_plain_entries page.encoding) as (λ plain. has_data_behind (if plain then in_front (dictionary_of page) others else record { pages = []; causes = NotYetImplemented ∷ [] }).pages ≡ true) [ true ↦ alone | false ↦ refl ]
+    elim (has_plain_entries page.encoding) as (λ plain. has_data_behind (if plain then in_front (lent_dictionary_of page) others else record { pages = []; causes = NotYetImplemented ∷ [] }).pages ≡ true) [ true ↦ alone | false ↦ refl ]
 
 pub chunk_ordered : (type : PrimitiveType) (num_values : ℕ) (chunk : List ℕ) → has_data_behind (chunk_lent type num_values chunk).pages ≡ true
 unfolding chunk_lent

@@ -33,7 +33,7 @@ pub data Dictionary : Type 0 where
   Defined : DictionaryPage → Dictionary
 
 -- data pages one behind the other, as far as they are defined, and whether that is all the way
-pub record Walk : Type 0 where
+pub record PageWalk : Type 0 where
   pub pages : List ChunkPage
   pub is_whole : Bool
 
@@ -51,15 +51,15 @@ page_at bytes = do
   header ← page_header bytes
   given (nat_le header.0.size (length header.1)) (record { kind = header.0.kind; body = take header.0.size header.1 }, drop header.0.size header.1)
 
-abbrev pub data_header : PageKind → Option DataPageHeader
-data_header (kind.Data header) = Some header
-data_header (kind.Dictionary values encoding) = None
+abbrev pub as_data_header : PageKind → Option DataPageHeader
+as_data_header (kind.Data header) = Some header
+as_data_header (kind.Dictionary values encoding) = None
 
 -- the data page at the front, if it holds at most `left` values, and the bytes after it
 unfoldable pub data_page_at : ℕ → Read ChunkPage
 data_page_at left bytes = do
   page ← page_at bytes
-  header ← data_header page.0.kind
+  header ← as_data_header page.0.kind
   given (nat_le (header_values header) left) (record { size = length bytes - length page.1; header = header; body = page.0.body }, page.1)
 
 abbrev pub dictionary_page : ℕ → PageKind → List ℕ → Option DictionaryPage
@@ -76,12 +76,12 @@ dictionary_at bytes = do
 -- ---- the pages of a chunk
 
 -- a walk that goes on behind a page, if one is defined
-abbrev pub walk_on : Option (ChunkPage × List ℕ) → (ChunkPage → List ℕ → Walk) → Walk
+abbrev pub walk_on : Option (ChunkPage × List ℕ) → (ChunkPage → List ℕ → PageWalk) → PageWalk
 walk_on None further = record { pages = []; is_whole = false }
 walk_on (Some read) further = let rest = further read.0 read.1 in record { pages = read.0 ∷ rest.pages; is_whole = rest.is_whole }
 
 -- Data pages until they hold `left` values. There are no more pages than bytes.
-unfoldable pub pages_from : ℕ → ℕ → List ℕ → Walk
+unfoldable pub pages_from : ℕ → ℕ → List ℕ → PageWalk
 pages_from limit zero bytes = record { pages = []; is_whole = true }
 pages_from zero (suc left) bytes = record { pages = []; is_whole = false }
 pages_from (suc limit) (suc left) bytes = walk_on (data_page_at (suc left) bytes) (λ page rest. pages_from limit (suc left - header_values page.header) rest)
@@ -99,7 +99,7 @@ abbrev pub dictionary_size : List ℕ → ℕ
 dictionary_size chunk = option_map_or (λ (read : DictionaryPage × List ℕ). read.0.size) (dictionary_at chunk) 0
 
 -- the data pages of a chunk of so many values
-unfoldable pub chunk_pages : ℕ → List ℕ → Walk
+unfoldable pub chunk_pages : ℕ → List ℕ → PageWalk
 chunk_pages num_values chunk = pages_from (length chunk) num_values (drop (dictionary_size chunk) chunk)
 
 -- pages one behind the other, from a place and a row on

@@ -3,13 +3,13 @@ use Rattle.std.specs.Prelude.{ℕ, ◌-◌, zero, suc, Bool, true, false, List, 
 use Rattle.parquet_meta.specs.declared.metadata.PrimitiveType.{PrimitiveType}
 use Rattle.parquet_meta.specs.declared.page_header.PageKind.{PageKind}
 use Rattle.parquet_meta.specs.declared.page_header.PageKind.TheVariants as kind
-use Rattle.parquet_page.specs.Chunk.{DictionaryPage, Defined, Walk, dictionary_at, pages_from}
+use Rattle.parquet_page.specs.Chunk.{DictionaryPage, Defined, PageWalk, dictionary_at, pages_from}
 use Rattle.parquet_page.specs.Lent.{Lent, nothing, lent_data, behind_dictionary}
 use Rattle.parquet_page.specs.Spelling.{has_plain_entries}
 use Rattle.parquet_page.specs.declared.cursor.Cursor.{Cursor}
 
 -- a dictionary page, if one is there, and then data pages
-abbrev pub lent_behind : PrimitiveType → Option (DictionaryPage × List ℕ) → (List ℕ → Walk) → List ℕ → Lent
+abbrev pub lent_behind : PrimitiveType → Option (DictionaryPage × List ℕ) → (List ℕ → PageWalk) → List ℕ → Lent
 lent_behind type None walk bytes = lent_data type (walk bytes)
 lent_behind type (Some read) walk bytes = behind_dictionary (Defined read.0) (lent_data type (walk read.1))
 

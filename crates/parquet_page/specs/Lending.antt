@@ -23,10 +23,10 @@ ticks steps (Ok None) = steps
 ticks steps (Err error) = steps
 
 -- one more, up to the last value of a 64-bit count
-abbrev pub counted : ℕ → Result (Option Page) Error → ℕ
-counted count (Ok (Some page)) = min (count + 1) (2 ^ 64 - 1)
-counted count (Ok None) = count
-counted count (Err error) = count
+abbrev pub count_lent : ℕ → Result (Option Page) Error → ℕ
+count_lent count (Ok (Some page)) = min (count + 1) (2 ^ 64 - 1)
+count_lent count (Ok None) = count
+count_lent count (Err error) = count
 
 abbrev pub rest_of : List Content → List Content
 rest_of [] = []
@@ -67,7 +67,7 @@ pub record Leaves (result : Result (Option Page) Error) (old new : List Content)
   pub goes_on : GoesOn result old new causes causes_now
   pub same_rows : rows_now ≡ rows
   pub more_rows : GivesRows result given given_now
-  pub one_more : lent_now ≡ counted lent result
+  pub one_more : lent_now ≡ count_lent lent result
 
 -- the selected rows of a page that is lent are well shaped for its values
 abbrev pub LendsShaped : Result (Option Page) Error → Type 0

@@ -7,7 +7,7 @@ use Rattle.parquet_base.specs.Intervals.{is_well_shaped, row_count}
 use Rattle.parquet_base.specs.declared.interval.Interval.{Interval}
 use Rattle.parquet_meta.specs.declared.metadata.PrimitiveType.{PrimitiveType}
 use Rattle.parquet_page.specs.Content.{Content, DataOf, DictContent, DictOf}
-use Rattle.parquet_page.specs.Chunk.{ChunkPage, DictionaryPage, Dictionary, NoDictionary, Undefined, Defined, Walk, chunk_dictionary, chunk_pages}
+use Rattle.parquet_page.specs.Chunk.{ChunkPage, DictionaryPage, Dictionary, NoDictionary, Undefined, Defined, PageWalk, chunk_dictionary, chunk_pages}
 use Rattle.parquet_page.specs.Located.{dictionary_in, located_dictionary, page_in}
 use Rattle.parquet_page.specs.Spelling.{has_plain_entries}
 use Rattle.parquet_page.specs.declared.page.FilteredPage.{FilteredPage}
@@ -27,26 +27,26 @@ damaged = record { pages = []; causes = ExternalFormat ∷ [] }
 abbrev pub in_front : Content → Lent → Lent
 in_front page others = record { pages = page ∷ others.pages; causes = others.causes }
 
-abbrev pub data_of : PrimitiveType → Option (List Interval) → ChunkPage → Content
-data_of type selected page = DataOf (record { header = page.header; body = page.body; type = type; selected = selected })
+abbrev pub lent_data_of : PrimitiveType → Option (List Interval) → ChunkPage → Content
+lent_data_of type selected page = DataOf (record { header = page.header; body = page.body; type = type; selected = selected })
 
 abbrev pub dictionary_content_of : DictionaryPage → DictContent
 dictionary_content_of page = record { body = page.body; num_values = page.num_values }
 
-abbrev pub dictionary_of : DictionaryPage → Content
-dictionary_of page = DictOf (dictionary_content_of page)
+abbrev pub lent_dictionary_of : DictionaryPage → Content
+lent_dictionary_of page = DictOf (dictionary_content_of page)
 
 -- a dictionary, if there is one, in front of other pages
 abbrev pub behind_dictionary : Dictionary → Lent → Lent
 behind_dictionary NoDictionary others = others
 behind_dictionary Undefined others = damaged
-behind_dictionary (Defined page) others = if has_plain_entries page.encoding then in_front (dictionary_of page) others else record { pages = []; causes = NotYetImplemented ∷ [] }
+behind_dictionary (Defined page) others = if has_plain_entries page.encoding then in_front (lent_dictionary_of page) others else record { pages = []; causes = NotYetImplemented ∷ [] }
 
 -- ---- whole chunks
 
 -- data pages, and what stands behind them
-abbrev pub lent_data : PrimitiveType → Walk → Lent
-lent_data type walk = record { pages = map (data_of type None) walk.pages; causes = unless walk.is_whole ExternalFormat }
+abbrev pub lent_data : PrimitiveType → PageWalk → Lent
+lent_data type walk = record { pages = map (lent_data_of type None) walk.pages; causes = unless walk.is_whole ExternalFormat }
 
 -- What is lent of a chunk: its dictionary page, if it begins with one, and its data pages. Of a chunk of no values nothing is lent.
 unfoldable pub chunk_lent : PrimitiveType → ℕ → List ℕ → Lent
@@ -67,7 +67,7 @@ wanted_page entry part = do
 
 abbrev pub if_there : PrimitiveType → FilteredPage → Option ChunkPage → Lent → Lent
 if_there type entry None others = damaged
-if_there type entry (Some page) others = in_front (data_of type (Some entry.selected_rows) page) others
+if_there type entry (Some page) others = in_front (lent_data_of type (Some entry.selected_rows) page) others
 
 -- pages in their parts, in order, each with its selected rows
 unfoldable pub lent_parts : PrimitiveType → List (FilteredPage × List ℕ) → Lent

@@ -6,7 +6,7 @@ use Rattle.parquet_page.specs.Content.{Content}
 use Rattle.parquet_page.specs.Found.{IsInside, found_body, kind_content}
 use Rattle.parquet_page.specs.Lent.{Lent, behind_dictionary, selected_count, wanted_page}
 use Rattle.parquet_page.specs.Located.{dictionary_in}
-use Rattle.parquet_page.specs.Parts.{Begins, Fills, bytes_for, entry_at, lent_left, part_at, part_before}
+use Rattle.parquet_page.specs.Parts.{Begins, Fills, bytes_for, entry_at, lent_left, wanted_part, part_before}
 use Rattle.parquet_page.specs.Taking.{IsRefused}
 use Rattle.parquet_page.specs.declared.found.FoundPage.{FoundPage}
 use Rattle.parquet_page.specs.declared.located.Located.{Located}
@@ -32,7 +32,7 @@ FindsFirst type located (Err error) = IsRefused (located_left type located) erro
 -- the page that fills the part of an entry
 abbrev pub FindsData : Located → ℕ → Option FoundPage → Type 0
 FindsData located k found =
-    let entry = entry_at located.entries.items k in let part = part_at located.parts k entry in
+    let entry = entry_at located.entries.items k in let part = wanted_part located.parts k entry in
     MatchOption found (wanted_page entry part ≡ None) (Fills entry part)
 
 -- the rows that are not to come any more
@@ -40,13 +40,13 @@ abbrev pub located_given : Located → ℕ
 located_given located = located.count - selected_count (drop located.next located.entries.items)
 
 -- where a page was found: a dictionary page in the part before the first page, a data page in the part of its entry
-abbrev pub bytes_of : Parts → List FilteredPage → LocatedPage → List ℕ
-bytes_of parts entries page = bytes_for parts entries page.entry page.found.kind
+abbrev pub located_page_bytes : Parts → List FilteredPage → LocatedPage → List ℕ
+located_page_bytes parts entries page = bytes_for parts entries page.entry page.found.kind
 
 -- what is lent of it
 abbrev pub located_content : PrimitiveType → Parts → List FilteredPage → LocatedPage → Content
-located_content type parts entries page = kind_content type (Some (entry_at entries page.entry).selected_rows) page.found.kind (found_body (bytes_of parts entries page) page.found)
+located_content type parts entries page = kind_content type (Some (entry_at entries page.entry).selected_rows) page.found.kind (found_body (located_page_bytes parts entries page) page.found)
 
 pub record IsLocated (parts : Parts) (entries : List FilteredPage) (page : LocatedPage) : Type 0 where
   pub entry : page.entry < length entries
-  pub inside : IsInside (bytes_of parts entries page) page.found
+  pub inside : IsInside (located_page_bytes parts entries page) page.found

@@ -27,9 +27,9 @@ part_before (Chunk bytes first) = take first bytes.items
 part_before (Bodies before bodies) = before.items
 
 -- the part of wanted page k
-abbrev pub part_at : Parts → ℕ → FilteredPage → List ℕ
-part_at (Chunk bytes first) k entry = slice_range bytes.items entry.start (entry.start + entry.length)
-part_at (Bodies before bodies) k entry = get_or (map (λ body. body.items) bodies.items) k []
+abbrev pub wanted_part : Parts → ℕ → FilteredPage → List ℕ
+wanted_part (Chunk bytes first) k entry = slice_range bytes.items entry.start (entry.start + entry.length)
+wanted_part (Bodies before bodies) k entry = get_or (map (λ body. body.items) bodies.items) k []
 
 -- there is a part for each wanted page, and one before the first of them
 abbrev pub hold : Parts → List FilteredPage → Bool
@@ -42,14 +42,14 @@ are_shaped entries = list_all (λ entry. is_well_shaped entry.selected_rows entr
 -- wanted pages from number k on, each with its part
 abbrev pub parts_from : Parts → ℕ → List FilteredPage → List (FilteredPage × List ℕ)
 parts_from parts k [] = []
-parts_from parts k (entry ∷ entries) = (entry, part_at parts k entry) ∷ parts_from parts (k + 1) entries
+parts_from parts k (entry ∷ entries) = (entry, wanted_part parts k entry) ∷ parts_from parts (k + 1) entries
 
 abbrev pub lent_left : PrimitiveType → Parts → Bool → ℕ → List FilteredPage → Lent
 lent_left type parts true k entries = located_lent type (dictionary_in (part_before parts)) (parts_from parts k entries)
 lent_left type parts false k entries = lent_parts type (parts_from parts k entries)
 
 abbrev pub bytes_for : Parts → List FilteredPage → ℕ → PageKind → List ℕ
-bytes_for parts entries entry (kind.Data header) = part_at parts entry (entry_at entries entry)
+bytes_for parts entries entry (kind.Data header) = wanted_part parts entry (entry_at entries entry)
 bytes_for parts entries entry (kind.Dictionary values encoding) = part_before parts
 
 abbrev pub IsFilled : FilteredPage → List ℕ → FoundPage → PageKind → Type 0

@@ -10,10 +10,10 @@ expand (Present rows) = replicate rows Keep
 expand (Null rows) = replicate rows KeepNull
 expand (Passed values) = replicate values Pass
 
-abbrev pub run_length : Run → ℕ
-run_length (Present rows) = rows
-run_length (Null rows) = rows
-run_length (Passed values) = values
+abbrev pub run_items : Run → ℕ
+run_items (Present rows) = rows
+run_items (Null rows) = rows
+run_items (Passed values) = values
 
 -- how many rows a run gives
 abbrev pub run_rows : Run → ℕ
@@ -24,4 +24,4 @@ run_rows (Passed values) = 0
 -- The steps begin with a run that gives so many rows at most; without a run none is left.
 abbrev pub GivesRun : ℕ → List Step → List Step → Option Run → Type 0
 GivesRun limit old new None = (old ≡ []) × (new ≡ [])
-GivesRun limit old new (Some run) = (old ≡ expand run ++ new) × (0 < run_length run) × (run_rows run ≤ limit)
+GivesRun limit old new (Some run) = (old ≡ expand run ++ new) × (0 < run_items run) × (run_rows run ≤ limit)

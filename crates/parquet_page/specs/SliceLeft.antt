@@ -35,7 +35,7 @@ first_left walk rows = first_count walk.place (drop walk.interval rows)
 
 -- The next values are passed over, and the rows behind them are the first of those that were left: all of one interval, or as
 -- many of them as are asked for. Without an answer none was left.
-abbrev pub GivesRun : ℕ → List Interval → SliceFiltered → SliceFiltered → Option (ℕ × ℕ) → Type 0
-GivesRun limit rows old new None = (rows_left old rows ≡ []) × (new ≡ old)
-GivesRun limit rows old new (Some run) =
+abbrev pub GivesSliceRows : ℕ → List Interval → SliceFiltered → SliceFiltered → Option (ℕ × ℕ) → Type 0
+GivesSliceRows limit rows old new None = (rows_left old rows ≡ []) × (new ≡ old)
+GivesSliceRows limit rows old new (Some run) =
     (rows_left old rows ≡ range_with_len (old.place + run.0) run.1 ++ rows_left new rows) × (new.place ≡ old.place + run.0 + run.1) × (0 < run.1) × (run.1 ≡ min limit (first_left old rows))

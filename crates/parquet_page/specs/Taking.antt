@@ -12,7 +12,7 @@ abbrev pub IsOver : Lent → Type 0
 IsOver lent = HasEnded lent.pages lent.causes
 
 -- a page is taken from the front: behind it data pages alone are still to come
-pub record Takes (page : Content) (old new : Lent) (given given_now : ℕ) : Type 0 where
+pub record TakesPage (page : Content) (old new : Lent) (given given_now : ℕ) : Type 0 where
   pub first : old.pages ≡ page ∷ new.pages
   pub same : old.causes ≡ new.causes
   pub data_alone : list_all is_data new.pages ≡ true
@@ -25,12 +25,12 @@ pub record IsRefused (lent : Lent) (error : Error) : Type 0 where
   pub told : IsOneOf lent.causes (cause_of error)
 
 -- one page is taken, or an error stands there
-abbrev pub Opens : {X : Type 0} → (X → Content) → Result X Error → Lent → Lent → ℕ → ℕ → Type 0
-Opens shown (Ok found) old new given given_now = Takes (shown found) old new given given_now
-Opens shown (Err error) old new given given_now = IsRefused old error
+abbrev pub OpensPage : {X : Type 0} → (X → Content) → Result X Error → Lent → Lent → ℕ → ℕ → Type 0
+OpensPage shown (Ok found) old new given given_now = TakesPage (shown found) old new given given_now
+OpensPage shown (Err error) old new given given_now = IsRefused old error
 
 -- likewise, or nothing comes any more
 abbrev pub Walks : {X : Type 0} → (X → Content) → Result (Option X) Error → Lent → Lent → ℕ → ℕ → Type 0
-Walks shown (Ok (Some found)) old new given given_now = Takes (shown found) old new given given_now
+Walks shown (Ok (Some found)) old new given given_now = TakesPage (shown found) old new given given_now
 Walks shown (Ok None) old new given given_now = IsOver old × IsOver new × (given_now ≡ given)
 Walks shown (Err error) old new given given_now = IsRefused old error × IsOver new

@@ -3,7 +3,7 @@ use Rattle.std.specs.Prelude.{◌≡◌, ℕ, ◌<◌, ◌≤◌, Bool, List, []
 use Rattle.columns_core.specs.Bits.{low_bits}
 use Rattle.parquet_page.specs.Levels.{present_count}
 use Rattle.parquet_page.specs.Plan.{Step, plan}
-use Rattle.parquet_page.specs.Runs.{expand, run_length, run_rows}
+use Rattle.parquet_page.specs.Runs.{expand, run_items, run_rows}
 use Rattle.parquet_page.specs.declared.validity_part.ValidityPart.{ValidityPart}
 use Rattle.parquet_page.specs.declared.validity_part.ValidityPart.TheVariants.{Run, Word}
 use Rattle.parquet_page.specs.declared.validity_part.ValidityWord.{ValidityWord}
@@ -26,7 +26,7 @@ part_steps (Run run) = expand run
 part_steps (Word word) = word_steps word
 
 abbrev pub part_length : ValidityPart → ℕ
-part_length (Run run) = run_length run
+part_length (Run run) = run_items run
 part_length (Word word) = word.rows
 
 -- how many rows a part gives

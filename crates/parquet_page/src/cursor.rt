@@ -1,7 +1,7 @@
 //! A place in a chunk.
 ghost use Rattle.std.specs.Prelude.{◌≡◌, ◌+◌, ◌<◌, ◌≤◌, slice_range, vec_len, IfOk, IfSome, IsTrue, None};
 ghost use Rattle.parquet_page.specs.Found.{IsInside, found_content};
-ghost use Rattle.parquet_page.specs.Taking.{Opens, Walks};
+ghost use Rattle.parquet_page.specs.Taking.{OpensPage, Walks};
 ghost use Rattle.parquet_meta.specs.declared.metadata.PrimitiveType.{PrimitiveType};
 
 use crate::found::{FoundPage, find_page, has_readable_entries, value_count};
@@ -69,7 +69,7 @@ impl Cursor {
     fn open(&mut self) -> Result<FoundPage, Error>
         requires { 0 < self.old.left }
         ensures opens { (type : PrimitiveType)
-            → Opens (found_content type None self.old.chunk.items) result (cursor_lent type self.old)
+            → OpensPage (found_content type None self.old.chunk.items) result (cursor_lent type self.old)
             (cursor_lent type self.new) (cursor_given self.old) (cursor_given self.new) }
         ensures chunk { self.new.chunk.items ≡ self.old.chunk.items }
         ensures count { self.new.count ≡ self.old.count }

@@ -36,8 +36,8 @@ pub(crate) struct Located {
 }
 
 impl Located {
-    ghost use Rattle.parquet_page.specs.LocatedLeft.{FindsData, FindsFirst, IsLocated, bytes_of, located_content, located_given, located_left};
-    ghost use Rattle.parquet_page.specs.Taking.{Opens, Walks};
+    ghost use Rattle.parquet_page.specs.LocatedLeft.{FindsData, FindsFirst, IsLocated, located_page_bytes, located_content, located_given, located_left};
+    ghost use Rattle.parquet_page.specs.Taking.{OpensPage, Walks};
 
     /// Before the first page.
     pub(crate) fn new(parts: Parts, entries: Vec<FilteredPage>, count: usize) -> Self
@@ -87,7 +87,7 @@ impl Located {
     fn open(&mut self) -> Result<LocatedPage, Error>
         requires { self.old.next < length self.old.entries.items }
         ensures opens { (type : PrimitiveType)
-            → Opens (located_content type self.old.parts self.old.entries.items) result
+            → OpensPage (located_content type self.old.parts self.old.entries.items) result
             (located_left type self.old) (located_left type self.new) (located_given self.old)
             (located_given self.new) }
         ensures parts { self.new.parts ≡ self.old.parts }
@@ -133,7 +133,7 @@ impl Located {
     pub(crate) fn body(&self, page: &LocatedPage) -> &[u8]
         requires { IsLocated self.now.parts self.now.entries.items page.now }
         ensures { result.now ≡ slice_range
-            (bytes_of self.now.parts self.now.entries.items page.now) page.now.found.body page.now.found.end }
+            (located_page_bytes self.now.parts self.now.entries.items page.now) page.now.found.body page.now.found.end }
     {
         let part = match page.found.kind {
             PageKind::Data(_) => self.parts.part_of(self.entries.as_slice(), page.entry),

@@ -1,7 +1,7 @@
 //! Parts of a chunk that hold one page each.
 ghost use Rattle.std.specs.Prelude.{◌≡◌, ◌<◌, ◌≤◌, length, MatchOption, None, true};
 ghost use Rattle.parquet_page.specs.Lent.{Lent, wanted_page};
-ghost use Rattle.parquet_page.specs.Parts.{Fills, FindsDictionary, entry_at, hold, part_at, part_before as part_before_by};
+ghost use Rattle.parquet_page.specs.Parts.{Fills, FindsDictionary, entry_at, hold, wanted_part, part_before as part_before_by};
 
 use crate::found::{FoundPage, find_page, has_readable_entries, value_count};
 use crate::page::FilteredPage;
@@ -40,7 +40,7 @@ impl Parts {
     pub(crate) fn part_of(&self, entries: &[FilteredPage], k: usize) -> &[u8]
         requires parts { hold self.now entries.now ≡ true }
         requires within { k < length entries.now }
-        ensures { result.now ≡ part_at self.now k (entry_at entries.now k) }
+        ensures { result.now ≡ wanted_part self.now k (entry_at entries.now k) }
     {
         match self {
             Parts::Chunk { bytes, .. } => {

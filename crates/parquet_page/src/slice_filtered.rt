@@ -19,7 +19,7 @@ pub struct SliceFiltered {
 }
 
 impl SliceFiltered {
-    ghost use Rattle.parquet_page.specs.SliceLeft.{GivesRun, IsWalkOver, rows_left};
+    ghost use Rattle.parquet_page.specs.SliceLeft.{GivesSliceRows, IsWalkOver, rows_left};
 
     /// Before the first value.
     pub fn new(rows: &[Interval]) -> Self
@@ -39,7 +39,7 @@ impl SliceFiltered {
     pub fn next(&mut self, rows: &[Interval], limit: usize) -> Option<(usize, usize)>
         requires walk { IsWalkOver self.old rows.now }
         requires limit { 0 < limit }
-        ensures run { GivesRun limit rows.now self.old self.new result }
+        ensures run { GivesSliceRows limit rows.now self.old self.new result }
         ensures walk { IsWalkOver self.new rows.now }
     {
         let interval = *rows.get(self.interval)?;

@@ -14,7 +14,7 @@ use Rattle.parquet_meta.specs.ColumnIndex.{column_index_field, column_index_of, 
 use Rattle.parquet_meta.specs.Front.{value_in}
 use Rattle.parquet_meta.specs.Meaning.{Rule, i32, i64, byte_string, truth_element, unknown, in_turn, struct_of, each, list_of, setting, made, with_rest, by_rule}
 use Rattle.parquet_meta.specs.OffsetIndex.{location_field, location_of, location, offset_index_field, offset_index_of, offset_index, locations_in}
-use Rattle.parquet_meta.specs.PageHeader.{data_field, data_of, data_header, header_field, header_of, header, page_header, page_type}
+use Rattle.parquet_meta.specs.PageHeader.{data_field, data_of, data_header, header_field, page_header_of, header, page_header, page_type}
 use Rattle.parquet_meta.specs.declared.metadata.PageLocation.{PageLocation}
 use Rattle.parquet_plain.specs.Structs.{page_header_fields, page_header_bytes, location_value, offset_index_fields, offset_index_bytes, column_index_fields, column_index_bytes}
 use Rattle.parquet_plain.specs.Fits.{FitsIndex, FitsLocation, IsFew, HasShortLength}
@@ -49,7 +49,7 @@ each-same {A = A} rule kind value xs one =
 -- ---- page headers
 
 page_header-means : (rows size : ℕ) → header 12 (struct (page_header_fields rows size)) ≡ Some (plain_header rows size)
-unfolding header header_field page_type header_of data_header data_field data_of small_count i32 setting made struct_of in_turn unknown
+unfolding header header_field page_type page_header_of data_header data_field data_of small_count i32 setting made struct_of in_turn unknown
 page_header-means rows size = refl
 
 page_header-can : (rows size : ℕ) → rows < 2 ^ 31 → size < 2 ^ 31 → CanWriteFields 0 (page_header_fields rows size)

@@ -10,7 +10,7 @@ use Rattle.parquet_meta.specs.declared.page_header.DataPageHeader.{DataPageHeade
 use Rattle.parquet_meta.specs.declared.page_header.DataPageHeader.TheVariants.{V1}
 use Rattle.parquet_meta.specs.declared.page_header.PageHeader.{PageHeader}
 use Rattle.parquet_meta.specs.declared.page_header.PageKind.TheVariants.{Data}
-use Rattle.parquet_page.specs.Chunk.{ChunkPage, PlacedPage, Walk}
+use Rattle.parquet_page.specs.Chunk.{ChunkPage, PlacedPage, PageWalk}
 use Rattle.parquet_page.specs.Content.{DataContent}
 use Rattle.parquet_page.specs.Locations.{located}
 use Rattle.parquet_page.specs.Stored.{Stored}
@@ -51,7 +51,7 @@ abbrev pub chunk_page : PlainPage → ChunkPage
 chunk_page page = record { size = length (page_bytes page); header = plain_page_header page.rows; body = page.body }
 
 -- all pages of a chunk, and nothing else
-abbrev pub whole_walk : List PlainPage → Walk
+abbrev pub whole_walk : List PlainPage → PageWalk
 whole_walk pages = record { pages = map chunk_page pages; is_whole = true }
 
 -- a page of items, whole

@@ -6,7 +6,7 @@ use Rattle.std.proofs.lemmas.List.{append-nil, length-map, map-append, take-appe
 use Rattle.std.proofs.lemmas.List.Concat.{flat_map-cons}
 use Rattle.std.proofs.lemmas.List.Sums.{sum_by-cons}
 use Rattle.columns_core.specs.Array.{cells, data_type_of}
-use Rattle.columns_core.specs.Chunk.{rows_of}
+use Rattle.columns_core.specs.Chunk.{array_rows}
 use Rattle.columns_core.specs.declared.array.Array.{Array}
 use Rattle.columns_core.specs.declared.cell.Cell.{Cell}
 use Rattle.page_decoding.specs.Outcome.{Given, Outcome}
@@ -21,7 +21,7 @@ pub have_rows : HaveRows
 have_rows left [] all = omega (arith, all)
 have_rows left (chunk ∷ chunks) all =
     let rest = have_rows all.0 chunks all.4 in
-    omega (arith, rest, all.3.3, sum_by-cons rows_of chunk chunks)
+    omega (arith, rest, all.3.3, sum_by-cons array_rows chunk chunks)
 
 -- ---- which rows they are
 

@@ -9,7 +9,7 @@ use Rattle.columns_core.specs.declared.data_type.DataType.{DataType}
 use Rattle.columns_core.specs.declared.error.Error.{Error}
 use Rattle.parquet_base.specs.Reading.{given}
 use Rattle.parquet_meta.specs.Chunks.{chunk_range, chunk_start}
-use Rattle.parquet_meta.specs.Places.{after, bytes_at}
+use Rattle.parquet_meta.specs.Places.{place_end, bytes_at}
 use Rattle.parquet_meta.specs.declared.metadata.ColumnChunkMetaData.{ColumnChunkMetaData}
 use Rattle.parquet_meta.specs.declared.metadata.Place.{Place}
 use Rattle.parquet_page.specs.Indexed.{indexed_count, indexed_lent, indexed_rows}
@@ -48,14 +48,14 @@ nulls_alike data_type size rows entries column bytes own nulls =
 
 -- ---- in the file
 
-pub left_there : (data_type : DataType) (size : Option ℕ) (rows : ℕ) (entries : Option (List FilteredPage)) (column : ColumnChunkMetaData) (file : List ℕ) → nat_le (after (chunk_range column)) (length file) ≡ true
+pub left_there : (data_type : DataType) (size : Option ℕ) (rows : ℕ) (entries : Option (List FilteredPage)) (column : ColumnChunkMetaData) (file : List ℕ) → nat_le (place_end (chunk_range column)) (length file) ≡ true
     → left_in_file data_type size rows entries column file ≡ opened_left data_type size rows entries (column, bytes_at file (chunk_range column))
 left_there data_type size rows entries column file there =
     ap (λ (b : Bool). option_and_then (λ (bytes : List ℕ). opened_left data_type size rows entries (column, bytes)) (if b then Some (bytes_at file (chunk_range column)) else None)) there
 
-pub range_there : (file : List ℕ) (range own : Place) → given (nat_le (after range) (length file)) range ≡ Some own → nat_le (after range) (length file) ≡ true
-range_there file range own there = go (nat_le (after range) (length file)) refl where
-  go : (b : Bool) → nat_le (after range) (length file) ≡ b → nat_le (after range) (length file) ≡ true
+pub range_there : (file : List ℕ) (range own : Place) → given (nat_le (place_end range) (length file)) range ≡ Some own → nat_le (place_end range) (length file) ≡ true
+range_there file range own there = go (nat_le (place_end range) (length file)) refl where
+  go : (b : Bool) → nat_le (place_end range) (length file) ≡ b → nat_le (place_end range) (length file) ≡ true
   go true is = is
   go false is = absurd (let bad : None ≡ Some own = sym (ap (λ (b : Bool). given b range) is) ∙ there in cc)
 

@@ -11,7 +11,7 @@ use Rattle.parquet_page.specs.Lent.{are_well_shaped}
 use Rattle.parquet_page.specs.declared.page.FilteredPage.{FilteredPage}
 use Rattle.page_decoding.specs.Queue.{IsChunkSize}
 use Rattle.flat_values.specs.ColumnLeft.{ColumnLeft}
-use Rattle.parquet_read.specs.Opening.{AreShaped, ChunkBytes, IsLegalOpening, IsRefusal, Opens, chunk_causes_for, field_left, lone, opened_left, opening_causes}
+use Rattle.parquet_read.specs.Opening.{AreShaped, ChunkBytes, IsLegalOpening, IsRefusal, OpensAsked, chunk_causes_for, field_left, lone, opened_left, opening_causes}
 use Rattle.parquet_read.proofs.OpenLemmas.{refusal_for}
 
 pub lone-map : {A B : Type 0} (f : A → B) (xs : List A) → lone (map f xs) ≡ option_map f (lone xs)
@@ -68,7 +68,7 @@ own_list (Some all) own is =
 -- no column, or more than one
 pub none_lone : {X : Type 0} (left_of : X → ColumnLeft) (data_type : DataType) (size : Option ℕ) (rows : ℕ) (lists : Option (List (List FilteredPage))) (chunks : List ChunkBytes) (error : Error)
     → lone chunks ≡ None → cause_of error ≡ Some NotYetImplemented
-    → Opens (IsLegalOpening size (length chunks) lists) (opening_causes data_type lists chunks) left_of (field_left data_type size rows lists chunks) (Err error)
+    → OpensAsked (IsLegalOpening size (length chunks) lists) (opening_causes data_type lists chunks) left_of (field_left data_type size rows lists chunks) (Err error)
 none_lone left_of data_type size rows lists chunks error none cause = record {
   legal = tt;
   sound = tt;
@@ -83,8 +83,8 @@ none_lone left_of data_type size rows lists chunks error none cause = record {
 -- one column
 pub one_opens : {X : Type 0} (left_of : X → ColumnLeft) (data_type : DataType) (size : Option ℕ) (rows : ℕ) (lists : Option (List (List FilteredPage))) (chunks : List ChunkBytes) (chunk : ChunkBytes)
     (result : Result X Error) → lone chunks ≡ Some chunk → IsChunkSize size → IfSome lists (λ all. length all ≡ length chunks)
-    → Opens (AreShaped (option_and_then lone lists)) (chunk_causes_for data_type (option_and_then lone lists) chunk) left_of (opened_left data_type size rows (option_and_then lone lists) chunk) result
-    → Opens (IsLegalOpening size (length chunks) lists) (opening_causes data_type lists chunks) left_of (field_left data_type size rows lists chunks) result
+    → OpensAsked (AreShaped (option_and_then lone lists)) (chunk_causes_for data_type (option_and_then lone lists) chunk) left_of (opened_left data_type size rows (option_and_then lone lists) chunk) result
+    → OpensAsked (IsLegalOpening size (length chunks) lists) (opening_causes data_type lists chunks) left_of (field_left data_type size rows lists chunks) result
 one_opens left_of data_type size rows lists chunks chunk (Ok arrays) one sized paired opens =
     let many : IfSome lists (λ all. length all ≡ 1) = subst (λ (n : ℕ). IfSome lists (λ all. length all ≡ n)) (one_long chunks chunk one) paired in
     record {

@@ -2,7 +2,7 @@
 use Rattle.std.proofs.Common.{ℕ, ◌<◌, List, [], ◌∷◌, length, subst, arith}
 use Rattle.std.specs.Prelude.{Option, Some, None, Result, Ok, Err, OnSome}
 use Rattle.std.specs.Iterator.{MakesProgress, at_most}
-use Rattle.columns_core.specs.Chunk.{rows_of}
+use Rattle.columns_core.specs.Chunk.{array_rows}
 use Rattle.columns_core.specs.declared.array.Array.{Array}
 use Rattle.columns_core.specs.declared.error.Error.{Error}
 use Rattle.flat_values.specs.ColumnLeft.{ColumnLeft}
@@ -10,14 +10,14 @@ use Rattle.parquet_read.specs.Rows.{Answer, AnswerInTurn, GivesNextRows, GroupLe
 
 -- the first of some arrays has rows
 first_rows : (olds : List ColumnLeft) (arrays : List Array) (news : List ColumnLeft) (steps steps_now : ℕ)
-    → AnswerInTurn olds (each_given arrays) news steps steps_now → 0 < length arrays → 0 < rows_of arrays
+    → AnswerInTurn olds (each_given arrays) news steps steps_now → 0 < length arrays → 0 < array_rows arrays
 first_rows olds [] news steps steps_now turns some = absurd (omega arith)
 first_rows [] (array ∷ arrays) news steps steps_now turns some = absurd turns
 first_rows (old ∷ olds) (array ∷ arrays) [] steps steps_now turns some = absurd turns
 first_rows (old ∷ olds) (array ∷ arrays) (new ∷ news) steps steps_now turns some = turns.1.chunk.some
 
 chunk_rows : (olds : List ColumnLeft) (arrays : List Array) (news : List ColumnLeft) (steps steps_now : ℕ)
-    → MakesChunk olds (Ok arrays) news steps steps_now → 0 < rows_of arrays
+    → MakesChunk olds (Ok arrays) news steps steps_now → 0 < array_rows arrays
 chunk_rows olds arrays news steps steps_now makes =
     let so_far = makes.asked in
     first_rows so_far.asked arrays so_far.asked_now steps steps_now

@@ -31,7 +31,7 @@ use Rattle.flat_binary.specs.Left.{Supply, converted_left}
 use Rattle.flat_binary.specs.Paged.{is_null_type}
 use Rattle.column_arrays.specs.Begun.{BeginsColumn, IsRefusedPair, column_left}
 use Rattle.parquet_read.specs.ColumnPages.{column_pages, rows_to_lend}
-use Rattle.parquet_read.specs.Opening.{AreShaped, ChunkBytes, IsRefusal, Opens, OpensPages, are_in_chunk, counted_from, fresh_supply, location_causes, placed_in, size_within, start_behind}
+use Rattle.parquet_read.specs.Opening.{AreShaped, ChunkBytes, IsRefusal, OpensAsked, OpensPages, are_in_chunk, counted_from, fresh_supply, location_causes, placed_in, size_within, start_behind}
 use Rattle.parquet_read.specs.declared.column_pages.ColumnPages.{ColumnPages}
 use Rattle.parquet_read.specs.declared.column_pages.ColumnPages.TheVariants.{Located, Whole}
 
@@ -180,7 +180,7 @@ not_carried columns locations e cause =
 pub arrays_begin : {X : Type 0} (left_of : X → ColumnLeft) (Legal : Type 0) (columns locations : List Cause) (made own : Conversion → ColumnLeft) (rule : Option Conversion) (result : Result X Error)
     → Legal → columns ≡ [] → locations ≡ [] → ((conversion : Conversion) → made conversion ≡ own conversion)
     → IfSome rule (λ conversion. BeginsColumn left_of (made conversion) result) → (rule ≡ None → IsRefusedPair result)
-    → Opens Legal (columns ++ (unless (is_some rule) NotYetImplemented ++ locations)) left_of (option_map own rule) result
+    → OpensAsked Legal (columns ++ (unless (is_some rule) NotYetImplemented ++ locations)) left_of (option_map own rule) result
 arrays_begin left_of Legal columns locations made own None (Ok arrays) legal flat lie same begins refused = absurd (refused refl)
 arrays_begin left_of Legal columns locations made own None (Err e) legal flat lie same begins refused =
     record { legal = tt; sound = tt; begins = tt; refused = inr (inr (not_carried columns locations e (refused refl))) }

@@ -8,7 +8,7 @@ use Rattle.parquet_base.specs.Reading.{◌>>=◌}
 use Rattle.parquet_encoding.proofs.StepLemmas.{bind_some, some_is}
 use Rattle.parquet_meta.specs.Lists.{all_of}
 use Rattle.parquet_meta.specs.Chunks.{chunk_range, chunk_start}
-use Rattle.parquet_meta.specs.Places.{after, bytes_at, part_at}
+use Rattle.parquet_meta.specs.Places.{place_end, bytes_at, part_at}
 use Rattle.parquet_meta.specs.declared.metadata.ColumnChunkMetaData.{ColumnChunkMetaData}
 use Rattle.parquet_meta.specs.declared.metadata.PrimitiveType.{PrimitiveType}
 use Rattle.parquet_page.specs.Lent.{first_start, is_wanted, located_chunk, located_lent, located_parts}
@@ -56,12 +56,12 @@ module _ (file : List ℕ) (start size : ℕ) (fits : start + size ≤ length fi
   body_is : (first : ℕ) (entry : FilteredPage) (body : List ℕ) → nat_le start entry.start ≡ true → lies first entry ≡ true → page_part file entry ≡ Some body
       → body ≡ slice_range chunk (entry.start - start) (entry.start - start + entry.length)
   body_is first entry body behind inside there =
-      let after : start ≤ entry.start = leb-true _ _ behind in
+      let place_end : start ≤ entry.start = leb-true _ _ behind in
       let within : entry.start - start + entry.length ≤ size = leb-true _ _ (and_parts _ _ inside).0 in
-      let own : start + (entry.start - start) ≡ entry.start = omega (arith, after) in
+      let own : start + (entry.start - start) ≡ entry.start = omega (arith, place_end) in
       sym (slice_at file start size (entry.start - start) entry.length within
       ∙ ap (λ (n : ℕ). take entry.length (drop n file)) own
-      ∙ part_is file body entry.start entry.length (omega (arith, after, within, fits)) there)
+      ∙ part_is file body entry.start entry.length (omega (arith, place_end, within, fits)) there)
 
   bodies_are : (first : ℕ) (wanted : List FilteredPage) (bodies : List (List ℕ)) → list_all (λ (entry : FilteredPage). nat_le start entry.start) wanted ≡ true → list_all (lies first) wanted ≡ true
       → all_of (page_part file) wanted ≡ Some bodies → zip (map (counted_from start) wanted) bodies ≡ map in_chunk (map (counted_from start) wanted)
@@ -80,9 +80,9 @@ module _ (file : List ℕ) (start size : ℕ) (fits : start + size ≤ length fi
 
   page_there : (first : ℕ) (entry : FilteredPage) → nat_le start entry.start ≡ true → lies first entry ≡ true → page_part file entry ≡ Some (take entry.length (drop entry.start file))
   page_there first entry behind inside =
-      let after : start ≤ entry.start = leb-true _ _ behind in
+      let place_end : start ≤ entry.start = leb-true _ _ behind in
       let within : entry.start - start + entry.length ≤ size = leb-true _ _ (and_parts _ _ inside).0 in
-      let there : nat_le (entry.start + entry.length) (length file) ≡ true = le-leb _ _ (omega (arith, after, within, fits)) in
+      let there : nat_le (entry.start + entry.length) (length file) ≡ true = le-leb _ _ (omega (arith, place_end, within, fits)) in
       ap (λ (b : Bool). if b then Some (take entry.length (drop entry.start file)) else None) there
 
   -- each of them is there
@@ -136,7 +136,7 @@ module _ (file : List ℕ) (start size : ℕ) (fits : start + size ≤ length fi
 
 -- ---- by what the metadata allow
 
-module _ (column : ColumnChunkMetaData) (file : List ℕ) (entries : List FilteredPage) (range : are_in_range column entries ≡ true) (fits : nat_le (after (chunk_range column)) (length file) ≡ true) where
+module _ (column : ColumnChunkMetaData) (file : List ℕ) (entries : List FilteredPage) (range : are_in_range column entries ≡ true) (fits : nat_le (place_end (chunk_range column)) (length file) ≡ true) where
   abbrev first_place : ℕ
   first_place = first_start (placed_in column entries)
 

@@ -2,7 +2,7 @@
 use Rattle.std.specs.Prelude.{◌≡◌, ℕ, ◌≤◌, List, [], ◌∷◌, ◌++◌, flat_map, map, slice_get, sum_by, Some, Ok}
 use Rattle.std.specs.Option.{option_map_or}
 use Rattle.columns_core.specs.Array.{cells}
-use Rattle.columns_core.specs.Chunk.{rows_of}
+use Rattle.columns_core.specs.Chunk.{array_rows}
 use Rattle.columns_core.specs.declared.array.Array.{Array}
 use Rattle.columns_core.specs.declared.cell.Cell.{Cell}
 use Rattle.page_decoding.specs.Outcome.{Given, Outcome}
@@ -21,7 +21,7 @@ cells_of_column k chunks = flat_map (λ chunk. option_map_or cells (slice_get ch
 
 -- There are as many rows as are wanted, or more.
 abbrev pub HaveRows : Type 0
-HaveRows = (left : GroupLeft) (chunks : List (List Array)) → AreAllChunks left chunks → left.wanted ≤ sum_by rows_of chunks
+HaveRows = (left : GroupLeft) (chunks : List (List Array)) → AreAllChunks left chunks → left.wanted ≤ sum_by array_rows chunks
 
 -- The cells of each column are its first rows, in their order.
 abbrev pub HaveFirstRows : Type 0

@@ -129,7 +129,7 @@ pub record OpensPages (is_null : Bool) (chunk : ChunkBytes) (entries : Option (L
   pub refused : IfErr result (IsRefusal (AreShaped entries) (location_causes is_null chunk entries))
 
 -- What is asked is legal and has no cause, and all of it is left; or it is refused.
-pub record Opens {X : Type 0} (Legal : Type 0) (causes : List Cause) (left_of : X → ColumnLeft) (left : Option ColumnLeft) (result : Result X Error) : Type 0 where
+pub record OpensAsked {X : Type 0} (Legal : Type 0) (causes : List Cause) (left_of : X → ColumnLeft) (left : Option ColumnLeft) (result : Result X Error) : Type 0 where
   pub legal : OnOk result Legal
   pub sound : OnOk result (causes ≡ [])
   pub begins : IfOk result (λ arrays. Some (left_of arrays) ≡ left)

@@ -2,7 +2,7 @@
 use Rattle.std.specs.Prelude.{◌≡◌, ◌⊎◌, ℕ, ◌-◌, ◌<◌, min, List, [], ◌∷◌, ◌++◌, length, map, Option, Some, None, Result, Ok, Err, IfOk, IfErr}
 use Rattle.columns_core.specs.Causes.{ExternalFormat, IsWantOfMemory, cause_of}
 use Rattle.columns_core.specs.Array.{cells, data_type_of}
-use Rattle.columns_core.specs.Chunk.{AreEqualLengths, rows_of}
+use Rattle.columns_core.specs.Chunk.{AreEqualLengths, array_rows}
 use Rattle.columns_core.specs.declared.array.Array.{Array}
 use Rattle.columns_core.specs.declared.error.Error.{Error}
 use Rattle.flat_values.specs.ColumnLeft.{ColumnLeft, GivesColumn}
@@ -94,7 +94,7 @@ limited (Some limit) rows = min limit rows
 
 -- The rows of a chunk are wanted no more. After an error none are.
 abbrev pub wanted_behind : ℕ → Result (List Array) Error → ℕ
-wanted_behind wanted (Ok arrays) = wanted - rows_of arrays
+wanted_behind wanted (Ok arrays) = wanted - array_rows arrays
 wanted_behind wanted (Err error) = 0
 
 -- The next chunk, while rows are wanted.

@@ -5,7 +5,7 @@ ghost use Rattle.columns_core.specs.Causes.{IsWantOfMemory};
 ghost use Rattle.parquet_base.specs.Reading.{given};
 ghost use Rattle.parquet_meta.specs.Chunks.{chunk_range};
 ghost use Rattle.parquet_meta.specs.Keeps.{Keeps};
-ghost use Rattle.parquet_meta.specs.Places.{after};
+ghost use Rattle.parquet_meta.specs.Places.{place_end};
 ghost use Rattle.parquet_meta.specs.Source.{Finds};
 ghost use Rattle.parquet_page.specs.Lent.{are_well_shaped};
 ghost use Rattle.page_decoding.specs.Queue.{IsChunkSize};
@@ -152,10 +152,10 @@ fn range_of<S: Source>(source: &mut S, column: &ColumnChunkMetaData) -> Result<P
     ensures keeps { Keeps S.Source source.old source.new }
     ensures quiet { OnOk result (S.faults source.new ≡ S.faults source.old) }
     ensures found { Finds (λ range. range) (λ file.
-        given (nat_le (after (chunk_range column.now)) (length file)) (chunk_range column.now))
+        given (nat_le (place_end (chunk_range column.now)) (length file)) (chunk_range column.now))
         (S.told source.old) (S.faults source.old) (S.faults source.new) result }
     ensures range { IfOk result (λ range. range ≡ chunk_range column.now) }
-    ensures fits { IfOk result (λ range. after range < 2 ^ 64) }
+    ensures fits { IfOk result (λ range. place_end range < 2 ^ 64) }
     ensures taken { S.taken source.new ≡ S.taken source.old }
 {
     let (offset, length) = column.byte_range();

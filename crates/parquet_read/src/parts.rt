@@ -4,7 +4,7 @@ ghost use Rattle.columns_core.specs.Causes.{IsWantOfMemory};
 ghost use Rattle.parquet_meta.specs.Chunks.{chunk_range};
 ghost use Rattle.parquet_meta.specs.Keeps.{Keeps};
 ghost use Rattle.parquet_meta.specs.Lists.{all_of};
-ghost use Rattle.parquet_meta.specs.Places.{after};
+ghost use Rattle.parquet_meta.specs.Places.{place_end};
 ghost use Rattle.parquet_meta.specs.Source.{Finds};
 ghost use Rattle.parquet_page.specs.Lending.{AreOfType, has_data_behind};
 ghost use Rattle.parquet_page.specs.Lent.{are_well_shaped, is_wanted as is_wanted_by};
@@ -39,7 +39,7 @@ pub(crate) fn open_parts<S: Source>(
     requires shaped { are_well_shaped pages.items ≡ true }
     requires carried { type_causes data_type column.now ≡ [] }
     requires range { spec.are_in_range column.now pages.items ≡ true }
-    requires there { IfSome (S.told source.old) (λ file. after (chunk_range column.now) ≤ length file) }
+    requires there { IfSome (S.told source.old) (λ file. place_end (chunk_range column.now) ≤ length file) }
     ensures keeps { Keeps S.Source source.old source.new }
     ensures quiet { OnOk result (S.faults source.new ≡ S.faults source.old) }
     ensures found { Finds iter_left

@@ -25,9 +25,9 @@ use Rattle.parquet_meta.specs.declared.metadata.ColumnChunkMetaData.{ColumnChunk
 use Rattle.parquet_meta.specs.declared.metadata.Place.{Place}
 use Rattle.parquet_meta.specs.declared.metadata.PrimitiveType.{PrimitiveType}
 use Rattle.parquet_meta.specs.declared.metadata.RowGroupMetaData.{RowGroupMetaData}
-use Rattle.parquet_page.specs.Chunk.{ChunkPage, Dictionary, NoDictionary, PlacedPage, Walk, chunk_dictionary, chunk_pages, dictionary_size, pages_of_chunk, placed_pages}
+use Rattle.parquet_page.specs.Chunk.{ChunkPage, Dictionary, NoDictionary, PlacedPage, PageWalk, chunk_dictionary, chunk_pages, dictionary_size, pages_of_chunk, placed_pages}
 use Rattle.parquet_page.specs.Content.{Content, header_values}
-use Rattle.parquet_page.specs.Lent.{Lent, behind_dictionary, chunk_lent, data_of, lent_data}
+use Rattle.parquet_page.specs.Lent.{Lent, behind_dictionary, chunk_lent, lent_data_of, lent_data}
 use Rattle.parquet_page.proofs.RowSums.{page_values as values_of, walk_sum, is_whole}
 use Rattle.page_decoding.specs.Bytes.{IsCausedByChunks, cell_bytes, fits_most}
 use Rattle.page_decoding.specs.Column.{followed_by, rows}
@@ -254,7 +254,7 @@ row_items_many reading page = by (items_in reading page) refl where
 module _ (reading : Reading) (rule : Conversion) (entries : Option (List Cell)) (pair : conversion reading.stored reading.data_type ≡ Some rule)
     (over : AreEntriesOf rule reading.stored.physical_type (dictionary_content reading.dictionary) entries) (has : has_dictionary reading.dictionary ≡ is_some entries) where
   abbrev lent_pages : List ChunkPage → List Content
-  lent_pages pages = map (data_of reading.stored None) pages
+  lent_pages pages = map (lent_data_of reading.stored None) pages
 
   abbrev data_rows : List ChunkPage → List Cause → List Outcome
   data_rows pages causes = rows (column_entries reading.data_type rule reading.stored.physical_type) (column_outcomes reading.data_type rule) entries (lent_pages pages) causes
@@ -409,21 +409,21 @@ module _ (stored : PrimitiveType) (data_type : DataType) (rule : Conversion) (pa
   abbrev over : Dictionary → Reading
   over dictionary = record { stored = stored; dictionary = dictionary; data_type = data_type }
 
-  abbrev walk_lent : Dictionary → Walk → Lent
+  abbrev walk_lent : Dictionary → PageWalk → Lent
   walk_lent dictionary walk = behind_dictionary dictionary (lent_data stored walk)
 
-  abbrev walk_rows : Dictionary → Walk → List Outcome
+  abbrev walk_rows : Dictionary → PageWalk → List Outcome
   walk_rows dictionary walk = rows_by data_type stored.physical_type (walk_lent dictionary walk).pages (walk_lent dictionary walk).causes rule
 
   -- what is wrong with the first rows of pages that begin at a place
-  abbrev walk_causes : Dictionary → ℕ → ℕ → Walk → List Cause
+  abbrev walk_causes : Dictionary → ℕ → ℕ → PageWalk → List Cause
   walk_causes dictionary start wanted walk = causes_of_walk (over dictionary) wanted (placed_pages start 0 walk.pages)
 
-  abbrev walk_item : Dictionary → ℕ → Walk → ℕ → Option Item
+  abbrev walk_item : Dictionary → ℕ → PageWalk → ℕ → Option Item
   walk_item dictionary start walk = item_among (over dictionary) (placed_pages start 0 walk.pages)
 
   -- Nothing is wrong with so many rows, and their items are these cells.
-  pub record IsWalkGiven (dictionary : Dictionary) (start wanted : ℕ) (walk : Walk) (cells : List Cell) : Type 0 where
+  pub record IsWalkGiven (dictionary : Dictionary) (start wanted : ℕ) (walk : PageWalk) (cells : List Cell) : Type 0 where
     pub none : walk_causes dictionary start wanted walk ≡ []
     pub items : map (walk_item dictionary start walk) (range_with_len 0 wanted) ≡ map (λ cell. Some (Value cell)) cells
     pub lent : length (pages_by data_type stored.physical_type wanted (walk_lent dictionary walk).pages rule) ≡ with_dictionary_page dictionary (length (filter (begins_below wanted) (placed_pages start 0 walk.pages)))
@@ -442,7 +442,7 @@ module _ (stored : PrimitiveType) (data_type : DataType) (rule : Conversion) (pa
       sym (length-map (filter (begins_below (suc more)) (placed_pages start 0 pages)) (λ (placed : PlacedPage). placed.page))
       ∙ ap length (opened_are (suc more) start 0 pages ∙ ap (λ n. opened_pages n pages) all)
 
-  pub walk_given : (dictionary : Dictionary) (start more : ℕ) (walk : Walk) (cells : List Cell) → (walk.is_whole ≡ true → suc more ≤ sum_by values_of walk.pages) → map Given cells ≡ take (suc more) (walk_rows dictionary walk)
+  pub walk_given : (dictionary : Dictionary) (start more : ℕ) (walk : PageWalk) (cells : List Cell) → (walk.is_whole ≡ true → suc more ≤ sum_by values_of walk.pages) → map Given cells ≡ take (suc more) (walk_rows dictionary walk)
       → IsWalkGiven dictionary start (suc more) walk cells
   walk_given dictionary start more walk cells enough e = go (dictionary_first stored data_type rule pair (lent_data stored walk) dictionary) where
     wanted : ℕ
@@ -478,7 +478,7 @@ module _ (stored : PrimitiveType) (data_type : DataType) (rule : Conversion) (pa
     go (inr wrong) = absurd (some_cause wrong.cause (wrong.causes ++ causes_in (take more [])) (sym (ap (λ rows. causes_in (take (suc more) rows)) wrong.outcomes) ∙ none))
 
   -- no row has more bytes than its item
-  pub walk_under : (dictionary : Dictionary) (start wanted : ℕ) (walk : Walk) → AreUnder (take wanted (walk_rows dictionary walk)) (map (walk_item dictionary start walk) (range_with_len 0 wanted))
+  pub walk_under : (dictionary : Dictionary) (start wanted : ℕ) (walk : PageWalk) → AreUnder (take wanted (walk_rows dictionary walk)) (map (walk_item dictionary start walk) (range_with_len 0 wanted))
   walk_under dictionary start wanted walk =
       subst (AreUnder (take wanted (walk_rows dictionary walk))) (sym (rows_first (over dictionary) start wanted walk.pages))
       (under-more (take wanted (walk_rows dictionary walk)) (take wanted (flat_map (row_items (over dictionary)) walk.pages)) (map (walk_item dictionary start walk) (range_with_len (sum_by values_of walk.pages) (wanted - sum_by values_of walk.pages)))
@@ -498,7 +498,7 @@ module _ (stored : PrimitiveType) (data_type : DataType) (rule : Conversion) (pa
   end_causes false fits o past one = subst (λ b. IsOneOf (unless b ExternalFormat) o) (sym past) one
 
   -- What is wrong with the first rows is wrong with what is opened for them, or with the item of a row.
-  pub walk_wrong : (dictionary : Dictionary) (start more : ℕ) (walk : Walk) (o : Option Cause) → IsOneOf (causes_in (take (suc more) (walk_rows dictionary walk))) o
+  pub walk_wrong : (dictionary : Dictionary) (start more : ℕ) (walk : PageWalk) (o : Option Cause) → IsOneOf (causes_in (take (suc more) (walk_rows dictionary walk))) o
       → IsOneOf (walk_causes dictionary start (suc more) walk ++ row_causes (walk_item dictionary start walk) (range_with_len 0 (suc more))) o
   walk_wrong dictionary start more walk o one = go (dictionary_first stored data_type rule pair (lent_data stored walk) dictionary) where
     own : List Cause
@@ -613,7 +613,7 @@ module _ (told : Option (List ℕ)) (size : Option ℕ) (group : RowGroupMetaDat
   abbrev pub wanted : List Outcome
   wanted = take (length rows) (column_rows stored_as data_type lent.pages lent.causes)
 
-  abbrev walk : Walk
+  abbrev walk : PageWalk
   walk = chunk_pages column.num_values chunk
 
   abbrev item : ℕ → Option Item

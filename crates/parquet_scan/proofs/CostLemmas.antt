@@ -13,7 +13,7 @@ use Rattle.parquet_base.specs.Intervals.{holds, interval}
 use Rattle.parquet_base.specs.Intervals.{rows_of as rows_in}
 use Rattle.parquet_base.specs.declared.interval.Interval.{Interval}
 use Rattle.parquet_meta.specs.Chunks.{chunk_causes, chunk_range, has_range}
-use Rattle.parquet_meta.specs.Indexes.{length_of, offset_index_length}
+use Rattle.parquet_meta.specs.Indexes.{place_length, offset_index_length}
 use Rattle.parquet_meta.specs.declared.metadata.ColumnChunkMetaData.{ColumnChunkMetaData}
 use Rattle.parquet_meta.specs.declared.metadata.PageLocation.{PageLocation}
 use Rattle.parquet_meta.specs.declared.metadata.Place.{Place}
@@ -103,7 +103,7 @@ one_as_long false rows location entry named entries part are = are
 one_as_long true rows location entry named entries part are = record {
   count = omega (arith, are.count);
   bytes =
-      let own : location_length location ≡ entry.length = ap length_of part in
+      let own : location_length location ≡ entry.length = ap place_length part in
       omega (arith, own, are.bytes, sum_by-cons location_length location (locations_in named), sum_by-cons (λ (entry : FilteredPage). entry.length) entry entries);
 }
 

@@ -6,7 +6,7 @@ use Rattle.std.proofs.lemmas.List.Elements.{All-cons, All-nil, All-tail}
 use Rattle.std.proofs.lemmas.List.Sums.{sum_by-cons}
 use Rattle.std.proofs.lemmas.Simd.{map-map}
 use Rattle.columns_core.specs.Array.{cells, column_of, data_type_of}
-use Rattle.columns_core.specs.Chunk.{AreEqualLengths, rows_of as chunk_rows}
+use Rattle.columns_core.specs.Chunk.{AreEqualLengths, array_rows as chunk_rows}
 use Rattle.columns_core.specs.declared.array.Array.{Array}
 use Rattle.columns_core.specs.declared.cell.Cell.{Cell}
 use Rattle.columns_core.specs.declared.data_type.DataType.{DataType}

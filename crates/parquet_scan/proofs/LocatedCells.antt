@@ -17,7 +17,7 @@ use Rattle.parquet_meta.specs.declared.metadata.PageLocation.{PageLocation}
 use Rattle.parquet_meta.specs.declared.metadata.Place.{Place}
 use Rattle.parquet_meta.specs.declared.metadata.RowGroupMetaData.{RowGroupMetaData}
 use Rattle.parquet_meta.specs.Chunks.{chunk_causes, chunk_range, chunk_start, has_range}
-use Rattle.parquet_meta.specs.Places.{after, bytes_at}
+use Rattle.parquet_meta.specs.Places.{place_end, bytes_at}
 use Rattle.parquet_page.specs.Alone.{IsReadAlone}
 use Rattle.parquet_page.specs.Chunk.{ChunkPage, Dictionary, DictionaryPage, NoDictionary, PlacedPage, Undefined, chunk_dictionary, chunk_pages, dictionary_at, dictionary_size, if_defined, pages_of_chunk, placed_pages}
 use Rattle.parquet_page.specs.Content.{header_values}
@@ -116,7 +116,7 @@ is_chunk_by : (size rows : ℕ) (column : ColumnChunkMetaData) (chunk : Place) (
 is_chunk_by size rows column chunk false is e = cc
 is_chunk_by size rows column chunk true is e =
     let range = (and_parts (is_empty (chunk_causes column)) (has_range size rows column) is).1 in
-    let counts = (and_parts (nat_le (after (chunk_range column)) size) _ range).1 in
+    let counts = (and_parts (nat_le (place_end (chunk_range column)) size) _ range).1 in
     record { range = cc; same_rows = eqb-true _ _ (and_parts (column.num_values == rows) _ counts).0 }
 
 -- ---- the pages of a chunk, and those that its locations name

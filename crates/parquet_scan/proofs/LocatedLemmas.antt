@@ -16,12 +16,12 @@ use Rattle.parquet_base.proofs.OverlapLemmas.{overlaps-shaped}
 use Rattle.parquet_base.proofs.RowLemmas.{rows_of-passing}
 use Rattle.parquet_base.proofs.SegmentLemmas.{holds_after, holds_before, holds_inside}
 use Rattle.parquet_base.proofs.ShapeLemmas.{shape-cons, shape-le}
-use Rattle.parquet_meta.specs.Places.{after, bytes_at, lies_in, part_at}
+use Rattle.parquet_meta.specs.Places.{place_end, bytes_at, lies_in, part_at}
 use Rattle.parquet_meta.specs.declared.metadata.PageLocation.{PageLocation}
 use Rattle.parquet_meta.specs.declared.metadata.Place.{Place}
 use Rattle.parquet_page.specs.Chunk.{ChunkPage}
 use Rattle.parquet_page.specs.Content.{Content, header_values}
-use Rattle.parquet_page.specs.Lent.{Lent, behind_dictionary, data_of, if_there, is_wanted, lent_parts, located_lent, wanted_page}
+use Rattle.parquet_page.specs.Lent.{Lent, behind_dictionary, lent_data_of, if_there, is_wanted, lent_parts, located_lent, wanted_page}
 use Rattle.parquet_page.specs.Located.{page_in}
 use Rattle.parquet_page.specs.Located.{located_page as page_in_chunk}
 use Rattle.parquet_page.specs.Locations.{filtered_page, filtered_pages, located, part_of}
@@ -58,7 +58,7 @@ slice_at bytes offset size k l h =
     ∙ take-take l (size - k) (drop k (drop offset bytes)) (omega (arith, h))
     ∙ ap (take l) (drop-drop k offset bytes)
 
-pub chunk_length : (bytes : List ℕ) (chunk : Place) → after chunk ≤ length bytes → length (bytes_at bytes chunk) ≡ chunk.length
+pub chunk_length : (bytes : List ℕ) (chunk : Place) → place_end chunk ≤ length bytes → length (bytes_at bytes chunk) ≡ chunk.length
 chunk_length bytes chunk fits = length-take-le chunk.length (drop chunk.offset bytes) (omega (arith, fits, length-drop chunk.offset bytes))
 
 -- the page that fills a part of a chunk
@@ -72,9 +72,9 @@ before_chunk : (bytes : List ℕ) (chunk part : Place) (rows : ℕ) → nat_le c
     → (given (nat_le chunk.offset part.offset) part >>= λ own. page_behind bytes chunk own rows) ≡ page_there bytes chunk part rows
 before_chunk bytes chunk part rows e =
     ap (λ b. given b part >>= λ own. page_behind bytes chunk own rows) e
-    ∙ sym (ap (λ b. (if b && nat_le (after part) (after chunk) then part_at bytes part else None) >>= λ body. page_in body rows) e)
+    ∙ sym (ap (λ b. (if b && nat_le (place_end part) (place_end chunk) then part_at bytes part else None) >>= λ body. page_in body rows) e)
 
-inside_chunk : (bytes : List ℕ) (chunk part : Place) (rows : ℕ) → after chunk ≤ length bytes → chunk.offset ≤ part.offset → after part ≤ after chunk
+inside_chunk : (bytes : List ℕ) (chunk part : Place) (rows : ℕ) → place_end chunk ≤ length bytes → chunk.offset ≤ part.offset → place_end part ≤ place_end chunk
     → page_behind bytes chunk part rows ≡ page_in (bytes_at bytes part) rows
 unfolding page_in_chunk
 inside_chunk bytes chunk part rows fits low high =
@@ -84,7 +84,7 @@ inside_chunk bytes chunk part rows fits low high =
     ap (λ b. given b (slice_range (bytes_at bytes chunk) k (k + part.length)) >>= λ own. page_in own rows) there
     ∙ ap (λ body. page_in body rows) (slice_at bytes chunk.offset chunk.length k part.length (omega (arith, low, high)) ∙ ap (λ n. take part.length (drop n bytes)) at)
 
-behind_chunk : (bytes : List ℕ) (chunk part : Place) (rows : ℕ) → after chunk ≤ length bytes → chunk.offset ≤ part.offset → after chunk < after part
+behind_chunk : (bytes : List ℕ) (chunk part : Place) (rows : ℕ) → place_end chunk ≤ length bytes → chunk.offset ≤ part.offset → place_end chunk < place_end part
     → page_behind bytes chunk part rows ≡ None
 unfolding page_in_chunk
 behind_chunk bytes chunk part rows fits low high =
@@ -92,18 +92,18 @@ behind_chunk bytes chunk part rows fits low high =
     let past : nat_le (k + part.length) (length (bytes_at bytes chunk)) ≡ false = lt-leb _ _ (omega (arith, chunk_length bytes chunk fits, low, high)) in
     ap (λ b. given b (slice_range (bytes_at bytes chunk) k (k + part.length)) >>= λ own. page_in own rows) past
 
-pub part_inside : (bytes : List ℕ) (chunk part : Place) → after chunk ≤ length bytes → nat_le chunk.offset part.offset ≡ true → nat_le (after part) (after chunk) ≡ true → part_in bytes chunk part ≡ Some (bytes_at bytes part)
+pub part_inside : (bytes : List ℕ) (chunk part : Place) → place_end chunk ≤ length bytes → nat_le chunk.offset part.offset ≡ true → nat_le (place_end part) (place_end chunk) ≡ true → part_in bytes chunk part ≡ Some (bytes_at bytes part)
 part_inside bytes chunk part fits low high =
-    let whole : nat_le (after part) (length bytes) ≡ true = le-leb _ _ (omega (arith, fits, leb-true (after part) (after chunk) high)) in
+    let whole : nat_le (place_end part) (length bytes) ≡ true = le-leb _ _ (omega (arith, fits, leb-true (place_end part) (place_end chunk) high)) in
     (λ i. if low i && high i then part_at bytes part else None) ∙ ap (λ b. if b then Some (bytes_at bytes part) else None) whole
 
-pub part_outside : (bytes : List ℕ) (chunk part : Place) → nat_le chunk.offset part.offset ≡ true → nat_le (after part) (after chunk) ≡ false → part_in bytes chunk part ≡ None
+pub part_outside : (bytes : List ℕ) (chunk part : Place) → nat_le chunk.offset part.offset ≡ true → nat_le (place_end part) (place_end chunk) ≡ false → part_in bytes chunk part ≡ None
 part_outside bytes chunk part low high = λ i. if low i && high i then part_at bytes part else None
 
-located_part : (bytes : List ℕ) (chunk part : Place) (rows : ℕ) → after chunk ≤ length bytes
+located_part : (bytes : List ℕ) (chunk part : Place) (rows : ℕ) → place_end chunk ≤ length bytes
     → (given (nat_le chunk.offset part.offset) part >>= λ own. page_behind bytes chunk own rows) ≡ page_there bytes chunk part rows
-located_part bytes chunk part rows fits = by (nat_le chunk.offset part.offset) (nat_le (after part) (after chunk)) refl refl where
-  by : (b c : Bool) → nat_le chunk.offset part.offset ≡ b → nat_le (after part) (after chunk) ≡ c
+located_part bytes chunk part rows fits = by (nat_le chunk.offset part.offset) (nat_le (place_end part) (place_end chunk)) refl refl where
+  by : (b c : Bool) → nat_le chunk.offset part.offset ≡ b → nat_le (place_end part) (place_end chunk) ≡ c
       → (given (nat_le chunk.offset part.offset) part >>= λ own. page_behind bytes chunk own rows) ≡ page_there bytes chunk part rows
   by false c low high = before_chunk bytes chunk part rows low
   by true true low high =
@@ -115,7 +115,7 @@ located_part bytes chunk part rows fits = by (nat_le chunk.offset part.offset) (
       ∙ behind_chunk bytes chunk part rows fits (leb-true _ _ low) (leb-false _ _ high)
       ∙ sym (ap (λ o. o >>= λ body. page_in body rows) (part_outside bytes chunk part low high))
 
-pub located_by : (bytes : List ℕ) (chunk : Place) (location : PageLocation) (rows : ℕ) → after chunk ≤ length bytes
+pub located_by : (bytes : List ℕ) (chunk : Place) (location : PageLocation) (rows : ℕ) → place_end chunk ≤ length bytes
     → located chunk.offset (bytes_at bytes chunk) location rows ≡ (part_of location >>= λ part. page_there bytes chunk part rows)
 unfolding located
 located_by bytes chunk location rows fits = by (part_of location) where
@@ -162,7 +162,7 @@ are_entries intervals (location ∷ locations) (rows ∷ others) entries same e 
 abbrev pub found : List ℕ → Place → FilteredPage → Option ChunkPage
 found bytes chunk entry = page_there bytes chunk (entry_place entry) entry.num_rows
 
-pub named_are : (bytes : List ℕ) (chunk : Place) (intervals : List Interval) (locations : List PageLocation) (rows : List Interval) (entries : List FilteredPage) → after chunk ≤ length bytes
+pub named_are : (bytes : List ℕ) (chunk : Place) (intervals : List Interval) (locations : List PageLocation) (rows : List Interval) (entries : List FilteredPage) → place_end chunk ≤ length bytes
     → AreEntries intervals locations rows entries → map (named_page chunk (bytes_at bytes chunk)) (zip rows locations) ≡ zip rows (map (found bytes chunk) entries)
 named_are bytes chunk intervals [] [] [] fits are = refl
 named_are bytes chunk intervals [] [] (entry ∷ entries) fits are = absurd are
@@ -243,8 +243,8 @@ split_cons : {A : Type 0} (x y : A) (xs ys : List A) → x ∷ xs ≡ y ∷ ys �
 split_cons x y xs ys e = (cc, cc)
 
 part_length : (bytes : List ℕ) (chunk part : Place) (body : List ℕ) → part_in bytes chunk part ≡ Some body → length body ≡ part.length
-part_length bytes chunk part body e = by (lies_in chunk part) (nat_le (after part) (length bytes)) refl e where
-  by : (b c : Bool) → nat_le (after part) (length bytes) ≡ c → (if b then (if c then Some (bytes_at bytes part) else None) else None) ≡ Some body → length body ≡ part.length
+part_length bytes chunk part body e = by (lies_in chunk part) (nat_le (place_end part) (length bytes)) refl e where
+  by : (b c : Bool) → nat_le (place_end part) (length bytes) ≡ c → (if b then (if c then Some (bytes_at bytes part) else None) else None) ≡ Some body → length body ≡ part.length
   by true true long e = ap length (sym (given_some true (bytes_at bytes part) body e).1) ∙ chunk_length bytes part (leb-true _ _ long)
   by true false long e = absurd cc
   by false c long e = absurd cc
@@ -384,7 +384,7 @@ module _ (reading : Reading) (rule : Conversion) (entries : Option (List Cell)) 
         lent_all =
             let long : length first.cells ≡ length (rows_of part.0.selected_rows) = sym (length-map first.cells (λ cell. Some (Value cell))) ∙ ap length (sym items) ∙ length-map (rows_of part.0.selected_rows) (λ row. option_and_then (item_at reading row) (wanted_page part.0 part.1)) in
             ap₂ (λ n (lent : Lent). length (pages_over n lent)) (length-append first.cells behind.cells) same
-            ∙ one_lent (data_of reading.stored (Some part.0.selected_rows) page) (lent others).pages (length first.cells) (length behind.cells) (omega (arith, some, long)) first.long refl
+            ∙ one_lent (lent_data_of reading.stored (Some part.0.selected_rows) page) (lent others).pages (length first.cells) (length behind.cells) (omega (arith, some, long)) first.long refl
             ∙ ap suc behind.lent_all;
       }
 

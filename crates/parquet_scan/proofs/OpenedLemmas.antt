@@ -20,7 +20,7 @@ use Rattle.parquet_base.proofs.OverlapLemmas.{overlaps-shaped}
 use Rattle.parquet_base.proofs.RowLemmas.{pages-share, rows_of-length}
 use Rattle.parquet_base.proofs.ShapeLemmas.{shape-cons, shape-count}
 use Rattle.parquet_meta.specs.Chunks.{chunk_causes, chunk_range, has_range}
-use Rattle.parquet_meta.specs.Places.{after, bytes_at}
+use Rattle.parquet_meta.specs.Places.{place_end, bytes_at}
 use Rattle.parquet_meta.specs.declared.metadata.ColumnChunkMetaData.{ColumnChunkMetaData}
 use Rattle.parquet_meta.specs.declared.metadata.PageLocation.{PageLocation}
 use Rattle.parquet_meta.specs.declared.metadata.Place.{Place}
@@ -57,31 +57,31 @@ use Rattle.parquet_scan.proofs.PieceLemmas.{AreUnder, cut-lengths, given-cut, pi
 
 -- ---- a chunk lies in its file
 
-pub chunk_fits : (bytes : List ℕ) (group : RowGroupMetaData) (column : ColumnChunkMetaData) (chunk : Place) → chunk_of bytes group column ≡ Some chunk → after chunk ≤ length bytes
+pub chunk_fits : (bytes : List ℕ) (group : RowGroupMetaData) (column : ColumnChunkMetaData) (chunk : Place) → chunk_of bytes group column ≡ Some chunk → place_end chunk ≤ length bytes
 chunk_fits bytes group column chunk e = by (is_empty (chunk_causes column) && has_range (length bytes) group.num_rows column) refl e where
-  by : (b : Bool) → (is_empty (chunk_causes column) && has_range (length bytes) group.num_rows column) ≡ b → (if b then Some (chunk_range column) else None) ≡ Some chunk → after chunk ≤ length bytes
+  by : (b : Bool) → (is_empty (chunk_causes column) && has_range (length bytes) group.num_rows column) ≡ b → (if b then Some (chunk_range column) else None) ≡ Some chunk → place_end chunk ≤ length bytes
   by true fits e =
-      let within = (and_parts (nat_le (after (chunk_range column)) (length bytes)) _ (and_parts (is_empty (chunk_causes column)) (has_range (length bytes) group.num_rows column) fits).1).0 in
-      subst (λ (place : Place). after place ≤ length bytes) (given_some true (chunk_range column) chunk e).1 (leb-true (after (chunk_range column)) (length bytes) within)
+      let within = (and_parts (nat_le (place_end (chunk_range column)) (length bytes)) _ (and_parts (is_empty (chunk_causes column)) (has_range (length bytes) group.num_rows column) fits).1).0 in
+      subst (λ (place : Place). place_end place ≤ length bytes) (given_some true (chunk_range column) chunk e).1 (leb-true (place_end (chunk_range column)) (length bytes) within)
   by false fits e = absurd cc
 
 -- ---- the dictionary is in the part before the first page
 
-dictionary_by_part : (bytes : List ℕ) (chunk : Place) (k : ℕ) → after chunk ≤ length bytes
+dictionary_by_part : (bytes : List ℕ) (chunk : Place) (k : ℕ) → place_end chunk ≤ length bytes
     → located_dictionary (bytes_at bytes chunk) k ≡ option_map_or dictionary_in (part_in bytes chunk (record { offset = chunk.offset; length = k })) Undefined
 dictionary_by_part bytes chunk k fits = by (nat_le k chunk.length) refl where
   by : (b : Bool) → nat_le k chunk.length ≡ b → located_dictionary (bytes_at bytes chunk) k ≡ option_map_or dictionary_in (part_in bytes chunk (record { offset = chunk.offset; length = k })) Undefined
   by true e =
       let less = leb-true k chunk.length e in
       let there : nat_le k (length (bytes_at bytes chunk)) ≡ true = le-leb _ _ (omega (arith, less, chunk_length bytes chunk fits)) in
-      let high : nat_le (chunk.offset + k) (after chunk) ≡ true = le-leb _ _ (omega (arith, less)) in
+      let high : nat_le (chunk.offset + k) (place_end chunk) ≡ true = le-leb _ _ (omega (arith, less)) in
       ap (λ b. if b then dictionary_in (take k (bytes_at bytes chunk)) else Undefined) there
       ∙ ap dictionary_in (take-take k chunk.length (drop chunk.offset bytes) less)
       ∙ sym (ap (λ o. option_map_or dictionary_in o Undefined) (part_inside bytes chunk (record { offset = chunk.offset; length = k }) fits (le-leb chunk.offset chunk.offset (omega arith)) high))
   by false e =
       let more = leb-false k chunk.length e in
       let past : nat_le k (length (bytes_at bytes chunk)) ≡ false = lt-leb _ _ (omega (arith, more, chunk_length bytes chunk fits)) in
-      let high : nat_le (chunk.offset + k) (after chunk) ≡ false = lt-leb _ _ (omega (arith, more)) in
+      let high : nat_le (chunk.offset + k) (place_end chunk) ≡ false = lt-leb _ _ (omega (arith, more)) in
       ap (λ b. if b then dictionary_in (take k (bytes_at bytes chunk)) else Undefined) past
       ∙ sym (ap (λ o. option_map_or dictionary_in o Undefined) (part_outside bytes chunk (record { offset = chunk.offset; length = k }) (le-leb chunk.offset chunk.offset (omega arith)) high))
 
@@ -89,7 +89,7 @@ dictionary_by_part bytes chunk k fits = by (nat_le k chunk.length) refl where
 abbrev pub dictionary_of : List ℕ → Place → List FilteredPage → Dictionary
 dictionary_of bytes chunk entries = option_map_or dictionary_in (part_in bytes chunk (place_before chunk entries)) Undefined
 
-dictionary_is : (bytes : List ℕ) (chunk : Place) (intervals : List Interval) (locations : List PageLocation) (rows : List Interval) (entry : FilteredPage) (entries : List FilteredPage) → after chunk ≤ length bytes
+dictionary_is : (bytes : List ℕ) (chunk : Place) (intervals : List Interval) (locations : List PageLocation) (rows : List Interval) (entry : FilteredPage) (entries : List FilteredPage) → place_end chunk ≤ length bytes
     → AreEntries intervals locations rows (entry ∷ entries) → dictionary_before chunk.offset (bytes_at bytes chunk) locations ≡ dictionary_of bytes chunk (entry ∷ entries)
 dictionary_is bytes chunk intervals [] [] entry entries fits are = absurd are
 dictionary_is bytes chunk intervals [] (rows ∷ others) entry entries fits are = absurd are

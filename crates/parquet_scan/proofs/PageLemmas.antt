@@ -18,7 +18,7 @@ use Rattle.parquet_meta.specs.declared.metadata.PhysicalType.TheVariants.{Boolea
 use Rattle.parquet_meta.specs.declared.metadata.PrimitiveType.{PrimitiveType}
 use Rattle.parquet_page.specs.Chunk.{ChunkPage, Dictionary, NoDictionary, Undefined, Defined, DictionaryPage}
 use Rattle.parquet_page.specs.Content.{DataContent, DictContent, header_values}
-use Rattle.parquet_page.specs.Lent.{Lent, behind_dictionary, dictionary_of, in_front}
+use Rattle.parquet_page.specs.Lent.{Lent, behind_dictionary, lent_dictionary_of, in_front}
 use Rattle.parquet_page.specs.Levels.{placed, present_count}
 use Rattle.parquet_page.specs.Opened.{carried_encoding, key_causes, page_causes, spelling_causes}
 use Rattle.parquet_page.specs.Selected.{selected_of}
@@ -491,7 +491,7 @@ module _ (stored : PrimitiveType) (data_type : DataType) (rule : Conversion) (pa
   held page = record { body = page.body; num_values = page.num_values }
 
   abbrev lent_if : Bool → DictionaryPage → Lent
-  lent_if plain page = if plain then in_front (dictionary_of page) others else record { pages = []; causes = NotYetImplemented ∷ [] }
+  lent_if plain page = if plain then in_front (lent_dictionary_of page) others else record { pages = []; causes = NotYetImplemented ∷ [] }
 
   caused : (page : DictionaryPage) (plain : Bool) (found : Result (List Cell) (List Cause)) → has_plain_entries page.encoding ≡ plain → column_entries data_type rule stored.physical_type (held page) ≡ found
       → causes_of_dictionary (over (Defined page)) (Defined page) ≡ and_then (unless plain NotYetImplemented) (causes_of_entries found)

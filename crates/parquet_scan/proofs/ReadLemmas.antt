@@ -8,7 +8,7 @@ use Rattle.parquet_meta.specs.declared.metadata.ColumnChunkMetaData.{ColumnChunk
 use Rattle.parquet_meta.specs.declared.metadata.Place.{Place}
 use Rattle.parquet_meta.specs.declared.metadata.RowGroupMetaData.{RowGroupMetaData}
 use Rattle.parquet_meta.specs.Chunks.{chunk_causes, chunk_range}
-use Rattle.parquet_meta.specs.Places.{after, bytes_at, lies_in, part_at}
+use Rattle.parquet_meta.specs.Places.{place_end, bytes_at, lies_in, part_at}
 use Rattle.parquet_meta.specs.Source.{Finds}
 use Rattle.parquet_scan.specs.Cells.{chunk_of}
 use Rattle.parquet_scan.specs.Causes.{chunk_read_causes}
@@ -18,11 +18,11 @@ use Rattle.parquet_scan.specs.Scan.{FailsBy}
 use Rattle.columns_core.specs.declared.error.Part.{Part}
 
 pub placed : (bytes : List ℕ) (group : RowGroupMetaData) (column : ColumnChunkMetaData) → chunk_causes column ≡ [] → has_values group column ≡ true
-    → chunk_of bytes group column ≡ (if nat_le (after (chunk_range column)) (length bytes) then Some (chunk_range column) else None)
+    → chunk_of bytes group column ≡ (if nat_le (place_end (chunk_range column)) (length bytes) then Some (chunk_range column) else None)
 placed bytes group column none whole =
-    ap (λ causes. if is_empty causes && (nat_le (after (chunk_range column)) (length bytes) && has_values group column) then Some (chunk_range column) else None) none
-    ∙ ap (λ b. if nat_le (after (chunk_range column)) (length bytes) && b then Some (chunk_range column) else None) whole
-    ∙ by (nat_le (after (chunk_range column)) (length bytes)) where
+    ap (λ causes. if is_empty causes && (nat_le (place_end (chunk_range column)) (length bytes) && has_values group column) then Some (chunk_range column) else None) none
+    ∙ ap (λ b. if nat_le (place_end (chunk_range column)) (length bytes) && b then Some (chunk_range column) else None) whole
+    ∙ by (nat_le (place_end (chunk_range column)) (length bytes)) where
       by : (b : Bool) → (if b && true then Some (chunk_range column) else None) ≡ (if b then Some (chunk_range column) else None)
       by true = refl
       by false = refl
@@ -30,7 +30,7 @@ placed bytes group column none whole =
 -- the bytes of a part are those of the chunk
 pub found : (bytes : List ℕ) (group : RowGroupMetaData) (column : ColumnChunkMetaData) → chunk_causes column ≡ [] → has_values group column ≡ true
     → option_map (bytes_at bytes) (chunk_of bytes group column) ≡ part_at bytes (chunk_range column)
-found bytes group column none whole = ap (option_map (bytes_at bytes)) (placed bytes group column none whole) ∙ by (nat_le (after (chunk_range column)) (length bytes)) where
+found bytes group column none whole = ap (option_map (bytes_at bytes)) (placed bytes group column none whole) ∙ by (nat_le (place_end (chunk_range column)) (length bytes)) where
   by : (b : Bool) → option_map (bytes_at bytes) (if b then Some (chunk_range column) else None) ≡ (if b then Some (bytes_at bytes (chunk_range column)) else None)
   by true = refl
   by false = refl

@@ -16,7 +16,7 @@ use Rattle.parquet_base.specs.declared.interval.Interval.{Interval}
 use Rattle.parquet_meta.specs.Chunks.{chunk_causes, chunk_place}
 use Rattle.parquet_meta.specs.Indexes.{index_at, index_in, locations_at, type_of}
 use Rattle.parquet_meta.specs.OffsetIndex.{locations_in}
-use Rattle.parquet_meta.specs.Places.{after, bytes_at, lies_in, part_at, within}
+use Rattle.parquet_meta.specs.Places.{place_end, bytes_at, lies_in, part_at, within}
 use Rattle.parquet_meta.specs.declared.metadata.ColumnChunkMetaData.{ColumnChunkMetaData}
 use Rattle.parquet_meta.specs.declared.metadata.Index.{Index}
 use Rattle.parquet_meta.specs.declared.metadata.PageLocation.{PageLocation}
@@ -68,11 +68,11 @@ same_all first second parts f g (x ∷ xs) each h =
 
 within_is : (outer part : Place) → lies_in outer part ≡ true → within outer part ≡ part
 within_is outer part lies =
-    let both = and_parts (nat_le outer.offset part.offset) (nat_le (after part) (after outer)) lies in
+    let both = and_parts (nat_le outer.offset part.offset) (nat_le (place_end part) (place_end outer)) lies in
     let low = leb-true outer.offset part.offset both.0 in
-    let high = leb-true (after part) (after outer) both.1 in
+    let high = leb-true (place_end part) (place_end outer) both.1 in
     let start : max outer.offset part.offset ≡ part.offset = omega (arith, low) in
-    let size : min (after outer) (after part) - max outer.offset part.offset ≡ part.length = omega (arith, low, high) in
+    let size : min (place_end outer) (place_end part) - max outer.offset part.offset ≡ part.length = omega (arith, low, high) in
     λ i. record { offset = start i; length = size i }
 
 -- ---- items of rows
@@ -161,7 +161,7 @@ module _ (first second : List ℕ) (long : length second ≡ length first) where
   -- ---- indexes
 
   part_same : (place : Place) → AgreeAt first second place → part_at second place ≡ part_at first place
-  part_same place h = λ i. if nat_le (after place) (long i) then Some (h i) else None
+  part_same place h = λ i. if nat_le (place_end place) (long i) then Some (h i) else None
 
   offset_index_same : (place : Option Place) → AgreeOn first second (parts_if place) → locations_at second place ≡ locations_at first place
   offset_index_same None h = refl
@@ -239,7 +239,7 @@ module _ (first second : List ℕ) (long : length second ≡ length first) where
   abbrev page_by : List ℕ → Place → Interval × PageLocation → Option ChunkPage
   page_by bytes chunk named = located chunk.offset (bytes_at bytes chunk) named.1 (named.0).length
 
-  page_same : (chunk : Place) (location : PageLocation) (rows : ℕ) → after chunk ≤ length first → AgreeAt first second (part_in_chunk chunk location)
+  page_same : (chunk : Place) (location : PageLocation) (rows : ℕ) → place_end chunk ≤ length first → AgreeAt first second (part_in_chunk chunk location)
       → located chunk.offset (bytes_at second chunk) location rows ≡ located chunk.offset (bytes_at first chunk) location rows
   page_same chunk location rows fits h =
       located_by second chunk location rows (omega (arith, fits, long)) ∙ by (part_of location) h ∙ sym (located_by first chunk location rows fits) where
@@ -252,7 +252,7 @@ module _ (first second : List ℕ) (long : length second ≡ length first) where
         by None h = refl
         by (Some part) h = inside part (lies_in chunk part) refl h
 
-  pages_same : (chunk : Place) (named : List (Interval × PageLocation)) → after chunk ≤ length first → AgreeOn first second (map (part_in_chunk chunk) (map (λ (named : Interval × PageLocation). named.1) named))
+  pages_same : (chunk : Place) (named : List (Interval × PageLocation)) → place_end chunk ≤ length first → AgreeOn first second (map (part_in_chunk chunk) (map (λ (named : Interval × PageLocation). named.1) named))
       → AreSame (page_by first chunk) (page_by second chunk) named
   pages_same chunk [] fits h = tt
   pages_same chunk (one ∷ others) fits h = (page_same chunk one.1 (one.0).length fits h.0, pages_same chunk others fits h.1)
@@ -261,7 +261,7 @@ module _ (first second : List ℕ) (long : length second ≡ length first) where
   abbrev dictionary_by : List ℕ → Place → Option ℕ → Dictionary
   dictionary_by bytes chunk o = option_map_or (located_dictionary (bytes_at bytes chunk)) o Undefined
 
-  dictionary_same : (chunk : Place) (o : Option ℕ) → after chunk ≤ length first → AgreeAt first second (dictionary_part first chunk o)
+  dictionary_same : (chunk : Place) (o : Option ℕ) → place_end chunk ≤ length first → AgreeAt first second (dictionary_part first chunk o)
       → (dictionary_by second chunk o ≡ dictionary_by first chunk o) × (dictionary_part second chunk o ≡ dictionary_part first chunk o)
   dictionary_same chunk None fits h = (refl, refl)
   dictionary_same chunk (Some k) fits h = by (dictionary_at part) refl h where
@@ -333,7 +333,7 @@ module _ (first second : List ℕ) (long : length second ≡ length first) where
       item_is bytes placed row = λ i. item_among (walked_is bytes placed i) (option_map_or (λ place. pages_of_chunk column.num_values (bytes_at bytes place)) (placed i) []) row
 
     module _ (chunk : Place) (at_second : chunk_of second group column ≡ Some chunk) (at_first : chunk_of first group column ≡ Some chunk) where
-      fits : after chunk ≤ length first
+      fits : place_end chunk ≤ length first
       fits = chunk_fits first group column chunk at_first
 
       module _ (told : locations second column ≡ locations first column) (h : AgreeOn first second (parts_by_locations first group rows column chunk)) where

@@ -15,7 +15,7 @@ use Rattle.parquet_meta.specs.declared.metadata.PrimitiveType.{PrimitiveType}
 use Rattle.parquet_meta.specs.declared.page_header.PageKind.{PageKind}
 use Rattle.parquet_meta.specs.declared.page_header.PageKind.TheVariants as kind
 use Rattle.parquet_thrift.specs.Front.{IsAtFront}
-use Rattle.parquet_page.specs.Chunk.{AnyPage, ChunkPage, DictionaryPage, NoDictionary, PlacedPage, Walk, chunk_dictionary, chunk_pages, data_header, data_page_at, dictionary_at, dictionary_page, dictionary_size, if_defined, page_at, pages_from, pages_of_chunk, placed_pages, walk_on}
+use Rattle.parquet_page.specs.Chunk.{AnyPage, ChunkPage, DictionaryPage, NoDictionary, PlacedPage, PageWalk, chunk_dictionary, chunk_pages, as_data_header, data_page_at, dictionary_at, dictionary_page, dictionary_size, if_defined, page_at, pages_from, pages_of_chunk, placed_pages, walk_on}
 use Rattle.parquet_page.specs.Content.{header_values}
 use Rattle.parquet_page.proofs.AloneLemmas.{before_rest, data_front, dictionary_front, exact_read}
 use Rattle.parquet_page.proofs.HeaderLemmas.{dictionary_measured}
@@ -68,7 +68,7 @@ same_dictionary first second page rest e same =
 
 -- where a data page stands, no dictionary page does
 abbrev as_data : ℕ → List ℕ → AnyPage × List ℕ → Option (ChunkPage × List ℕ)
-as_data left bytes page = data_header page.0.kind >>= λ header. given (nat_le (header_values header) left) (record { size = length bytes - length page.1; header = header; body = page.0.body }, page.1)
+as_data left bytes page = as_data_header page.0.kind >>= λ header. given (nat_le (header_values header) left) (record { size = length bytes - length page.1; header = header; body = page.0.body }, page.1)
 
 abbrev as_dictionary : List ℕ → AnyPage × List ℕ → Option (DictionaryPage × List ℕ)
 as_dictionary bytes page = dictionary_page (length bytes - length page.1) page.0.kind page.0.body >>= λ dictionary. Some (dictionary, page.1)
@@ -138,7 +138,7 @@ opened_from (suc more) (suc limit) zero first second held same = refl
 opened_from (suc more) zero (suc left) first second held same = refl
 opened_from (suc more) (suc limit) (suc left) first second held same =
     go (data_page_at (suc left) first) (λ wanted values rest other. opened_from wanted limit (suc left - values) rest other) refl held same where
-      further : ChunkPage → List ℕ → Walk
+      further : ChunkPage → List ℕ → PageWalk
       further page rest = pages_from limit (suc left - header_values page.header) rest
 
       go : (o : Option (ChunkPage × List ℕ))
@@ -228,7 +228,7 @@ begins more zero zero bytes held = absurd (omega (arith, held))
 begins more (suc limit) zero bytes held = absurd (omega (arith, held))
 begins more zero (suc left) bytes held = absurd (omega (arith, held))
 begins more (suc limit) (suc left) bytes held = by (data_page_at (suc left) bytes) refl held where
-  further : ChunkPage → List ℕ → Walk
+  further : ChunkPage → List ℕ → PageWalk
   further page rest = pages_from limit (suc left - header_values page.header) rest
 
   by : (o : Option (ChunkPage × List ℕ)) → data_page_at (suc left) bytes ≡ o → suc more ≤ sum_by values_of (walk_on o further).pages

@@ -8,7 +8,7 @@ use Rattle.parquet_base.specs.declared.interval.Interval.{Interval}
 use Rattle.parquet_base.specs.Intervals.{holds}
 use Rattle.parquet_meta.specs.Chunks.{chunk_range}
 use Rattle.parquet_meta.specs.File.{footer_place}
-use Rattle.parquet_meta.specs.Indexes.{column_index_length, length_of, offset_index_length}
+use Rattle.parquet_meta.specs.Indexes.{column_index_length, place_length, offset_index_length}
 use Rattle.parquet_meta.specs.declared.metadata.ColumnChunkMetaData.{ColumnChunkMetaData}
 use Rattle.parquet_meta.specs.declared.metadata.PageLocation.{PageLocation}
 use Rattle.parquet_meta.specs.declared.metadata.RowGroupMetaData.{RowGroupMetaData}
@@ -111,7 +111,7 @@ index_bytes request group = sum_by (index_bytes_of group) request.bounds + 2 * s
 -- ---- how many bytes of chunks
 
 abbrev pub location_length : PageLocation → ℕ
-location_length location = length_of (part_of location)
+location_length location = place_length (part_of location)
 
 -- opened pages and, if there is one, what stands before the first page of all
 abbrev pub located_bytes : Option ℕ → List PageLocation → ℕ

@@ -4,7 +4,7 @@ use Rattle.std.specs.List.{AllZip}
 use Rattle.parquet_base.specs.declared.interval.Interval.{Interval}
 use Rattle.parquet_base.specs.Failures.{MayFail}
 use Rattle.parquet_base.specs.Intervals.{AreApart, covers}
-use Rattle.columns_core.specs.Chunk.{AreEqualLengths, rows_of}
+use Rattle.columns_core.specs.Chunk.{AreEqualLengths, array_rows}
 use Rattle.columns_core.specs.declared.array.Array.{Array}
 use Rattle.columns_core.specs.Causes.{Cause, IsOneOf, cause_of, is_invalid_argument}
 use Rattle.columns_core.specs.declared.data_type.Schema.{Schema}
@@ -34,7 +34,7 @@ IsApart group = AreApart 0 group.intervals group.rows
 
 -- the rows of chunks, up to the greatest number that is shown
 abbrev pub rows_in : List (List Array) → ℕ
-rows_in chunks = min (sum_by rows_of chunks) (2 ^ 64 - 1)
+rows_in chunks = min (sum_by array_rows chunks) (2 ^ 64 - 1)
 
 -- a group's rows, and the runs of them that are kept
 abbrev pub kept_of : GroupKept → ℕ × List Interval

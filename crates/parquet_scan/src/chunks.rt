@@ -1,7 +1,7 @@
 //! The columns of a group, put together to chunks.
 ghost use Rattle.std.specs.Prelude.{◌≡◌, ◌+◌, ◌-◌, ◌^◌, ◌++◌, [], ◌∷◌, min, map, flat_map, take, drop, length, sum_by, IfOk, IfErr, OnOk, All};
 ghost use Rattle.columns_core.specs.Causes.{IsWantOfMemory};
-ghost use Rattle.columns_core.specs.Chunk.{AreEqualLengths, rows_of as chunk_rows};
+ghost use Rattle.columns_core.specs.Chunk.{AreEqualLengths, array_rows as chunk_rows};
 ghost use Rattle.parquet_scan.specs.Chunks.{side_by_side};
 ghost use Rattle.parquet_scan.specs.Scan.{rows_in};
 

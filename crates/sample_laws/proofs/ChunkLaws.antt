@@ -13,7 +13,7 @@ use Rattle.columns_core.specs.declared.cell.Cell.{Cell}
 use Rattle.columns_core.specs.declared.data_type.DataType.{DataType}
 use Rattle.parquet_base.specs.Pieces.{pieces, cut}
 use Rattle.parquet_meta.specs.OffsetIndex.{locations_in}
-use Rattle.parquet_meta.specs.Places.{after, bytes_at, part_at}
+use Rattle.parquet_meta.specs.Places.{place_end, bytes_at, part_at}
 use Rattle.parquet_meta.specs.declared.metadata.ColumnChunkMetaData.{ColumnChunkMetaData}
 use Rattle.parquet_meta.specs.declared.metadata.ColumnDescriptor.{ColumnDescriptor}
 use Rattle.parquet_meta.specs.declared.metadata.Place.{Place}
@@ -39,13 +39,13 @@ use Rattle.sample_laws.proofs.PageLaws.{Holds, IsReadBy}
 -- ---- where a chunk stands
 
 record IsPart (file : List ℕ) (place : Place) (own : List ℕ) : Type 0 where
-  within : nat_le (after place) (length file) ≡ true
+  within : nat_le (place_end place) (length file) ≡ true
   same : bytes_at file place ≡ own
 
 part-is : (file : List ℕ) (place : Place) (own : List ℕ) → part_at file place ≡ Some own → IsPart file place own
-part-is file place own e = by_test (nat_le (after place) (length file)) refl e
+part-is file place own e = by_test (nat_le (place_end place) (length file)) refl e
   where
-    by_test : (b : Bool) → nat_le (after place) (length file) ≡ b → cond b (Some (bytes_at file place)) None ≡ Some own → IsPart file place own
+    by_test : (b : Bool) → nat_le (place_end place) (length file) ≡ b → cond b (Some (bytes_at file place)) None ≡ Some own → IsPart file place own
     by_test true within some = record { within = within; same = cc }
     by_test false within some = absurd cc
 
@@ -179,7 +179,7 @@ module _ (to : Written) (rule : Conversion) (P : Stored → Type 0) (cell_of : S
     low : at.chunk + length (chunk_bytes (written_chunk to (item ∷ items))) < 2 ^ 63
     low =
         let place : Place = record { offset = at.chunk; length = length (chunk_bytes (written_chunk to (item ∷ items))) } in
-        omega (arith, leb-true (after place) (length file) (part-is file place (chunk_bytes (written_chunk to (item ∷ items))) is.stands.chunk_stands).within, is.size)
+        omega (arith, leb-true (place_end place) (length file) (part-is file place (chunk_bytes (written_chunk to (item ∷ items))) is.stands.chunk_stands).within, is.size)
 
     pub is-written : IsWrittenOf file group column to.column.type (written_page to first ∷ map (written_page to) others)
     unfolding written_chunk

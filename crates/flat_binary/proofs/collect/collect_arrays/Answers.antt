@@ -7,7 +7,7 @@ use Rattle.columns_core.specs.declared.array.Array.{Array}
 use Rattle.columns_core.specs.declared.error.Error.{Error}
 use Rattle.parquet_base.specs.Pieces.{cut}
 use Rattle.page_decoding.specs.Bytes.{cell_bytes, fits_most}
-use Rattle.page_decoding.specs.Chunks.{IfGiven, lent_behind}
+use Rattle.page_decoding.specs.Chunks.{IfGiven, lent_more}
 use Rattle.page_decoding.specs.Outcome.{Outcome, Given, causes_in}
 use Rattle.page_decoding.specs.Queue.{IsChunkSize}
 use Rattle.flat_values.specs.ColumnLeft.{Decoding, wanted}
@@ -60,7 +60,7 @@ loop-array-preserved g c =
       caused = λ error told. kept.caused error (goes.caused error told);
       due = goes.due_now ∙ kept.due;
       later = omega (arith, kept.later, goes.later);
-      lent = goes.lent (c.loop-array.steps - c.args.steps.now) whole.lent kept.lent ∙ ap (lent_behind whole.lent) (sym turned);
+      lent = goes.lent (c.loop-array.steps - c.args.steps.now) whole.lent kept.lent ∙ ap (lent_more whole.lent) (sym turned);
     }
 
 pub returns-clause-lent : goal.returns-clause-lent

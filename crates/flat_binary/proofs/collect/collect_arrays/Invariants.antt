@@ -4,7 +4,7 @@ use Rattle.columns_core.specs.Array.{cells, data_type_of}
 use Rattle.columns_core.specs.declared.error.Error.{Error}
 use Rattle.parquet_base.specs.Pieces.{cut}
 use Rattle.page_decoding.specs.Bytes.{IsCausedByChunks, cell_bytes, fits_most}
-use Rattle.page_decoding.specs.Chunks.{lent_behind}
+use Rattle.page_decoding.specs.Chunks.{lent_more}
 use Rattle.page_decoding.specs.Outcome.{Given, causes_in}
 use Rattle.flat_values.specs.ColumnLeft.{wanted}
 use Rattle.flat_values.proofs.ArrayLemmas.{calls}
@@ -27,7 +27,7 @@ invariant-loop-array g l =
       caused : (error : Error) → IsCausedByChunks left.decoding.most_bytes left.size (wanted left) error → IsCausedByChunks whole.decoding.most_bytes whole.size (wanted whole) error;
       due : l.steps + length (pages_due left) ≡ l.fn.steps + length (pages_due whole);
       later : l.fn.steps ≤ l.steps;
-      lent : left.lent ≡ lent_behind whole.lent (l.steps - l.fn.steps);
+      lent : left.lent ≡ lent_more whole.lent (l.steps - l.fn.steps);
     }
 
 abbrev pub decreases-loop-array : goal.decreases-loop-array

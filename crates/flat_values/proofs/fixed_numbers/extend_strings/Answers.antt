@@ -6,7 +6,7 @@ use Rattle.flat_values.specs.Conversion.{Value, convert}
 use Rattle.flat_values.proofs.AddedLemmas.{chain_adds}
 use Rattle.flat_values.proofs.ExtendLemmas.{shown_from_extend}
 use Rattle.flat_values.proofs.StringLemmas.{strings_of}
-use Rattle.columns_core.specs.Fixed.{pieces}
+use Rattle.columns_core.specs.Fixed.{fixed_pieces}
 use Rattle.flat_values.proofs.fixed_numbers.extend_strings.Goals as goal
 
 pub returns : goal.returns
@@ -15,4 +15,4 @@ returns g c =
     shown_from_extend item c.extend.result c.extend.ensures.ran
     (YieldsList-from_map_by _ item (λ string. convert (g.C.ConvertFixed.rule c.args.rule) (Octets string))
     (YieldsList-at c.map.ensures.source (strings_of c.args.size c.args.bytes.now c.requires.some c.requires.whole c.chunks_exact.ensures.rest c.chunks_exact.ensures.size)) c.map.ensures.closure (λ x r q k. search rules))
-    (λ xs e h. chain_adds g.T.NativeType.cell (λ string. convert (g.C.ConvertFixed.rule c.args.rule) (Octets string)) c.args.values.now.items c.extend.new.self.items xs (pieces c.args.size c.args.bytes.now) h.0 e)
+    (λ xs e h. chain_adds g.T.NativeType.cell (λ string. convert (g.C.ConvertFixed.rule c.args.rule) (Octets string)) c.args.values.now.items c.extend.new.self.items xs (fixed_pieces c.args.size c.args.bytes.now) h.0 e)

@@ -9,7 +9,7 @@ use Rattle.columns_core.specs.declared.error.Error.TheVariants as error
 use Rattle.columns_core.specs.declared.error.Part.TheVariants as part
 use Rattle.parquet_meta.specs.declared.metadata.ColumnChunkMetaData.{ColumnChunkMetaData}
 use Rattle.parquet_page.specs.declared.page.FilteredPage.{FilteredPage}
-use Rattle.parquet_read.specs.Opening.{AreShaped, ChunkBytes, Opens, chunk_causes_for, lone, opened_left}
+use Rattle.parquet_read.specs.Opening.{AreShaped, ChunkBytes, OpensAsked, chunk_causes_for, lone, opened_left}
 use Rattle.parquet_read.specs.RowGroup.{iter_left}
 use Rattle.parquet_read.proofs.FieldLemmas.{lone-map, none_lone, one_opens, own_list, paired_own, paired_shown, shown}
 use Rattle.parquet_read.proofs.deserializer.to_deserializer.Goals as goal
@@ -72,5 +72,5 @@ returns c =
     let rows = c.args.num_rows in
     let lists = option_map shown c.args.pages in
     one_opens iter_left data_type size rows lists chunks chunk c.open_chunk.result one asked.0 (paired_shown c.args.pages c.len.result (length chunks) same asked.1)
-    (subst (λ (entries : Option (List FilteredPage)). Opens (AreShaped entries) (chunk_causes_for data_type entries chunk) iter_left (opened_left data_type size rows entries chunk) c.open_chunk.result)
+    (subst (λ (entries : Option (List FilteredPage)). OpensAsked (AreShaped entries) (chunk_causes_for data_type entries chunk) iter_left (opened_left data_type size rows entries chunk) c.open_chunk.result)
     (own_list c.args.pages c.only_list-pages.result c.only_list-pages.ensures) c.open_chunk.ensures)

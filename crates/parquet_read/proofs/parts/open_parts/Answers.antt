@@ -5,7 +5,7 @@ use Rattle.std.proofs.lemmas.List.{length-map}
 use Rattle.std.proofs.lemmas.Result.{err_from_is_err_and}
 use Rattle.parquet_meta.specs.Chunks.{chunk_range}
 use Rattle.parquet_meta.specs.Lists.{all_of}
-use Rattle.parquet_meta.specs.Places.{after, bytes_at}
+use Rattle.parquet_meta.specs.Places.{place_end, bytes_at}
 use Rattle.parquet_meta.specs.Source.{Finds}
 use Rattle.parquet_page.specs.Lent.{is_wanted}
 use Rattle.parquet_page.specs.declared.page.FilteredPage.{FilteredPage}
@@ -111,7 +111,7 @@ returns-clause-found g c =
     finds_opened iter_left left told (g.S.Source.faults c.args.source.now) (g.S.Source.faults c.read_before.new.source) result
     (told_result iter_left left told result
     (told_with told (λ file there parts part.
-    let fits : nat_le (after (chunk_range column)) (length file) ≡ true = le-leb _ _ there in
+    let fits : nat_le (place_end (chunk_range column)) (length file) ≡ true = le-leb _ _ there in
     let same = parts_chunk column file pages c.requires.range fits stored before bodies read parts all part in
     let supply = located_supply column (bytes_at file (chunk_range column)) before bodies pages c.placed_in-placed.result.items reader c.placed_in-placed.ensures c.in_ok-reader.ensures.lends same c.in_ok-reader.ensures.rows c.in_ok-reader.ensures.lent in
     subst (λ (o : Option ColumnLeft). IfOk result (λ arrays. Some (iter_left arrays) ≡ o)) (sym (left_there data_type size rows (Some pages) column file fits))

@@ -2,7 +2,7 @@ use Rattle.std.proofs.Common.{All, ap, arith, subst, sym}
 use Rattle.std.specs.Prelude.{sum_by}
 use Rattle.std.proofs.lemmas.List.Elements.{All-push}
 use Rattle.std.proofs.lemmas.List.Sums.{sum_by_push}
-use Rattle.columns_core.specs.Chunk.{AreEqualLengths, rows_of}
+use Rattle.columns_core.specs.Chunk.{AreEqualLengths, array_rows}
 use Rattle.parquet_scan.proofs.chunks.add_chunk.Goals as goal
 
 pub returns-clause-own_rows : goal.returns-clause-own_rows
@@ -11,8 +11,8 @@ returns-clause-own_rows c e = omega (
   e,
   c.saturating_add-read.ensures,
   c.len.ensures,
-  ap (sum_by rows_of) c.in_ok-push.ensures.items,
-  sum_by_push rows_of c.args.read.now.chunks.items c.in_ok-chunk.chunk,
+  ap (sum_by array_rows) c.in_ok-push.ensures.items,
+  sum_by_push array_rows c.args.read.now.chunks.items c.in_ok-chunk.chunk,
 )
 
 pub returns-clause-even : goal.returns-clause-even

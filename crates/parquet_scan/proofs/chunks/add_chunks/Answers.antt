@@ -2,7 +2,7 @@ use Rattle.std.proofs.Common.{rules, ◌≡◌, ◌-◌, ◌+◌, ◌^◌, ◌�
 use Rattle.std.specs.Prelude.{flat_map, min, sum_by}
 use Rattle.std.proofs.lemmas.List.Elements.{All-tail}
 use Rattle.std.proofs.lemmas.List.Sums.{sum_by-cons}
-use Rattle.columns_core.specs.Chunk.{AreEqualLengths, rows_of as chunk_rows}
+use Rattle.columns_core.specs.Chunk.{AreEqualLengths, array_rows as chunk_rows}
 use Rattle.parquet_scan.specs.Chunks.{side_by_side, turned}
 use Rattle.parquet_scan.proofs.TurnedLemmas.{turned_all, turned_more}
 use Rattle.parquet_scan.proofs.chunks.add_chunks.Goals as goal

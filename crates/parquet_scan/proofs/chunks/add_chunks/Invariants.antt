@@ -1,6 +1,6 @@
 use Rattle.std.proofs.Common.{◌≡◌, ◌+◌, ◌-◌, ◌^◌, ◌<◌, ◌++◌, All, map}
 use Rattle.std.specs.Prelude.{min, sum_by}
-use Rattle.columns_core.specs.Chunk.{AreEqualLengths, rows_of as chunk_rows}
+use Rattle.columns_core.specs.Chunk.{AreEqualLengths, array_rows as chunk_rows}
 use Rattle.parquet_scan.specs.Chunks.{side_by_side, turned}
 use Rattle.parquet_scan.specs.Scan.{rows_in}
 use Rattle.parquet_scan.proofs.chunks.add_chunks.Given as goal

@@ -1,7 +1,7 @@
 use Rattle.std.proofs.Common.{◌≡◌, ◌+◌, ◌<◌, ◌^◌, ◌∙◌, ◌++◌, ◌-◌, All, List, length, map, min, arith, ap, subst, sym}
 use Rattle.std.specs.Prelude.{IfSome, OnOk, sum_by}
 use Rattle.std.proofs.lemmas.Result.{on_ok_weaker}
-use Rattle.columns_core.specs.Chunk.{AreEqualLengths, rows_of as chunk_rows}
+use Rattle.columns_core.specs.Chunk.{AreEqualLengths, array_rows as chunk_rows}
 use Rattle.columns_core.specs.declared.array.Array.{Array}
 use Rattle.parquet_base.specs.Intervals.{rows_of}
 use Rattle.parquet_base.specs.Pieces.{cut}

@@ -1,7 +1,7 @@
 use Rattle.std.proofs.Common.{◌≡◌, ◌∙◌, ◌<◌, true, false, length, map, ap, sym, subst, arith, All}
 use Rattle.std.specs.Prelude.{slice_get, Some}
 use Rattle.columns_core.specs.Array.{cells, data_type_of}
-use Rattle.columns_core.specs.Chunk.{rows_of}
+use Rattle.columns_core.specs.Chunk.{array_rows}
 use Rattle.columns_core.specs.Column.{Column, cell_of}
 use Rattle.columns_core.specs.Depth.{depth, largest, fields_less_deep}
 use Rattle.columns_core.specs.Masks.{is_there}
@@ -21,7 +21,7 @@ pub returns-then-is_there-clause-cell : goal.returns-then-is_there-clause-cell
 returns-then-is_there-clause-cell c =
     let s = c.self.inside in
     let i = c.args.i in
-    let h : i < rows_of s.columns = omega (arith, c.requires, ap (λ (column : Column _). length column.items) c.self.view_is, length-structs s.columns s.validity (c.self.invariant.0).fits) in
+    let h : i < array_rows s.columns = omega (arith, c.requires, ap (λ (column : Column _). length column.items) c.self.view_is, length-structs s.columns s.validity (c.self.invariant.0).fits) in
     let there : is_there s.validity i ≡ true = ap (λ m. is_there m i) (sym c.as_ref.ensures.value) ∙ sym c.is_there.ensures ∙ c.if-is_there.true in
     ap (λ (column : Column _). slice_get (map (cell_of Cells) column.items) i) (sym c.self.view_is)
     ∙ cells_at (structs s.columns s.validity) i (is_there s.validity i) (row_at (map cells s.columns) i) (get-structs s.columns s.validity i (c.self.invariant.0).fits h) there
@@ -31,7 +31,7 @@ pub returns-then-is_there-clause-there : goal.returns-then-is_there-clause-there
 returns-then-is_there-clause-there c =
     let s = c.self.inside in
     let i = c.args.i in
-    let h : i < rows_of s.columns = omega (arith, c.requires, ap (λ (column : Column _). length column.items) c.self.view_is, length-structs s.columns s.validity (c.self.invariant.0).fits) in
+    let h : i < array_rows s.columns = omega (arith, c.requires, ap (λ (column : Column _). length column.items) c.self.view_is, length-structs s.columns s.validity (c.self.invariant.0).fits) in
     subst (λ columns. All (λ column. i < length (cells column)) columns) (sym c.as_slice.ensures) (in_each s.columns i (c.self.invariant.0).lengths h)
 
 pub returns-then-is_there-clause-shallow : goal.returns-then-is_there-clause-shallow
@@ -44,7 +44,7 @@ pub returns-else-is_there-clause-cell : goal.returns-else-is_there-clause-cell
 returns-else-is_there-clause-cell c =
     let s = c.self.inside in
     let i = c.args.i in
-    let h : i < rows_of s.columns = omega (arith, c.requires, ap (λ (column : Column _). length column.items) c.self.view_is, length-structs s.columns s.validity (c.self.invariant.0).fits) in
+    let h : i < array_rows s.columns = omega (arith, c.requires, ap (λ (column : Column _). length column.items) c.self.view_is, length-structs s.columns s.validity (c.self.invariant.0).fits) in
     let there : is_there s.validity i ≡ false = ap (λ m. is_there m i) (sym c.as_ref.ensures.value) ∙ sym c.is_there.ensures ∙ c.if-is_there.false in
     ap (λ (column : Column _). slice_get (map (cell_of Cells) column.items) i) (sym c.self.view_is)
     ∙ null_at (structs s.columns s.validity) i (is_there s.validity i) (row_at (map cells s.columns) i) (get-structs s.columns s.validity i (c.self.invariant.0).fits h) there

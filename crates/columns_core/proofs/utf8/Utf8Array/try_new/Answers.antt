@@ -1,7 +1,7 @@
 use Rattle.std.proofs.Common.{◌≡◌, subst}
 use Rattle.std.specs.Prelude.{◌⊎◌, IsTrue, List, ℕ, Option, Bool, Some}
 use Rattle.columns_core.specs.Causes.{OutOfSpec, cause_of, is_invalid_argument}
-use Rattle.columns_core.specs.Stored.{is_text}
+use Rattle.columns_core.specs.Stored.{is_sized_text}
 use Rattle.columns_core.specs.Joined.{FitTogether, AreTexts}
 use Rattle.columns_core.proofs.utf8.Utf8Array.try_new.Goals as goal
 
@@ -12,7 +12,7 @@ owned Fact {lent} {bytes} {seen} {mask} values marks fact = subst (λ m. Fact by
 pub returns-in-Err-clause-err : goal.returns-in-Err-clause-err
 returns-in-Err-clause-err g c =
     let e = c.in-Err.e in
-    owned (λ bytes mask. (IsTrue (is_invalid_argument e) × (IsTrue (is_text g.O.Offset.is_large c.args.data_type) → FitTogether c.args.offsets bytes mask → ⊥)) ⊎ ((cause_of e ≡ Some OutOfSpec) × (AreTexts c.args.offsets bytes → ⊥)))
+    owned (λ bytes mask. (IsTrue (is_invalid_argument e) × (IsTrue (is_sized_text g.O.Offset.is_large c.args.data_type) → FitTogether c.args.offsets bytes mask → ⊥)) ⊎ ((cause_of e ≡ Some OutOfSpec) × (AreTexts c.args.offsets bytes → ⊥)))
     c.as_slice.ensures.value c.as_ref.ensures.value c.in-Err.ensures.err
 
 pub of_texts-requires : goal.of_texts-requires

@@ -1,6 +1,6 @@
 use Rattle.std.proofs.Common.{◌≡◌, ◌∙◌, ◌*◌, ◌++◌, ◌%◌, ap, length, replicate, vec_len}
 use Rattle.std.proofs.lemmas.List.{length-replicate}
-use Rattle.columns_core.specs.Fixed.{pieces}
+use Rattle.columns_core.specs.Fixed.{fixed_pieces}
 use Rattle.flat_values.proofs.ItemLemmas.{filled, items_more, whole_with, with_zeros}
 use Rattle.flat_values.proofs.fixed_size_binary.FixedSizeBinary.extend_constant.Goals as goal
 
@@ -19,4 +19,4 @@ returns-clause-ok c =
     let grown = filled size c.args.additional c.len.result (vec_len c.self.inside.values) c.in_ok-bytes.bytes bytes c.resize.new.self.items c.len.ensures c.self.inside.values.ok.0 c.in_ok-bytes.ensures.ok c.in_ok-resize.ensures.items in
     let same : size ≡ c.args.self.now.size = ap (λ v. v.size) c.self.view_is in
     items_more c.args.self.now size bytes c.resize.new.self.items (replicate c.args.additional (replicate c.args.self.now.size 0)) c.self.view_is
-    (ap (pieces size) grown ∙ with_zeros size bytes c.self.invariant.0 c.self.invariant.1 c.args.additional ∙ ap (λ n. pieces size bytes ++ replicate c.args.additional (replicate n 0)) same)
+    (ap (fixed_pieces size) grown ∙ with_zeros size bytes c.self.invariant.0 c.self.invariant.1 c.args.additional ∙ ap (λ n. fixed_pieces size bytes ++ replicate c.args.additional (replicate n 0)) same)

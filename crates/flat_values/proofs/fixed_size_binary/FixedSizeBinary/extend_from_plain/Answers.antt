@@ -1,5 +1,5 @@
 use Rattle.std.proofs.Common.{◌≡◌, ◌∙◌, ◌/◌, ◌%◌, ◌*◌, ◌++◌, ap, arith, length, subst, sym}
-use Rattle.columns_core.specs.Fixed.{pieces}
+use Rattle.columns_core.specs.Fixed.{fixed_pieces}
 use Rattle.flat_values.proofs.ItemLemmas.{items_more, whole_with, with_items}
 use Rattle.flat_values.proofs.fixed_size_binary.FixedSizeBinary.extend_from_plain.Goals as goal
 
@@ -10,8 +10,8 @@ returns-clause-ok c =
     let more = c.args.bytes.now in
     let same : size ≡ c.args.self.now.size = ap (λ v. v.size) c.self.view_is in
     let all : length more % size ≡ 0 = subst (λ n. length more % n ≡ 0) (sym same) c.requires in
-    items_more c.args.self.now size bytes c.extend_from_slice.new.self.items (pieces c.args.self.now.size more) c.self.view_is
-    (ap (pieces size) c.in_ok-extend_from_slice.ensures.items ∙ with_items size bytes c.self.invariant.0 c.self.invariant.1 more all ∙ ap (λ n. pieces size bytes ++ pieces n more) same)
+    items_more c.args.self.now size bytes c.extend_from_slice.new.self.items (fixed_pieces c.args.self.now.size more) c.self.view_is
+    (ap (fixed_pieces size) c.in_ok-extend_from_slice.ensures.items ∙ with_items size bytes c.self.invariant.0 c.self.invariant.1 more all ∙ ap (λ n. fixed_pieces size bytes ++ fixed_pieces n more) same)
 
 pub invariant_of-self-2 : goal.invariant_of-self-2
 invariant_of-self-2 c =

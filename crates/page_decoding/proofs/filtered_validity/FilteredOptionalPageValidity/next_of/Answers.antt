@@ -1,7 +1,7 @@
 use Rattle.std.proofs.Common.{◌∙◌, ◌+◌, ◌-◌, arith, Some}
 use Rattle.parquet_page.specs.Content.{data_content}
 use Rattle.parquet_page.proofs.ValidityLemmas.{length-all}
-use Rattle.page_decoding.specs.FilteredLeft.{places_left}
+use Rattle.page_decoding.specs.FilteredLeft.{optional_places}
 use Rattle.page_decoding.proofs.WalkLemmas.{Goes, Leaves, ends, next-rows, no-rows, passes-gap, stands-at, taken-rows}
 use Rattle.page_decoding.proofs.filtered_validity.FilteredOptionalPageValidity.next_of.Goals as goal
 
@@ -10,7 +10,7 @@ pass-requires-clause-fits c =
     let page = data_content c.args.page.now in
     let old = c.args.self.now in
     let is = c.requires.page in
-    let size = c.len-left.ensures page is.levels ∙ length-all (places_left old.places page) in
+    let size = c.len-left.ensures page is.levels ∙ length-all (optional_places old.places page) in
     omega (arith, size, is.row, is.fits)
 
 pub returns-in_default-clause-run : goal.returns-in_default-clause-run
@@ -18,7 +18,7 @@ returns-in_default-clause-run c =
     let page = data_content c.args.page.now in
     let old = c.args.self.now in
     let is = c.requires.page in
-    let size = c.len-left.ensures page is.levels ∙ length-all (places_left old.places page) in
+    let size = c.len-left.ensures page is.levels ∙ length-all (optional_places old.places page) in
     let over = no-rows c.args.limit page c.args.rows.now old c.next.new.self c.requires.rows c.in_default.ensures.run in
     let leaves : Leaves page c.len-left.result old c.pass.new.self = record { levels = c.pass.ensures.page; left = c.pass.ensures.left; row = c.pass.ensures.row; same_rows = c.pass.ensures.rows; place = c.pass.ensures.place } in
     let goes : Goes c.args.limit page old c.pass.new.self c.pass.result = ends c.args.limit page c.len-left.result old c.pass.new.self c.pass.result is over size leaves c.pass.ensures.run in
@@ -29,7 +29,7 @@ returns-in_default-clause-longest c =
     let page = data_content c.args.page.now in
     let old = c.args.self.now in
     let is = c.requires.page in
-    let size = c.len-left.ensures page is.levels ∙ length-all (places_left old.places page) in
+    let size = c.len-left.ensures page is.levels ∙ length-all (optional_places old.places page) in
     let over = no-rows c.args.limit page c.args.rows.now old c.next.new.self c.requires.rows c.in_default.ensures.run in
     let leaves : Leaves page c.len-left.result old c.pass.new.self = record { levels = c.pass.ensures.page; left = c.pass.ensures.left; row = c.pass.ensures.row; same_rows = c.pass.ensures.rows; place = c.pass.ensures.place } in
     let goes : Goes c.args.limit page old c.pass.new.self c.pass.result = ends c.args.limit page c.len-left.result old c.pass.new.self c.pass.result is over size leaves c.pass.ensures.run in
@@ -40,7 +40,7 @@ returns-in_default-clause-page c =
     let page = data_content c.args.page.now in
     let old = c.args.self.now in
     let is = c.requires.page in
-    let size = c.len-left.ensures page is.levels ∙ length-all (places_left old.places page) in
+    let size = c.len-left.ensures page is.levels ∙ length-all (optional_places old.places page) in
     let over = no-rows c.args.limit page c.args.rows.now old c.next.new.self c.requires.rows c.in_default.ensures.run in
     let leaves : Leaves page c.len-left.result old c.pass.new.self = record { levels = c.pass.ensures.page; left = c.pass.ensures.left; row = c.pass.ensures.row; same_rows = c.pass.ensures.rows; place = c.pass.ensures.place } in
     let goes : Goes c.args.limit page old c.pass.new.self c.pass.result = ends c.args.limit page c.len-left.result old c.pass.new.self c.pass.result is over size leaves c.pass.ensures.run in

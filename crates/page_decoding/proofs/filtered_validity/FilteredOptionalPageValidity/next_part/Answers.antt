@@ -3,7 +3,7 @@ use Rattle.std.specs.Prelude.{option_map}
 use Rattle.parquet_base.specs.Intervals.{interval}
 use Rattle.parquet_page.specs.Content.{data_content, header_values}
 use Rattle.parquet_page.proofs.ValidityLemmas.{length-all}
-use Rattle.page_decoding.specs.FilteredLeft.{intervals_of, places_left}
+use Rattle.page_decoding.specs.FilteredLeft.{intervals_of, optional_places}
 use Rattle.page_decoding.proofs.FilteredLemmas.{whole-is}
 use Rattle.page_decoding.proofs.filtered_validity.FilteredOptionalPageValidity.next_part.Goals as goal
 
@@ -11,7 +11,7 @@ pub overflow_add-count : goal.overflow_add-count
 overflow_add-count c =
     let page = data_content c.args.page.now in
     let old = c.args.self.now in
-    let size = c.len.ensures page c.requires.page.levels ∙ length-all (places_left old.places page) in
+    let size = c.len.ensures page c.requires.page.levels ∙ length-all (optional_places old.places page) in
     omega (arith, size, c.requires.page.row, c.requires.page.fits)
 
 pub next_part_of-requires-in-None-clause-rows : goal.next_part_of-requires-in-None-clause-rows
@@ -19,7 +19,7 @@ next_part_of-requires-in-None-clause-rows c =
     let page = data_content c.args.page.now in
     let old = c.args.self.now in
     let count = old.row + c.len.result in
-    let size = c.len.ensures page c.requires.page.levels ∙ length-all (places_left old.places page) in
+    let size = c.len.ensures page c.requires.page.levels ∙ length-all (optional_places old.places page) in
     let all : count ≡ header_values page.header = omega (arith, size, c.requires.page.row) in
     let none : page.selected ≡ None = ap (option_map (λ rows. rows.now)) c.in-None.is in
     ap (λ x. take c.min.result (x ∷ [])) c.new.ensures

@@ -4,7 +4,7 @@ use Rattle.std.specs.List.{list_all}
 use Rattle.parquet_encoding.specs.Hybrid.{hybrid}
 use Rattle.parquet_encoding.specs.HybridLeft.{hybrid_left, hybrid_values}
 use Rattle.parquet_page.specs.Levels.{top_level}
-use Rattle.parquet_page.specs.LevelsLeft.{places_of}
+use Rattle.parquet_page.specs.LevelsLeft.{level_places}
 use Rattle.parquet_page.proofs.LevelLemmas.{all-told, no_levels, none-spelled, presence_is, refused-above}
 use Rattle.parquet_page.proofs.level_runs.LevelRuns.try_new.Goals as goal
 
@@ -25,12 +25,12 @@ returns-then-not-are_at_most-clause-refusal c =
     let above : list_all (λ level. nat_le level top) (hybrid_values c.in-Ok.runs c.args.levels.now) ≡ false = sym c.are_at_most.ensures ∙ c.if-not-are_at_most.true in (
       refl,
       presence_is c.args.repetition c.args.levels.now c.args.count top c.in-Some.ensures
-          ∙ sym (ap (places_of top) c.in-Ok.ensures.values)
+          ∙ sym (ap (level_places top) c.in-Ok.ensures.values)
           ∙ refused-above top (hybrid_left c.in-Ok.runs c.args.levels.now) above,
     )
 
 pub returns-clause-places : goal.returns-clause-places
-returns-clause-places c = ap (places_of c.in-Some.top) c.in-Ok.ensures.values ∙ sym (presence_is c.args.repetition c.args.levels.now c.args.count c.in-Some.top c.in-Some.ensures)
+returns-clause-places c = ap (level_places c.in-Some.top) c.in-Ok.ensures.values ∙ sym (presence_is c.args.repetition c.args.levels.now c.args.count c.in-Some.top c.in-Some.ensures)
 
 pub returns-clause-spelled : goal.returns-clause-spelled
 returns-clause-spelled c =
