@@ -10,7 +10,8 @@ use parquet_meta::{
 };
 use parquet_page::{
     DataPage, DataPageHeader, IndexedPageReader, Interval, OptionalPageValidity, PageReader, Pages,
-    Run, SliceFiltered, ValidityPart, ValidityWord, page_row_intervals, select_pages, split_buffer,
+    Run, SliceFiltered, ValidityPart, ValidityWord, count_selected, page_row_intervals,
+    select_pages, split_buffer,
 };
 use std::alloc::{AllocError, Global};
 use std::marker::Brand;
@@ -96,6 +97,7 @@ fn selected_rows_of_pages(rt: HostRuntime) -> Result<(), Fail> {
     let three = [page(4, 0), page(13, 10), page(22, 25)];
     let pages = select_pages(alloc, &[run(5, 10)], &three, 30)?;
     assert_eq!(rt; pages.len(), 3);
+    assert_eq!(rt; count_selected(pages.as_slice()), Some(10));
     assert_eq!(rt; pages[0].selected_rows.as_slice(), [run(5, 5)].as_slice());
     assert_eq!(rt; pages[1].selected_rows.as_slice(), [run(0, 5)].as_slice());
     assert!(rt; pages[2].selected_rows.as_slice().is_empty());

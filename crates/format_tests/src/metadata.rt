@@ -1,8 +1,9 @@
 //! Footers, and what they say.
 use crate::written::{MAGIC, Written};
+use columns_core::{Error, Part};
 use parquet_meta::{
     Failed, FailingSource, FileSource, MemorySource, Place, RawStatistics, Source, read_exact_at,
-    read_metadata,
+    read_metadata, read_range,
 };
 use parquet_thrift::{BINARY, I32, STRUCT};
 use std::alloc::{AllocError, Global};
@@ -188,6 +189,8 @@ fn fails_where_the_source_does(rt: HostRuntime) -> Result<(), Fail> {
         length: 4,
     };
     assert!(rt; read_exact_at(rt.alloc(), &mut source, behind).is_err());
+    let error = read_range(rt.alloc(), &mut source, behind).err();
+    assert_eq!(rt; error, Some(Error::ExternalFormat(Part::Group)));
     let path = String::from_str(rt.alloc(), "no such file")?;
     let mut file = FileSource::new(rt, path);
     assert_eq!(rt; file.size(), Err(Failed));

@@ -10,12 +10,11 @@ use Rattle.columns_core.specs.declared.error.Error.TheVariants as error
 use Rattle.parquet_base.specs.Intervals.{is_well_shaped}
 use Rattle.parquet_base.specs.Reading.{◌>>=◌}
 use Rattle.parquet_base.specs.declared.interval.Interval.{Interval}
-use Rattle.parquet_meta.specs.Source.{Finds}
+use Rattle.parquet_meta.specs.Source.{Finds, IsReadFailure}
 use Rattle.parquet_meta.specs.declared.metadata.PageLocation.{PageLocation}
 use Rattle.parquet_meta.specs.declared.metadata.RowGroupMetaData.{RowGroupMetaData}
 use Rattle.parquet_page.specs.declared.page.FilteredPage.{FilteredPage}
 use Rattle.parquet_indexes.specs.Answered.{AnswersAt, AreChosen, AreShown, ChosenRows, IsAnswer, Question, RefusesToChoose, RowsOfPages, SelectNothing, causes_of_question}
-use Rattle.parquet_indexes.specs.Failures.{IsReadFailure}
 use Rattle.parquet_indexes.specs.FieldStatistics.{AreOfFields, causes_of_fields}
 use Rattle.parquet_indexes.specs.PageMaps.{InFields, field_maps, in_fields, locations_of_fields, pages_at_places, rows_at_places, rows_of_fields}
 use Rattle.parquet_indexes.specs.declared.page_statistics.FieldPageStatistics.{FieldPageStatistics}

@@ -12,7 +12,7 @@ use Rattle.columns_core.specs.declared.error.Error.TheVariants as error
 use Rattle.columns_core.specs.declared.error.Part.{Part}
 use Rattle.parquet_meta.specs.Indexes.{column_index_length, field_columns}
 use Rattle.parquet_meta.specs.declared.metadata.ColumnChunkMetaData.{ColumnChunkMetaData}
-use Rattle.parquet_indexes.specs.Failures.{IsReadFailure}
+use Rattle.parquet_meta.specs.Source.{IsReadFailure}
 use Rattle.parquet_indexes.specs.FieldStatistics.{IsOfColumn, IsOfField, causes_of_field, causes_of_typed, column_indexes_length, typed_columns}
 use Rattle.parquet_indexes.specs.FieldTypes.{arranged, leaf_types}
 use Rattle.parquet_indexes.specs.declared.page_statistics.ColumnPageStatistics.{ColumnPageStatistics}

@@ -1,5 +1,6 @@
 -- What is told of each of a list in turn.
 use Rattle.std.proofs.Common.{◌≡◌, refl, sym, ◌∙◌, ap, subst, ℕ, ◌+◌, ◌≤◌, List, [], ◌∷◌, ◌++◌, Option, Some, None, arith, inl, inr, append_assoc, sum_by}
+use Rattle.parquet_meta.specs.Source.{IsReadFailure}
 use Rattle.std.specs.Prelude.{◌⊎◌, IfSome, flat_map}
 use Rattle.std.specs.List.{AllZip}
 use Rattle.std.proofs.lemmas.List.{append-nil}
@@ -7,7 +8,6 @@ use Rattle.std.proofs.lemmas.List.Sums.{sum_by-cons}
 use Rattle.columns_core.specs.Causes.{Cause, IsOneOf, IsWantOfMemory, cause_of}
 use Rattle.columns_core.specs.declared.error.Error.{Error}
 use Rattle.columns_core.specs.declared.error.Error.TheVariants as error
-use Rattle.parquet_indexes.specs.Failures.{IsReadFailure}
 use Rattle.parquet_indexes.proofs.ErrorLemmas.{one_left}
 
 -- ---- failures

@@ -16,7 +16,7 @@ use Rattle.parquet_meta.specs.Lists.{all_of}
 use Rattle.parquet_meta.specs.declared.metadata.ColumnChunkMetaData.{ColumnChunkMetaData}
 use Rattle.parquet_meta.specs.declared.metadata.Index.{Index}
 use Rattle.parquet_meta.proofs.ListLemmas.{item_and_others}
-use Rattle.parquet_indexes.specs.Failures.{IsReadFailure}
+use Rattle.parquet_meta.specs.Source.{IsReadFailure}
 use Rattle.parquet_indexes.specs.FieldStatistics.{IsOfColumn, causes_of_typed}
 use Rattle.parquet_indexes.specs.Told.{AreTold, statistics_causes}
 use Rattle.parquet_indexes.specs.declared.page_statistics.ColumnPageStatistics.{ColumnPageStatistics}

@@ -9,8 +9,8 @@ use Rattle.columns_core.specs.declared.error.Error.{Error}
 use Rattle.parquet_base.specs.Intervals.{is_well_shaped}
 use Rattle.parquet_base.specs.declared.interval.Interval.{Interval}
 use Rattle.parquet_meta.specs.declared.metadata.RowGroupMetaData.{RowGroupMetaData}
+use Rattle.parquet_meta.specs.Source.{IsReadFailure}
 use Rattle.parquet_page.specs.declared.page.FilteredPage.{FilteredPage}
-use Rattle.parquet_indexes.specs.Failures.{IsReadFailure}
 use Rattle.parquet_indexes.specs.FieldStatistics.{AreOfFields, causes_of_fields}
 use Rattle.parquet_indexes.specs.PageMaps.{InFields, field_maps, in_fields, rows_of_fields}
 use Rattle.parquet_indexes.specs.declared.page_statistics.FieldPageStatistics.{FieldPageStatistics}

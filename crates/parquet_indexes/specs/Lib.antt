@@ -1,5 +1,4 @@
 pub mod Answered
-pub mod Failures
 pub mod FieldStatistics
 pub mod FieldTypes
 pub mod PageMaps

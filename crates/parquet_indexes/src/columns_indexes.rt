@@ -4,9 +4,9 @@ ghost use Rattle.std.specs.List.{AllZip, list_all};
 ghost use Rattle.columns_core.specs.Causes.{is_invalid_argument};
 ghost use Rattle.parquet_meta.specs.Indexes.{begins_with, column_index_length};
 ghost use Rattle.parquet_meta.specs.Keeps.{Keeps};
+ghost use Rattle.parquet_meta.specs.Source.{IsReadFailure};
 ghost use Rattle.parquet_indexes.specs.FieldStatistics as spec;
 ghost use Rattle.parquet_indexes.specs.FieldTypes.{has_column};
-ghost use Rattle.parquet_indexes.specs.Failures.{IsReadFailure};
 
 use crate::field_types::{arrange, leaf_types};
 use crate::fields::have_columns;

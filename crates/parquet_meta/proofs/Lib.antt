@@ -18,3 +18,4 @@ pub mod RawIndexLemmas
 pub mod FieldLemmas
 mod Examples
 mod IndexExamples
+pub mod SliceLemmas

@@ -1,6 +1,7 @@
 -- What a source tells, how often it has failed, and how many bytes it has handed out.
 use Rattle.std.specs.Prelude.{◌≡◌, ℕ, ◌+◌, ◌^◌, ◌-◌, ◌<◌, ◌==◌, Bool, min, List, Option, Some, None, IfSome, IsNone, Result, Ok, Err}
 use Rattle.std.specs.List.{list_any}
+use Rattle.columns_core.specs.Causes.{Cause, IsOneOf, cause_of}
 use Rattle.columns_core.specs.declared.error.Error.{Error}
 use Rattle.columns_core.specs.declared.error.Error.TheVariants as error
 use Rattle.parquet_base.specs.Failures.{MayFail}
@@ -51,3 +52,14 @@ abbrev pub IsFailure : Error → Option (List ℕ) → ℕ → ℕ → Type 0
 IsFailure error.Io told before now = MayFail before now
 IsFailure (error.ExternalFormat part) told before now = IsNone told
 IsFailure _ told before now = ⊥
+
+-- An error of a call that reads parts of a file tells of a read that may fail or, where the source tells its bytes, of one of
+-- these causes. Want of memory may come at any time.
+abbrev pub IsReadFailure : Option (List ℕ) → ℕ → ℕ → (List ℕ → List Cause) → Error → Type 0
+IsReadFailure told before now causes error.OutOfMemory = Unit {0}
+IsReadFailure told before now causes error.Io = MayFail before now
+IsReadFailure told before now causes (error.InvalidArgumentError part) = ⊥
+IsReadFailure told before now causes (error.NotYetImplemented part) = IfSome told (λ file. IsOneOf (causes file) (cause_of (error.NotYetImplemented part)))
+IsReadFailure told before now causes (error.ExternalFormat part) = IfSome told (λ file. IsOneOf (causes file) (cause_of (error.ExternalFormat part)))
+IsReadFailure told before now causes (error.OutOfSpec part) = IfSome told (λ file. IsOneOf (causes file) (cause_of (error.OutOfSpec part)))
+IsReadFailure told before now causes error.Overflow = IfSome told (λ file. IsOneOf (causes file) (cause_of error.Overflow))

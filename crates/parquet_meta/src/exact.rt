@@ -32,6 +32,21 @@ pub fn read_exact_at<S: Source>(
     Ok(bytes)
 }
 
+/// The bytes of the range that the metadata tells of a column's chunk, all of them. What does not lie in the file is told of as
+/// the row group's.
+pub fn read_range<S: Source>(alloc: Global, source: &mut S, range: Place) -> Result<Vec<u8>, Error>
+    ensures keeps { Keeps S.Source source.old source.new }
+    ensures quiet { OnOk result (S.faults source.new ≡ S.faults source.old) }
+    ensures part { Finds (λ bytes. bytes.items) (λ file. part_at file range)
+        (S.told source.old) (S.faults source.old) (S.faults source.new) result }
+    ensures taken { S.taken source.new ≤ S.taken source.old + range.length }
+{
+    match read_exact_at(alloc, source, range) {
+        Err(Error::ExternalFormat(_)) => Err(Error::ExternalFormat(Part::Group)),
+        found => found,
+    }
+}
+
 /// Fills the buffer with the bytes from the place on.
 fn fill_from<S: Source>(source: &mut S, place: u64, out: &mut [u8]) -> Result<(), Error>
     requires fits { place + length out.old < 2 ^ 64 }

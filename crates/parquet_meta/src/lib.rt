@@ -29,7 +29,7 @@ mod structure;
 mod tree;
 mod typed_statistics;
 
-pub use exact::read_exact_at;
+pub use exact::{read_exact_at, read_range};
 pub use failing_source::FailingSource;
 pub use fields::{get_field_columns, get_field_pages};
 pub use file_source::FileSource;

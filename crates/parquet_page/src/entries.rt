@@ -24,7 +24,7 @@ pub(crate) fn wanted(pages: Vec<FilteredPage>) -> Vec<FilteredPage>
 }
 
 /// The selected rows of all pages, if these are well shaped.
-pub(crate) fn count_selected(pages: &[FilteredPage]) -> Option<usize>
+pub fn count_selected(pages: &[FilteredPage]) -> Option<usize>
     ensures { result ≡ given (are_well_shaped pages.now) (selected_count pages.now) }
 {
     let mut count: usize = 0;

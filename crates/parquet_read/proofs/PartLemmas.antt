@@ -11,6 +11,7 @@ use Rattle.parquet_meta.specs.Chunks.{chunk_range, chunk_start}
 use Rattle.parquet_meta.specs.Places.{place_end, bytes_at, part_at}
 use Rattle.parquet_meta.specs.declared.metadata.ColumnChunkMetaData.{ColumnChunkMetaData}
 use Rattle.parquet_meta.specs.declared.metadata.PrimitiveType.{PrimitiveType}
+use Rattle.parquet_meta.proofs.SliceLemmas.{slice_at}
 use Rattle.parquet_page.specs.Lent.{first_start, is_wanted, located_chunk, located_lent, located_parts}
 use Rattle.parquet_page.specs.Chunk.{Undefined}
 use Rattle.parquet_page.specs.Located.{dictionary_in, located_dictionary}
@@ -18,16 +19,6 @@ use Rattle.parquet_page.specs.declared.page.FilteredPage.{FilteredPage}
 use Rattle.parquet_read.specs.Asked.{are_in_range, length_before, page_length, page_part, part_in_front, parts_length, place_of_before}
 use Rattle.parquet_read.specs.Opening.{counted_from, placed_in}
 use Rattle.parquet_read.proofs.PlaceLemmas.{lengths_placed, lie_placed, wanted_placed}
-
-slice_at : (bytes : List ℕ) (offset size k l : ℕ) → k + l ≤ size → slice_range (take size (drop offset bytes)) k (k + l) ≡ take l (drop (offset + k) bytes)
-slice_at bytes offset size k l h =
-    let long : k + l - k ≡ l = omega arith in
-    let split : size ≡ k + (size - k) = omega (arith, h) in
-    ap (λ n. take n (drop k (take size (drop offset bytes)))) long
-    ∙ ap (λ n. take l (drop k (take n (drop offset bytes)))) split
-    ∙ ap (take l) (drop-take k (size - k) (drop offset bytes))
-    ∙ take-take l (size - k) (drop k (drop offset bytes)) (omega (arith, h))
-    ∙ ap (take l) (drop-drop k offset bytes)
 
 pub bytes_there : (file : List ℕ) (start size : ℕ) → start + size ≤ length file → length (take size (drop start file)) ≡ size
 bytes_there file start size fits = length-take-le size (drop start file) (omega (arith, fits, length-drop start file))

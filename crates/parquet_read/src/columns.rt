@@ -6,12 +6,11 @@ ghost use Rattle.columns_core.specs.Causes.{IsWantOfMemory, NotYetImplemented, c
 ghost use Rattle.parquet_meta.specs.Indexes.{field_columns};
 ghost use Rattle.parquet_meta.specs.Keeps.{Keeps};
 ghost use Rattle.parquet_meta.specs.Lists.{all_of};
-ghost use Rattle.parquet_meta.specs.Places.{part_at};
 ghost use Rattle.parquet_meta.specs.Source.{Finds};
 ghost use Rattle.parquet_read.specs.Columns as spec;
 
 use columns_core::{Error, Part};
-use parquet_meta::{ColumnChunkMetaData, Place, Source, get_field_columns, read_exact_at};
+use parquet_meta::{ColumnChunkMetaData, Place, Source, get_field_columns, read_range};
 use std::alloc::Global;
 
 /// The columns of a field, each with the bytes of its chunk, in their order.
@@ -93,22 +92,4 @@ fn read_chunk<'a, S: Source>(
     let (offset, length) = column.byte_range();
     let bytes = read_range(alloc, source, Place { offset, length })?;
     Ok((column, bytes))
-}
-
-/// The bytes of the range that the metadata tells of a chunk.
-pub(crate) fn read_range<S: Source>(
-    alloc: Global,
-    source: &mut S,
-    range: Place,
-) -> Result<Vec<u8>, Error>
-    ensures keeps { Keeps S.Source source.old source.new }
-    ensures quiet { OnOk result (S.faults source.new ≡ S.faults source.old) }
-    ensures part { Finds (λ bytes. bytes.items) (λ file. part_at file range)
-        (S.told source.old) (S.faults source.old) (S.faults source.new) result }
-    ensures taken { S.taken source.new ≤ S.taken source.old + range.length }
-{
-    match read_exact_at(alloc, source, range) {
-        Err(Error::ExternalFormat(_)) => Err(Error::ExternalFormat(Part::Group)),
-        found => found,
-    }
 }

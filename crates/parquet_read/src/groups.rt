@@ -9,10 +9,9 @@ ghost use Rattle.parquet_read.specs.RowGroup.{group_left};
 
 use crate::RowGroupDeserializer;
 use crate::many::read_columns_many;
-use crate::selected::count_selected;
 use columns_core::{Error, Field};
 use parquet_meta::{RowGroupMetaData, Source};
-use parquet_page::FilteredPage;
+use parquet_page::{FilteredPage, count_selected};
 use std::alloc::Global;
 
 /// The first selected rows of a group under a limit, of all these fields.

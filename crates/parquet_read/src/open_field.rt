@@ -17,13 +17,12 @@ ghost use Rattle.parquet_read.specs.Rows.{limited};
 
 use crate::ColumnPages;
 use crate::asked::{AskedField, is_null, only_column};
-use crate::columns::read_range;
 use crate::deserializer::to_deserializer;
 use crate::parts::open_parts;
 use crate::selected::selected_rows;
 use column_arrays::ArrayIter;
 use columns_core::{Error, Field, Part, Seq};
-use parquet_meta::{ColumnChunkMetaData, Place, RowGroupMetaData, Source};
+use parquet_meta::{ColumnChunkMetaData, Place, RowGroupMetaData, Source, read_range};
 use parquet_page::FilteredPage;
 use std::alloc::Global;
 

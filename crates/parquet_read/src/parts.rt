@@ -16,12 +16,11 @@ ghost use Rattle.parquet_read.specs.Opening.{chunk_supply, opened_left, opened_s
 ghost use Rattle.parquet_read.specs.RowGroup.{iter_left};
 
 use crate::ColumnPages;
-use crate::columns::read_range;
 use crate::locations::{counted_from, is_wanted};
 use crate::selected::first_start;
 use column_arrays::{ArrayIter, page_iter_to_arrays};
 use columns_core::{DataType, Error};
-use parquet_meta::{ColumnChunkMetaData, Place, Source};
+use parquet_meta::{ColumnChunkMetaData, Place, Source, read_range};
 use parquet_page::{FilteredPage, IndexedPageReader};
 use std::alloc::Global;
 

@@ -1,17 +1,16 @@
 //! Located pages with their selected rows.
-ghost use Rattle.std.specs.Prelude.{◌≡◌, ◌-◌, ◌+◌, ◌<◌, ◌^◌, ◌&&◌, nat_le, map, filter, true, [], if◌then◌else◌};
+ghost use Rattle.std.specs.Prelude.{◌≡◌, ◌-◌, ◌+◌, ◌&&◌, nat_le, map, filter, true, [], if◌then◌else◌};
 ghost use Rattle.std.specs.List.{list_all};
-ghost use Rattle.parquet_base.specs.Intervals.{is_well_shaped as is_well_shaped_by, row_count as row_count_by};
-ghost use Rattle.parquet_base.specs.Reading.{given};
+ghost use Rattle.parquet_base.specs.Intervals.{row_count as row_count_by};
 ghost use Rattle.parquet_page.specs.Lent.{are_well_shaped as are_well_shaped_by, first_start as first_start_by, is_wanted as is_wanted_by, lie_within as lie_within_by, selected_count};
 ghost use Rattle.parquet_read.specs.Asked as spec;
 ghost use Rattle.parquet_read.specs.Opening.{counted_from};
 
 use crate::locations::{is_wanted, start_behind};
 use columns_core::Seq;
-use parquet_base::{Interval, is_well_shaped};
+use parquet_base::Interval;
 use parquet_meta::ColumnChunkMetaData;
-use parquet_page::FilteredPage;
+use parquet_page::{FilteredPage, count_selected};
 use std::alloc::Global;
 
 /// Whether the selected rows of all pages are well shaped, and can be counted.
@@ -21,47 +20,12 @@ pub(crate) fn are_well_shaped(pages: &[FilteredPage]) -> bool
     count_selected(pages).is_some()
 }
 
-/// The selected rows of all pages, if these are well shaped.
-pub(crate) fn count_selected(pages: &[FilteredPage]) -> Option<usize>
-    ensures { result ≡ given (are_well_shaped_by pages.now) (selected_count pages.now) }
-{
-    let mut count: usize = 0;
-    for page in pages {
-        let rows = count_rows(page.selected_rows.as_slice(), page.num_rows)?;
-        count = count.checked_add(rows)?;
-    }
-    Some(count)
-}
-
 /// The selected rows of all pages.
 pub(crate) fn selected_rows(pages: &[FilteredPage]) -> usize
     requires { are_well_shaped_by pages.now ≡ true }
     ensures { result ≡ selected_count pages.now }
 {
     count_selected(pages).unwrap_or(0)
-}
-
-/// The rows of intervals in all, if these are well shaped for a page of so many rows.
-fn count_rows(rows: &[Interval], num_rows: usize) -> Option<usize>
-    ensures { result ≡ given (is_well_shaped_by rows.now num_rows) (row_count_by rows.now) }
-{
-    if is_well_shaped(rows, num_rows) {
-        Some(row_count(rows))
-    } else {
-        None
-    }
-}
-
-/// The rows of intervals in all.
-fn row_count(rows: &[Interval]) -> usize
-    requires { row_count_by rows.now < 2 ^ 64 }
-    ensures { result ≡ row_count_by rows.now }
-{
-    let mut count = 0;
-    for run in rows {
-        count += run.length;
-    }
-    count
 }
 
 /// The pages that hold one of the first selected rows: a later page keeps its place, and loses its rows.

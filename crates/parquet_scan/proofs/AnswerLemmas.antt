@@ -11,13 +11,13 @@ use Rattle.columns_core.specs.declared.error.Error.TheVariants as error
 use Rattle.columns_core.specs.declared.error.Part.{Part}
 use Rattle.parquet_base.specs.Failures.{MayFail}
 use Rattle.parquet_meta.specs.File.{footer}
-use Rattle.parquet_meta.specs.Source.{Finds}
+use Rattle.parquet_meta.specs.Source.{Finds, IsReadFailure}
 use Rattle.parquet_meta.specs.declared.metadata.FileMetaData.{FileMetaData}
 use Rattle.parquet_scan.specs.Causes.{IsValid, causes, file_causes}
 use Rattle.parquet_scan.specs.Cells.{columns_of_chunk, given_chunks}
 use Rattle.parquet_scan.specs.Request.{Request, is_legal}
 use Rattle.parquet_scan.specs.Rows.{file_with, given_row_count}
-use Rattle.parquet_scan.specs.Scan.{Answers, FailsBy, IsApart, IsSound, OnFile, RefusesScan, kept_groups, kept_of, rows_in}
+use Rattle.parquet_scan.specs.Scan.{Answers, IsApart, IsSound, OnFile, RefusesScan, kept_groups, kept_of, rows_in}
 use Rattle.parquet_scan.specs.declared.scanning.Scan.{Scan}
 use Rattle.parquet_scan.proofs.CauseLemmas.{TellsOf}
 use Rattle.parquet_scan.proofs.GivenCells.{own_chunks}
@@ -163,11 +163,11 @@ refused_by_causes request told before now e found tells legal cause = refused re
   io e (inr h) k = absurd (subst (λ x. IsOneOf found (cause_of x)) k h)
 
 -- of the groups
-pub refused_by_groups : (request : Request) (r : Result Scan Error) (told : Option (List ℕ)) (before mid now : ℕ) (found : List ℕ → List Cause) → before ≤ mid → IfErr r (FailsBy told mid now found)
+pub refused_by_groups : (request : Request) (r : Result Scan Error) (told : Option (List ℕ)) (before mid now : ℕ) (found : List ℕ → List Cause) → before ≤ mid → IfErr r (IsReadFailure told mid now found)
     → IfErr r (λ e. IfSome (cause_of e) (λ _. AsksLegally request told)) → IfErr r (Caused request told) → IfErr r (RefusesScan request told before now)
 refused_by_groups request (Ok scan) told before mid now found le fails legal cause = tt
 refused_by_groups request (Err e) told before mid now found le fails legal cause = refused request told before now e (argument e fails) (io e fails) legal cause where
-  argument : (e : Error) → FailsBy told mid now found e → IsTrue (is_invalid_argument e) → ⊥
+  argument : (e : Error) → IsReadFailure told mid now found e → IsTrue (is_invalid_argument e) → ⊥
   argument (error.InvalidArgumentError p) fails h = fails
   argument (error.NotYetImplemented p) fails h = false≢true h
   argument (error.ExternalFormat p) fails h = false≢true h
@@ -176,7 +176,7 @@ refused_by_groups request (Err e) told before mid now found le fails legal cause
   argument error.Io fails h = false≢true h
   argument error.OutOfMemory fails h = false≢true h
 
-  io : (e : Error) → FailsBy told mid now found e → e ≡ error.Io → MayFail before now
+  io : (e : Error) → IsReadFailure told mid now found e → e ≡ error.Io → MayFail before now
   io (error.InvalidArgumentError p) fails h = absurd fails
   io (error.NotYetImplemented p) fails h = absurd cc
   io (error.ExternalFormat p) fails h = absurd cc

@@ -20,13 +20,14 @@ use Rattle.parquet_meta.specs.File.{footer}
 use Rattle.parquet_meta.proofs.FileRows.{few_rows}
 use Rattle.parquet_meta.specs.declared.metadata.FileMetaData.{FileMetaData}
 use Rattle.parquet_meta.specs.declared.metadata.RowGroupMetaData.{RowGroupMetaData}
+use Rattle.parquet_meta.specs.Source.{IsReadFailure}
 use Rattle.parquet_page.specs.Values.{all_some}
 use Rattle.parquet_scan.specs.Causes.{causes, causes_of_group, file_causes, index_causes, index_causes_of_group, metadata_causes, read_causes, IsValid}
 use Rattle.parquet_scan.specs.Cells.{columns_of_chunk, given_chunks, group_chunks}
 use Rattle.parquet_scan.specs.Counting.{are_pruned, lie_in_groups, causes_of_groups, chunks_of_groups, given_of_groups, index_causes_of_groups, gives_a_row, lies_in_group, kept_of_groups, rows_of_groups, shown}
 use Rattle.parquet_scan.specs.Request.{Request, is_legal}
 use Rattle.parquet_scan.specs.Rows.{File, file_with, first_rows, given_row_count, given_rows, gives_rows, group_counts, intervals, kept, kept_rows, prunes_pages}
-use Rattle.parquet_scan.specs.Scan.{FailsBy, OnFile, kept_of, kept_groups}
+use Rattle.parquet_scan.specs.Scan.{OnFile, kept_of, kept_groups}
 use Rattle.parquet_scan.specs.declared.scanning.GroupKept.{GroupKept}
 use Rattle.parquet_scan.proofs.CauseLemmas.{TellsOf, among_first, then_next}
 use Rattle.parquet_scan.proofs.GroupLemmas.{all_there}
@@ -283,7 +284,7 @@ module _ (request : Request) (metadata : FileMetaData) (none : metadata_causes r
   found_one bytes cause at k = subst (λ causes. Contains causes cause) (sym (same_causes bytes at)) k
 
   cause_in : (e : Error) (told : Option (List ℕ)) (before now : ℕ) → IfSome told (λ bytes. footer bytes ≡ Some metadata)
-      → FailsBy told before now (λ bytes. found bytes) e → IfSome (cause_of e) (λ cause. IfSome told (λ bytes. Contains (causes request bytes) cause))
+      → IsReadFailure told before now (λ bytes. found bytes) e → IfSome (cause_of e) (λ cause. IfSome told (λ bytes. Contains (causes request bytes) cause))
   cause_in (error.InvalidArgumentError p) told before now at k = tt
   cause_in (error.NotYetImplemented p) None before now at k = tt
   cause_in (error.NotYetImplemented p) (Some bytes) before now at k = found_one bytes NotYetImplemented at k
@@ -297,7 +298,7 @@ module _ (request : Request) (metadata : FileMetaData) (none : metadata_causes r
   cause_in error.OutOfMemory told before now at k = tt
 
   pub has_cause : {X : Type 0} (r : Result X Error) (told : Option (List ℕ)) (before now : ℕ) → IfSome told (λ bytes. footer bytes ≡ Some metadata)
-      → IfErr r (FailsBy told before now (λ bytes. found bytes)) → IfErr r (λ e. IfSome (cause_of e) (λ cause. IfSome told (λ bytes. Contains (causes request bytes) cause)))
+      → IfErr r (IsReadFailure told before now (λ bytes. found bytes)) → IfErr r (λ e. IfSome (cause_of e) (λ cause. IfSome told (λ bytes. Contains (causes request bytes) cause)))
   has_cause (Ok x) told before now at k = tt
   has_cause (Err e) told before now at k = cause_in e told before now at k
 

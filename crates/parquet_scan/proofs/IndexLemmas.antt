@@ -25,13 +25,13 @@ use Rattle.parquet_meta.specs.declared.metadata.PageIndex.{PageIndex}
 use Rattle.parquet_meta.specs.declared.metadata.PhysicalType.{PhysicalType}
 use Rattle.parquet_meta.specs.declared.metadata.PhysicalType.TheVariants as types
 use Rattle.parquet_meta.specs.declared.metadata.PrimitiveLogicalType.{PrimitiveLogicalType}
+use Rattle.parquet_meta.specs.Source.{IsReadFailure}
 use Rattle.flat_values.specs.Conversion.{Conversion}
 use Rattle.flat_values.specs.Pairs.{page_conversion, page_end_at, page_from_physical}
 use Rattle.column_ends.specs.Converted.{causes_of_index, cell_page, index_cells, index_rule}
 use Rattle.column_ends.specs.Told.{stored_pages}
 use Rattle.parquet_scan.specs.Pages.{column_index_causes, count_causes}
 use Rattle.parquet_scan.specs.Request.{begins, begins_a_path}
-use Rattle.parquet_scan.specs.Scan.{FailsBy}
 use Rattle.parquet_scan.proofs.CauseLemmas.{TellsOf, tells_left, tells_right}
 use Rattle.parquet_scan.proofs.LocationLemmas.{one_of}
 use Rattle.parquet_scan.proofs.ScanLemmas.{fails_telling}
@@ -151,7 +151,7 @@ not_found false found e = absurd (true≢false (sym e))
 
 -- a refusal of the index itself
 pub index_refused : (data_type : DataType) (count : ℕ) (column : ColumnChunkMetaData) (told : Option (List ℕ)) (before now : ℕ) (e : Error) → IsCarriedAs data_type column
-    → FindsIndex column told before now (Err e) → FailsBy told before now (λ bytes. column_index_causes data_type count bytes column) e
+    → FindsIndex column told before now (Err e) → IsReadFailure told before now (λ bytes. column_index_causes data_type count bytes column) e
 index_refused data_type count column told before now (error.InvalidArgumentError p) some finds = finds
 index_refused data_type count column told before now (error.NotYetImplemented p) some finds =
     absurd (true≢false (sym (page_carried _ column.descriptor.primitive_type.logical_type data_type some) ∙ finds))
@@ -173,7 +173,7 @@ index_found data_type count column index (Some bytes) some is = with_rule data_t
 -- a refusal of its ends
 pub ends_refused : (data_type : DataType) (count : ℕ) (column : ColumnChunkMetaData) (index : Index) (told : Option (List ℕ)) (before now : ℕ) (e : Error) → IsCarriedAs data_type column
     → IfSome told (λ bytes. raw_index bytes column ≡ Some index) → TellsOf (causes_of_index column.descriptor.primitive_type data_type index) e
-    → FailsBy told before now (λ bytes. column_index_causes data_type count bytes column) e
+    → IsReadFailure told before now (λ bytes. column_index_causes data_type count bytes column) e
 ends_refused data_type count column index told before now e some is tells =
     fails_telling told before now (causes_of_index column.descriptor.primitive_type data_type index ++ count_causes count index) (λ bytes. column_index_causes data_type count bytes column) e
     (index_found data_type count column index told some is)
@@ -191,7 +191,7 @@ other_count false m n e apart = refl
 
 pub count_refused : (data_type : DataType) (count : ℕ) (column : ColumnChunkMetaData) (index : Index) (ends : List (PageIndex Cell)) (told : Option (List ℕ)) (before now : ℕ) (part : Part) → IsCarriedAs data_type column
     → IfSome told (λ bytes. raw_index bytes column ≡ Some index) → index_cells column.descriptor.primitive_type data_type index ≡ Some ends → (length ends ≡ count → ⊥)
-    → FailsBy told before now (λ bytes. column_index_causes data_type count bytes column) (error.ExternalFormat part)
+    → IsReadFailure told before now (λ bytes. column_index_causes data_type count bytes column) (error.ExternalFormat part)
 count_refused data_type count column index ends told before now part some is are apart =
     let stored = column.descriptor.primitive_type in
     let causes = causes_of_index stored data_type index in

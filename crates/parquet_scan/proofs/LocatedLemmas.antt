@@ -19,6 +19,7 @@ use Rattle.parquet_base.proofs.ShapeLemmas.{shape-cons, shape-le}
 use Rattle.parquet_meta.specs.Places.{place_end, bytes_at, lies_in, part_at}
 use Rattle.parquet_meta.specs.declared.metadata.PageLocation.{PageLocation}
 use Rattle.parquet_meta.specs.declared.metadata.Place.{Place}
+use Rattle.parquet_meta.proofs.SliceLemmas.{slice_at}
 use Rattle.parquet_page.specs.Chunk.{ChunkPage}
 use Rattle.parquet_page.specs.Content.{Content, header_values}
 use Rattle.parquet_page.specs.Lent.{Lent, behind_dictionary, lent_data_of, if_there, is_wanted, lent_parts, located_lent, wanted_page}
@@ -47,16 +48,6 @@ use Rattle.page_decoding.proofs.RowLemmas.{one_of-left, one_of-right}
 use Rattle.parquet_page.proofs.LocatedLemmas.{wanted_rows}
 
 -- ---- a part of a chunk
-
-slice_at : (bytes : List ℕ) (offset size k l : ℕ) → k + l ≤ size → slice_range (take size (drop offset bytes)) k (k + l) ≡ take l (drop (offset + k) bytes)
-slice_at bytes offset size k l h =
-    let long : k + l - k ≡ l = omega arith in
-    let split : size ≡ k + (size - k) = omega (arith, h) in
-    ap (λ n. take n (drop k (take size (drop offset bytes)))) long
-    ∙ ap (λ n. take l (drop k (take n (drop offset bytes)))) split
-    ∙ ap (take l) (drop-take k (size - k) (drop offset bytes))
-    ∙ take-take l (size - k) (drop k (drop offset bytes)) (omega (arith, h))
-    ∙ ap (take l) (drop-drop k offset bytes)
 
 pub chunk_length : (bytes : List ℕ) (chunk : Place) → place_end chunk ≤ length bytes → length (bytes_at bytes chunk) ≡ chunk.length
 chunk_length bytes chunk fits = length-take-le chunk.length (drop chunk.offset bytes) (omega (arith, fits, length-drop chunk.offset bytes))

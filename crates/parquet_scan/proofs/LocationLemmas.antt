@@ -21,8 +21,7 @@ use Rattle.parquet_page.proofs.SelectionLemmas.{Covers, some, pages-cover, selec
 use Rattle.parquet_scan.specs.Pages.{locations, locations_causes}
 use Rattle.parquet_scan.proofs.CauseLemmas.{TellsOf}
 use Rattle.parquet_scan.proofs.ReadLemmas.{finds_fails, first_of}
-use Rattle.parquet_scan.specs.Scan.{FailsBy}
-use Rattle.parquet_meta.specs.Source.{Finds}
+use Rattle.parquet_meta.specs.Source.{Finds, IsReadFailure}
 use Rattle.columns_core.specs.declared.error.Part.{Part}
 use Rattle.columns_core.specs.declared.error.Error.TheVariants as error
 
@@ -164,7 +163,7 @@ shape_fine (Some bytes) group column list e shape = ap (λ found. unless (has_sh
 
 -- locations that are not read
 pub locations_fail : {X : Type 0} (view : X → List (List PageLocation)) (told : Option (List ℕ)) (before now : ℕ) (group : RowGroupMetaData) (column : ColumnChunkMetaData) (e : Error)
-    → Finds view (λ file. all_of (locations_of file) (column ∷ [])) told before now (Err e) → FailsBy told before now (λ bytes. locations_causes bytes group column) e
+    → Finds view (λ file. all_of (locations_of file) (column ∷ [])) told before now (Err e) → IsReadFailure told before now (λ bytes. locations_causes bytes group column) e
 locations_fail view told before now group column e finds =
     finds_fails view (λ file. all_of (locations_of file) (column ∷ [])) (λ bytes. locations_causes bytes group column) told before now (Err e) (λ bytes. unspelled bytes group column) finds
 
@@ -172,7 +171,7 @@ pub none_of : {X : Type 0} (xs : List X) → length xs ≡ 0 → xs ≡ []
 none_of [] e = refl
 none_of (x ∷ xs) e = absurd (omega (arith, e))
 
-pub never_told : (told : Option (List ℕ)) (before now : ℕ) (whole : List ℕ → List Cause) (p : Part) → IfSome told (λ bytes. ⊥) → FailsBy told before now whole (error.ExternalFormat p)
+pub never_told : (told : Option (List ℕ)) (before now : ℕ) (whole : List ℕ → List Cause) (p : Part) → IfSome told (λ bytes. ⊥) → IsReadFailure told before now whole (error.ExternalFormat p)
 never_told None before now whole p never = tt
 never_told (Some bytes) before now whole p never = absurd never
 

@@ -9,12 +9,11 @@ use Rattle.parquet_meta.specs.declared.metadata.Place.{Place}
 use Rattle.parquet_meta.specs.declared.metadata.RowGroupMetaData.{RowGroupMetaData}
 use Rattle.parquet_meta.specs.Chunks.{chunk_causes, chunk_range}
 use Rattle.parquet_meta.specs.Places.{place_end, bytes_at, lies_in, part_at}
-use Rattle.parquet_meta.specs.Source.{Finds}
+use Rattle.parquet_meta.specs.Source.{Finds, IsReadFailure}
 use Rattle.parquet_scan.specs.Cells.{chunk_of}
 use Rattle.parquet_scan.specs.Causes.{chunk_read_causes}
 use Rattle.parquet_scan.specs.Column.{has_values}
 use Rattle.parquet_scan.specs.Located.{part_causes, part_in}
-use Rattle.parquet_scan.specs.Scan.{FailsBy}
 use Rattle.columns_core.specs.declared.error.Part.{Part}
 
 pub placed : (bytes : List ℕ) (group : RowGroupMetaData) (column : ColumnChunkMetaData) → chunk_causes column ≡ [] → has_values group column ≡ true
@@ -57,7 +56,7 @@ first_of cause causes e = let here : Contains (cause ∷ []) cause = (0, omega a
 
 -- What is not found fails by the causes that a file has in which it is not spelled.
 pub finds_fails : {X A : Type 0} (view : X → A) (spelled : List ℕ → Option A) (causes : List ℕ → List Cause) (told : Option (List ℕ)) (before now : ℕ) (r : Result X Error)
-    → ((bytes : List ℕ) → spelled bytes ≡ None → Contains (causes bytes) ExternalFormat) → Finds view spelled told before now r → IfErr r (FailsBy told before now causes)
+    → ((bytes : List ℕ) → spelled bytes ≡ None → Contains (causes bytes) ExternalFormat) → Finds view spelled told before now r → IfErr r (IsReadFailure told before now causes)
 finds_fails view spelled causes told before now (Ok x) damaged finds = tt
 finds_fails view spelled causes told before now (Err (error.InvalidArgumentError part)) damaged finds = finds
 finds_fails view spelled causes told before now (Err (error.NotYetImplemented part)) damaged finds = absurd finds
@@ -70,7 +69,7 @@ finds_fails view spelled causes told before now (Err error.OutOfMemory) damaged 
 
 pub fails_by : {X : Type 0} (view : X → List ℕ) (told : Option (List ℕ)) (before now : ℕ) (group : RowGroupMetaData) (column : ColumnChunkMetaData) (r : Result X Error)
     → chunk_causes column ≡ [] → has_values group column ≡ true → Finds view (λ file. part_at file (chunk_range column)) told before now r
-    → IfErr r (FailsBy told before now (λ bytes. chunk_read_causes bytes group column))
+    → IfErr r (IsReadFailure told before now (λ bytes. chunk_read_causes bytes group column))
 fails_by view told before now group column r none whole finds =
     finds_fails view (λ file. part_at file (chunk_range column)) (λ bytes. chunk_read_causes bytes group column) told before now r
     (λ bytes gone. first_of ExternalFormat (chunk_read_causes bytes group column) (damaged bytes group column none whole gone)) finds
@@ -80,7 +79,7 @@ fails_by view told before now group column r none whole finds =
 part_is : (bytes : List ℕ) (outer part : Place) → lies_in outer part ≡ true → part_in bytes outer part ≡ part_at bytes part
 part_is bytes outer part lies = ap (λ b. if b then part_at bytes part else None) lies
 
-pub part_outside_fails : (told : Option (List ℕ)) (before now : ℕ) (outer part : Place) (p : Part) → lies_in outer part ≡ false → FailsBy told before now (λ bytes. part_causes bytes outer part) (error.ExternalFormat p)
+pub part_outside_fails : (told : Option (List ℕ)) (before now : ℕ) (outer part : Place) (p : Part) → lies_in outer part ≡ false → IsReadFailure told before now (λ bytes. part_causes bytes outer part) (error.ExternalFormat p)
 part_outside_fails None before now outer part p lies = tt
 part_outside_fails (Some bytes) before now outer part p lies = first_of ExternalFormat (part_causes bytes outer part) (ap (λ b. unless (is_some (if b then part_at bytes part else None)) ExternalFormat) lies)
 
@@ -97,7 +96,7 @@ part_fine view (Some bytes) before now outer part (Ok x) lies finds = ap (λ o. 
 part_fine view told before now outer part (Err e) lies finds = tt
 
 pub part_fails : {X : Type 0} (view : X → List ℕ) (told : Option (List ℕ)) (before now : ℕ) (outer part : Place) (r : Result X Error) → lies_in outer part ≡ true → Finds view (λ file. part_at file part) told before now r
-    → IfErr r (FailsBy told before now (λ bytes. part_causes bytes outer part))
+    → IfErr r (IsReadFailure told before now (λ bytes. part_causes bytes outer part))
 part_fails view told before now outer part r lies finds =
     finds_fails view (λ file. part_at file part) (λ bytes. part_causes bytes outer part) told before now r
     (λ bytes gone. first_of ExternalFormat (part_causes bytes outer part) (ap (λ o. unless (is_some o) ExternalFormat) (part_is bytes outer part lies ∙ gone))) finds

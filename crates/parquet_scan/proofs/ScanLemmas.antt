@@ -13,11 +13,11 @@ use Rattle.parquet_scan.specs.declared.bound.Bound.{Bound}
 use Rattle.parquet_scan.specs.Counting.{are_pruned}
 use Rattle.parquet_scan.specs.Request.{Request}
 use Rattle.parquet_scan.specs.Rows.{group_counts, has_needed_indexes, prunes_pages}
-use Rattle.parquet_scan.specs.Scan.{FailsBy}
 use Rattle.std.proofs.lemmas.Bool.{lt-ltb, eqb-true}
 use Rattle.std.proofs.lemmas.List.{drop_more}
 use Rattle.parquet_base.specs.Intervals.{maximal_runs}
 use Rattle.parquet_meta.specs.declared.metadata.ColumnChunkMetaData.{ColumnChunkMetaData}
+use Rattle.parquet_meta.specs.Source.{IsReadFailure}
 use Rattle.parquet_scan.specs.Causes.{causes_of_chunk, causes_of_read, chunk_read_causes, pair_causes}
 use Rattle.parquet_scan.specs.Cells.{is_null_type}
 use Rattle.parquet_scan.proofs.CauseLemmas.{TellsOf, among_first, then_next}
@@ -53,7 +53,7 @@ same_pruning request groups counts e =
 -- An error of a part is one of the whole, which began before.
 pub fails_more : (told : Option (List ℕ)) (before mid now : ℕ) (part whole : List ℕ → List Cause) (e : Error) → before ≤ mid
     → IfSome told (λ bytes. (o : Option Cause) → IsOneOf (part bytes) o → IsOneOf (whole bytes) o)
-    → FailsBy told mid now part e → FailsBy told before now whole e
+    → IsReadFailure told mid now part e → IsReadFailure told before now whole e
 fails_more told before mid now part whole (error.InvalidArgumentError p) h f k = k
 fails_more None before mid now part whole (error.NotYetImplemented p) h f k = k
 fails_more (Some bytes) before mid now part whole (error.NotYetImplemented p) h f k = f (cause_of (error.NotYetImplemented p)) k
@@ -67,7 +67,7 @@ fails_more told before mid now part whole error.Io h f k = omega (arith, h, k)
 fails_more told before mid now part whole error.OutOfMemory h f k = tt
 
 -- an error by causes that are those of the whole
-pub fails_same : (told : Option (List ℕ)) (before now : ℕ) (part whole : List ℕ → List Cause) (e : Error) → IfSome told (λ bytes. whole bytes ≡ part bytes) → FailsBy told before now part e → FailsBy told before now whole e
+pub fails_same : (told : Option (List ℕ)) (before now : ℕ) (part whole : List ℕ → List Cause) (e : Error) → IfSome told (λ bytes. whole bytes ≡ part bytes) → IsReadFailure told before now part e → IsReadFailure told before now whole e
 fails_same told before now part whole e same fails = fails_more told before before now part whole e (omega arith) (within told same) fails where
   within : (told : Option (List ℕ)) → IfSome told (λ bytes. whole bytes ≡ part bytes) → IfSome told (λ bytes. (o : Option Cause) → IsOneOf (part bytes) o → IsOneOf (whole bytes) o)
   within None same = tt
@@ -144,12 +144,12 @@ in_step None first next = tt
 in_step (Some bytes) first next = among_first first (next bytes)
 
 -- want of memory may come at any time
-pub fails_by_memory : (told : Option (List ℕ)) (before now : ℕ) (whole : List ℕ → List Cause) (e : Error) → IsWantOfMemory e → FailsBy told before now whole e
-fails_by_memory told before now whole e memory = subst (FailsBy told before now whole) (sym memory) tt
+pub fails_by_memory : (told : Option (List ℕ)) (before now : ℕ) (whole : List ℕ → List Cause) (e : Error) → IsWantOfMemory e → IsReadFailure told before now whole e
+fails_by_memory told before now whole e memory = subst (IsReadFailure told before now whole) (sym memory) tt
 
 -- an error that tells of causes which the whole has
 pub fails_within : (told : Option (List ℕ)) (before now : ℕ) (part : List Cause) (whole : List ℕ → List Cause) (e : Error)
-    → IfSome told (λ bytes. (o : Option Cause) → IsOneOf part o → IsOneOf (whole bytes) o) → TellsOf part e → FailsBy told before now whole e
+    → IfSome told (λ bytes. (o : Option Cause) → IsOneOf part o → IsOneOf (whole bytes) o) → TellsOf part e → IsReadFailure told before now whole e
 fails_within told before now part whole e within (inl memory) = fails_by_memory told before now whole e memory
 fails_within told before now part whole (error.InvalidArgumentError p) within (inr one) = one
 fails_within None before now part whole (error.NotYetImplemented p) within (inr one) = tt
@@ -165,7 +165,7 @@ fails_within told before now part whole error.OutOfMemory within (inr one) = abs
 
 -- an error of rows in chunks, which tells of the whole
 pub fails_chunks : (told : Option (List ℕ)) (before now : ℕ) (most size : Option ℕ) (wanted : List Outcome) (whole : List ℕ → List Cause) (e : Error)
-    → IfSome told (λ bytes. (error : Error) → IsCausedByChunks most size wanted error → TellsOf (whole bytes) error) → IsCausedByChunks most size wanted e → FailsBy told before now whole e
+    → IfSome told (λ bytes. (error : Error) → IsCausedByChunks most size wanted error → TellsOf (whole bytes) error) → IsCausedByChunks most size wanted e → IsReadFailure told before now whole e
 fails_chunks None before now most size wanted whole e tells caused = fails_within None before now (causes_in wanted ++ Overflow ∷ []) whole e tt (alone caused) where
   alone : IsCausedByChunks most size wanted e → TellsOf (causes_in wanted ++ Overflow ∷ []) e
   alone (inl (inl memory)) = inl memory
@@ -176,7 +176,7 @@ fails_chunks None before now most size wanted whole e tells caused = fails_withi
 fails_chunks (Some bytes) before now most size wanted whole e tells caused = fails_within (Some bytes) before now (whole bytes) whole e (λ o one. one) (tells e caused)
 
 -- an error of what was read, which fails by the same causes
-pub fails_telling : (told : Option (List ℕ)) (before now : ℕ) (part : List Cause) (whole : List ℕ → List Cause) (e : Error) → IfSome told (λ bytes. whole bytes ≡ part) → TellsOf part e → FailsBy told before now whole e
+pub fails_telling : (told : Option (List ℕ)) (before now : ℕ) (part : List Cause) (whole : List ℕ → List Cause) (e : Error) → IfSome told (λ bytes. whole bytes ≡ part) → TellsOf part e → IsReadFailure told before now whole e
 fails_telling told before now part whole e same k = fails_within told before now part whole e (within told same) k where
   within : (told : Option (List ℕ)) → IfSome told (λ bytes. whole bytes ≡ part) → IfSome told (λ bytes. (o : Option Cause) → IsOneOf part o → IsOneOf (whole bytes) o)
   within None same = tt

@@ -6,7 +6,7 @@ use Rattle.parquet_base.specs.Failures.{MayFail}
 use Rattle.parquet_base.specs.Intervals.{AreApart, covers}
 use Rattle.columns_core.specs.Chunk.{AreEqualLengths, array_rows}
 use Rattle.columns_core.specs.declared.array.Array.{Array}
-use Rattle.columns_core.specs.Causes.{Cause, IsOneOf, cause_of, is_invalid_argument}
+use Rattle.columns_core.specs.Causes.{cause_of, is_invalid_argument}
 use Rattle.columns_core.specs.declared.data_type.Schema.{Schema}
 use Rattle.columns_core.specs.declared.error.Error.{Error}
 use Rattle.columns_core.specs.declared.error.Error.TheVariants as error
@@ -52,14 +52,6 @@ HoldsMet request file group kept =
 -- No such row lies outside the runs of its group, whatever is true of the other groups.
 abbrev pub IsSound : Request → File → List (ℕ × List Interval) → Type 0
 IsSound request file kept = AllZip (HoldsMet request file) (groups_of file) kept
-
--- An error of a call that reads a part of the file comes of a read that may fail or, where the source tells its bytes, of one
--- of these causes. Want of memory may come at any time.
-abbrev pub FailsBy : Option (List ℕ) → ℕ → ℕ → (List ℕ → List Cause) → Error → Type 0
-FailsBy told before now causes error.OutOfMemory = Unit {0}
-FailsBy told before now causes error.Io = MayFail before now
-FailsBy told before now causes (error.InvalidArgumentError part) = ⊥
-FailsBy told before now causes e = IfSome told (λ bytes. IsOneOf (causes bytes) (cause_of e))
 
 -- A count rises by a number that the bytes give, where the source tells them.
 abbrev pub RisesJustBy : Option (List ℕ) → ℕ → ℕ → (List ℕ → ℕ) → Type 0

@@ -2,16 +2,15 @@
 ghost use Rattle.std.specs.Prelude.{◌≡◌, ◌+◌, ◌≤◌, [], Some, IfOk, IfErr, OnOk, IfSome, option_map};
 ghost use Rattle.columns_core.specs.Causes.{ComesOf};
 ghost use Rattle.parquet_meta.specs.Chunks.{chunk_causes, chunk_range};
-ghost use Rattle.parquet_meta.specs.Places.{bytes_at, part_at};
+ghost use Rattle.parquet_meta.specs.Places.{bytes_at};
 ghost use Rattle.parquet_meta.specs.Keeps.{Keeps};
-ghost use Rattle.parquet_meta.specs.Source.{Finds};
+ghost use Rattle.parquet_meta.specs.Source.{IsReadFailure};
 ghost use Rattle.parquet_scan.specs.Causes.{chunk_read_causes};
 ghost use Rattle.parquet_scan.specs.Cells.{chunk_of};
 ghost use Rattle.parquet_scan.specs.Column.{has_values};
-ghost use Rattle.parquet_scan.specs.Scan.{FailsBy};
 
 use columns_core::{Error, Part};
-use parquet_meta::{ColumnChunkMetaData, Place, RowGroupMetaData, Source, read_exact_at};
+use parquet_meta::{ColumnChunkMetaData, Place, RowGroupMetaData, Source, read_range};
 use std::alloc::Global;
 
 /// The most values for each byte of a chunk.
@@ -30,7 +29,8 @@ pub(crate) fn read_chunk<S: Source>(
     ensures counted { OnOk result (column.now.num_values ≡ group.now.num_rows) }
     ensures chunk { IfOk result (λ found. IfSome (S.told source.old) (λ bytes.
         option_map (bytes_at bytes) (chunk_of bytes group.now column.now) ≡ Some found.items)) }
-    ensures fails { IfErr result (FailsBy (S.told source.old) (S.faults source.old) (S.faults source.new)
+    ensures fails { IfErr result (
+        IsReadFailure (S.told source.old) (S.faults source.old) (S.faults source.new)
         (λ bytes. chunk_read_causes bytes group.now column.now)) }
     ensures taken { S.taken source.new ≤ S.taken source.old + (chunk_range column.now).length }
 {
@@ -40,20 +40,6 @@ pub(crate) fn read_chunk<S: Source>(
     }
     let (offset, length) = column.byte_range();
     read_range(alloc, source, Place { offset, length })
-}
-
-/// The bytes of the range that a group tells of a chunk.
-fn read_range<S: Source>(alloc: Global, source: &mut S, range: Place) -> Result<Vec<u8>, Error>
-    ensures keeps { Keeps S.Source source.old source.new }
-    ensures quiet { OnOk result (S.faults source.new ≡ S.faults source.old) }
-    ensures part { Finds (λ bytes. bytes.items) (λ file. part_at file range)
-        (S.told source.old) (S.faults source.old) (S.faults source.new) result }
-    ensures taken { S.taken source.new ≤ S.taken source.old + range.length }
-{
-    match read_exact_at(alloc, source, range) {
-        Err(Error::ExternalFormat(_)) => Err(Error::ExternalFormat(Part::Group)),
-        found => found,
-    }
 }
 
 /// Where a column's chunk stands in a group, of which nothing is read.
@@ -67,7 +53,8 @@ pub(crate) fn place_of_chunk<S: Source>(
     ensures readable { OnOk result (chunk_causes column.now ≡ []) }
     ensures place { IfOk result (λ place.
         IfSome (S.told source.old) (λ bytes. chunk_of bytes group.now column.now ≡ Some place)) }
-    ensures fails { IfErr result (FailsBy (S.told source.old) (S.faults source.old) (S.faults source.new)
+    ensures fails { IfErr result (
+        IsReadFailure (S.told source.old) (S.faults source.old) (S.faults source.new)
         (λ bytes. chunk_read_causes bytes group.now column.now)) }
     ensures taken { S.taken source.new ≡ S.taken source.old }
 {

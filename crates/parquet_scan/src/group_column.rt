@@ -11,11 +11,12 @@ ghost use Rattle.parquet_base.specs.Pieces.{cut};
 ghost use Rattle.parquet_meta.specs.Chunks.{chunk_range};
 ghost use Rattle.parquet_meta.specs.Indexes.{offset_index_length};
 ghost use Rattle.parquet_meta.specs.Keeps.{Keeps};
+ghost use Rattle.parquet_meta.specs.Source.{IsReadFailure};
 ghost use Rattle.parquet_scan.specs.Causes.{causes_of_chunk, causes_of_read, chunk_read_causes, pair_causes};
 ghost use Rattle.parquet_scan.specs.Cells.{column_cell, is_null_type as is_null_type_by, walked_item};
 ghost use Rattle.parquet_scan.specs.Costs.{lent_of_chunk, lent_of_read, taken_of_read};
 ghost use Rattle.parquet_scan.specs.Counting.{AreFirst};
-ghost use Rattle.parquet_scan.specs.Scan.{FailsBy, RisesBy, RisesJustBy};
+ghost use Rattle.parquet_scan.specs.Scan.{RisesBy, RisesJustBy};
 
 use crate::column::{place_of_chunk, read_chunk};
 use crate::decode::decode_column;
@@ -51,7 +52,7 @@ pub(crate) fn read_column<S: Source, L: Ledger>(
         causes_of_read by_pages chunk_size bytes group.now (rows_of runs.now) data_type.now column.now
         ≡ [])) }
     ensures fails { IfErr result (
-        FailsBy (S.told source.old) (S.faults source.old) (S.faults source.new) (λ bytes.
+        IsReadFailure (S.told source.old) (S.faults source.old) (S.faults source.new) (λ bytes.
         causes_of_read by_pages chunk_size bytes group.now (rows_of runs.now) data_type.now column.now)) }
     ensures typed { IfOk result (λ found. All (λ array. data_type_of array ≡ data_type.now) found.0.items) }
     ensures counts { IfOk result (λ found.
@@ -105,7 +106,7 @@ fn read_first<S: Source, L: Ledger>(
     ensures ok { OnOk result (IfSome (S.told source.old) (λ bytes.
         causes_of_chunk false chunk_size bytes group.now (rows_of runs.now) data_type.now column.now ≡ [])) }
     ensures fails { IfErr result (
-        FailsBy (S.told source.old) (S.faults source.old) (S.faults source.new) (λ bytes.
+        IsReadFailure (S.told source.old) (S.faults source.old) (S.faults source.new) (λ bytes.
         causes_of_chunk false chunk_size bytes group.now (rows_of runs.now) data_type.now column.now)) }
     ensures typed { IfOk result (λ found. All (λ array. data_type_of array ≡ data_type.now) found.0.items) }
     ensures counts { IfOk result (λ found.
@@ -143,7 +144,7 @@ fn read_nulls<S: Source>(
     ensures ok { OnOk result (IfSome (S.told source.old) (λ bytes.
         chunk_read_causes bytes group.now column.now ≡ [])) }
     ensures fails { IfErr result (
-        FailsBy (S.told source.old) (S.faults source.old) (S.faults source.new) (λ bytes.
+        IsReadFailure (S.told source.old) (S.faults source.old) (S.faults source.new) (λ bytes.
         chunk_read_causes bytes group.now column.now)) }
     ensures nulls { IfOk result (λ found. map column_of found.0.items
         ≡ map (λ nulls. (type.Null, nulls)) (cut chunk_size (replicate (length (rows_of runs.now)) Null))) }

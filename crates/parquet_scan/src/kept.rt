@@ -5,10 +5,11 @@ ghost use Rattle.parquet_base.specs.Intervals.{AreApart, maximal_runs};
 ghost use Rattle.parquet_meta.specs.Keeps.{Keeps};
 ghost use Rattle.parquet_scan.specs.Counting.{AreFirst, index_causes_if, index_causes_of_groups, indexes_taken, indexes_taken_of_groups, kept_if, kept_of_groups};
 ghost use Rattle.parquet_meta.specs.declared.metadata.RowGroupMetaData.{RowGroupMetaData as RowGroup};
+ghost use Rattle.parquet_meta.specs.Source.{IsReadFailure};
 ghost use Rattle.parquet_scan.specs.declared.scanning.GroupKept.{GroupKept as Kept};
 ghost use Rattle.parquet_scan.specs.Request.{is_legal_bound_of};
 ghost use Rattle.parquet_scan.specs.Rows.{pages_keep};
-ghost use Rattle.parquet_scan.specs.Scan.{FailsBy, IsApart};
+ghost use Rattle.parquet_scan.specs.Scan.{IsApart};
 
 use crate::pruning::kept_by_pages;
 use crate::{Bound, GroupKept};
@@ -34,7 +35,7 @@ pub(crate) fn kept_groups<S: Source>(
     ensures ok { OnOk result (IfSome (S.told source.old) (λ bytes.
         index_causes_of_groups by_pages fields.now bounds.now bytes groups.now counts.now ≡ [])) }
     ensures fails { IfErr result (
-        FailsBy (S.told source.old) (S.faults source.old) (S.faults source.new) (λ bytes.
+        IsReadFailure (S.told source.old) (S.faults source.old) (S.faults source.new) (λ bytes.
         index_causes_of_groups by_pages fields.now bounds.now bytes groups.now counts.now)) }
     ensures kept { IfOk result (λ kept. IfSome (S.told source.old) (λ bytes.
         kept.items ≡ kept_of_groups by_pages fields.now bounds.now bytes groups.now counts.now)) }
@@ -70,7 +71,7 @@ fn kept_group<S: Source>(
     ensures ok { OnOk result (IfSome (S.told source.old) (λ bytes.
         index_causes_if by_pages fields.now bounds.now bytes (group.now, counts) ≡ [])) }
     ensures fails { IfErr result (
-        FailsBy (S.told source.old) (S.faults source.old) (S.faults source.new) (λ bytes.
+        IsReadFailure (S.told source.old) (S.faults source.old) (S.faults source.new) (λ bytes.
         index_causes_if by_pages fields.now bounds.now bytes (group.now, counts))) }
     ensures kept { IfOk result (λ kept. IfSome (S.told source.old) (λ bytes.
         kept ≡ kept_if by_pages fields.now bounds.now bytes (group.now, counts))) }
@@ -103,7 +104,7 @@ fn kept_runs<S: Source>(
     ensures ok { OnOk result (IfSome (S.told source.old) (λ bytes.
         index_causes_if by_pages fields.now bounds.now bytes (group.now, counts) ≡ [])) }
     ensures fails { IfErr result (
-        FailsBy (S.told source.old) (S.faults source.old) (S.faults source.new) (λ bytes.
+        IsReadFailure (S.told source.old) (S.faults source.old) (S.faults source.new) (λ bytes.
         index_causes_if by_pages fields.now bounds.now bytes (group.now, counts))) }
     ensures kept { IfOk result (λ runs. IfSome (S.told source.old) (λ bytes. runs.items
         ≡ maximal_runs (λ row. counts && pages_keep by_pages fields.now bounds.now bytes group.now row)

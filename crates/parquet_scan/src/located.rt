@@ -12,12 +12,13 @@ ghost use Rattle.page_decoding.specs.Queue.{IsChunkSize};
 ghost use Rattle.flat_values.specs.Conversion.{Value};
 ghost use Rattle.flat_values.specs.MostBytes.{most_bytes};
 ghost use Rattle.parquet_meta.specs.Keeps.{Keeps};
+ghost use Rattle.parquet_meta.specs.Source.{IsReadFailure};
 ghost use Rattle.parquet_scan.specs.Causes.{causes_of_chunk, pair_causes};
 ghost use Rattle.parquet_scan.specs.Cells.{is_null_type, located_item};
 ghost use Rattle.parquet_scan.specs.Costs.{lent_of_chunk, taken_of_chunk};
 ghost use Rattle.parquet_scan.specs.Decoded.{column_rows, pages_for};
 ghost use Rattle.parquet_scan.specs.Located.{entry_causes, entry_part, entry_place, part_causes, part_in, place_before as place_before_by};
-ghost use Rattle.parquet_scan.specs.Scan.{FailsBy, RisesBy, RisesJustBy};
+ghost use Rattle.parquet_scan.specs.Scan.{RisesBy, RisesJustBy};
 
 use crate::column::place_of_chunk;
 use crate::decode::decode_column;
@@ -51,7 +52,7 @@ pub(crate) fn read_located<S: Source, L: Ledger>(
         causes_of_chunk true chunk_size bytes group.now (rows_of intervals.now) data_type.now column.now
         ≡ [])) }
     ensures fails { IfErr result (
-        FailsBy (S.told source.old) (S.faults source.old) (S.faults source.new) (λ bytes.
+        IsReadFailure (S.told source.old) (S.faults source.old) (S.faults source.new) (λ bytes.
         causes_of_chunk true chunk_size bytes group.now (rows_of intervals.now) data_type.now column.now)) }
     ensures typed { IfOk result (λ found. All (λ array. data_type_of array ≡ data_type.now) found.0.items) }
     ensures counts { IfOk result (λ found.
@@ -101,7 +102,8 @@ fn read_bodies<S: Source>(
     ensures quiet { OnOk result (S.faults source.new ≡ S.faults source.old) }
     ensures ok { OnOk result (IfSome (S.told source.old) (λ bytes.
         flat_map (entry_causes bytes chunk) (filter is_wanted_by pages.now) ≡ [])) }
-    ensures fails { IfErr result (FailsBy (S.told source.old) (S.faults source.old) (S.faults source.new)
+    ensures fails { IfErr result (
+        IsReadFailure (S.told source.old) (S.faults source.old) (S.faults source.new)
         (λ bytes. flat_map (entry_causes bytes chunk) (filter is_wanted_by pages.now))) }
     ensures bodies { IfOk result (λ bodies.
         IfSome (S.told source.old) (λ bytes.
@@ -147,7 +149,8 @@ fn read_before<S: Source>(
     ensures quiet { OnOk result (S.faults source.new ≡ S.faults source.old) }
     ensures ok { OnOk result (IfSome (S.told source.old) (λ bytes.
         (if wanted then part_causes bytes chunk (place_before_by chunk pages.now) else []) ≡ [])) }
-    ensures fails { IfErr result (FailsBy (S.told source.old) (S.faults source.old) (S.faults source.new)
+    ensures fails { IfErr result (
+        IsReadFailure (S.told source.old) (S.faults source.old) (S.faults source.new)
         (λ bytes. (if wanted then part_causes bytes chunk (place_before_by chunk pages.now) else []))) }
     ensures part { IfOk result (λ part.
         IsTrue wanted → IfSome (S.told source.old) (λ bytes.
@@ -189,7 +192,8 @@ fn read_part<S: Source>(
     ensures keeps { Keeps S.Source source.old source.new }
     ensures quiet { OnOk result (S.faults source.new ≡ S.faults source.old) }
     ensures ok { OnOk result (IfSome (S.told source.old) (λ bytes. part_causes bytes chunk part ≡ [])) }
-    ensures fails { IfErr result (FailsBy (S.told source.old) (S.faults source.old) (S.faults source.new)
+    ensures fails { IfErr result (
+        IsReadFailure (S.told source.old) (S.faults source.old) (S.faults source.new)
         (λ bytes. part_causes bytes chunk part)) }
     ensures part { IfOk result (λ found.
         IfSome (S.told source.old) (λ bytes. part_in bytes chunk part ≡ Some found.items)) }

@@ -5,11 +5,11 @@ ghost use Rattle.columns_core.specs.Causes.{ComesOf, ExternalFormat, unless};
 ghost use Rattle.parquet_meta.specs.Indexes.{offset_index_length};
 ghost use Rattle.parquet_page.specs.Locations.{begin_with_row_0, has_shape, part_of};
 ghost use Rattle.parquet_meta.specs.Keeps.{Keeps};
+ghost use Rattle.parquet_meta.specs.Source.{IsReadFailure};
 ghost use Rattle.parquet_scan.specs.Causes.{offset_causes_of_field};
 ghost use Rattle.parquet_scan.specs.Costs.{location_bytes_of};
 ghost use Rattle.parquet_scan.specs.Pages.{locations as locations_by, locations_causes};
 ghost use Rattle.parquet_scan.specs.Rows.{field_locations};
-ghost use Rattle.parquet_scan.specs.Scan.{FailsBy};
 
 use crate::groups::column_named;
 use columns_core::{Error, Field, Part};
@@ -32,7 +32,8 @@ pub(crate) fn read_all_locations<S: Source>(
     ensures quiet { OnOk result (S.faults source.new ≡ S.faults source.old) }
     ensures ok { OnOk result (IfSome (S.told source.old) (λ bytes.
         flat_map (offset_causes_of_field bytes group.now) fields.now ≡ [])) }
-    ensures fails { IfErr result (FailsBy (S.told source.old) (S.faults source.old) (S.faults source.new)
+    ensures fails { IfErr result (
+        IsReadFailure (S.told source.old) (S.faults source.old) (S.faults source.new)
         (λ bytes. flat_map (offset_causes_of_field bytes group.now) fields.now)) }
     ensures locations { IfOk result (λ lists.
         IfSome (S.told source.old) (λ bytes.
@@ -61,7 +62,8 @@ fn read_field_locations<S: Source>(
     ensures quiet { OnOk result (S.faults source.new ≡ S.faults source.old) }
     ensures ok { OnOk result (IfSome (S.told source.old) (λ bytes.
         offset_causes_of_field bytes group.now field.now ≡ [])) }
-    ensures fails { IfErr result (FailsBy (S.told source.old) (S.faults source.old) (S.faults source.new)
+    ensures fails { IfErr result (
+        IsReadFailure (S.told source.old) (S.faults source.old) (S.faults source.new)
         (λ bytes. offset_causes_of_field bytes group.now field.now)) }
     ensures locations { IfOk result (λ list.
         IfSome (S.told source.old) (λ bytes. field_locations bytes group.now field.now.name ≡ list.items)) }
@@ -85,7 +87,8 @@ pub(crate) fn read_locations<S: Source>(
     ensures quiet { OnOk result (S.faults source.new ≡ S.faults source.old) }
     ensures ok { OnOk result (IfSome (S.told source.old) (λ bytes.
         locations_causes bytes group.now column.now ≡ [])) }
-    ensures fails { IfErr result (FailsBy (S.told source.old) (S.faults source.old) (S.faults source.new)
+    ensures fails { IfErr result (
+        IsReadFailure (S.told source.old) (S.faults source.old) (S.faults source.new)
         (λ bytes. locations_causes bytes group.now column.now)) }
     ensures locations { IfOk result (λ list.
         IfSome (S.told source.old) (λ bytes. locations_by bytes column.now ≡ list.items)) }

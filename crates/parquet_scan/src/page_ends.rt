@@ -2,9 +2,9 @@
 ghost use Rattle.std.specs.Prelude.{◌≡◌, ◌≤◌, ◌+◌, [], true, length, map, IfOk, IfErr, IfSome, OnOk};
 ghost use Rattle.parquet_meta.specs.Indexes.{FindsIndex, column_index_length};
 ghost use Rattle.parquet_meta.specs.Keeps.{Keeps};
+ghost use Rattle.parquet_meta.specs.Source.{IsReadFailure};
 ghost use Rattle.parquet_scan.specs.Pages as spec;
 ghost use Rattle.parquet_scan.specs.Request.{begins};
-ghost use Rattle.parquet_scan.specs.Scan.{FailsBy};
 
 use column_ends::index_ends;
 use columns_core::{Cell, DataType, Error, Name, Part};
@@ -28,7 +28,7 @@ pub(crate) fn read_page_ends<S: Source>(
     ensures ok { OnOk result (IfSome (S.told source.old) (λ bytes.
         spec.column_index_causes data_type.now count bytes column.now ≡ [])) }
     ensures fails { IfErr result (
-        FailsBy (S.told source.old) (S.faults source.old) (S.faults source.new) (λ bytes.
+        IsReadFailure (S.told source.old) (S.faults source.old) (S.faults source.new) (λ bytes.
         spec.column_index_causes data_type.now count bytes column.now)) }
     ensures ends { IfOk result (λ ends. IfSome (S.told source.old) (λ bytes.
         spec.page_ends data_type.now bytes column.now ≡ map spec.ends_of_page ends.items)) }

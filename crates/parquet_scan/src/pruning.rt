@@ -6,12 +6,12 @@ ghost use Rattle.parquet_base.specs.Intervals.{maximal_runs, AreApart};
 ghost use Rattle.parquet_page.specs.Locations.{has_shape};
 ghost use Rattle.parquet_meta.specs.Code.{not_negative};
 ghost use Rattle.parquet_meta.specs.Keeps.{Keeps};
+ghost use Rattle.parquet_meta.specs.Source.{IsReadFailure};
 ghost use Rattle.parquet_scan.specs.Causes.{index_causes_of_bound, index_causes_of_group};
 ghost use Rattle.parquet_scan.specs.Costs.{index_bytes_of, location_bytes_of};
 ghost use Rattle.parquet_scan.specs.Pages.{ends_of_page, keeps_row, page_keeps as page_keeps_by, rows_at};
 ghost use Rattle.parquet_scan.specs.Request.{is_legal_bound_of};
 ghost use Rattle.parquet_scan.specs.Rows.{bound_keeps, field_locations, pages_keep};
-ghost use Rattle.parquet_scan.specs.Scan.{FailsBy};
 
 use crate::Bound;
 use crate::bound::ends_keep;
@@ -39,7 +39,7 @@ pub(crate) fn kept_by_pages<S: Source>(
     ensures ok { OnOk result (IfSome (S.told source.old) (λ bytes.
         index_causes_of_group fields.now bounds.now bytes group.now ≡ [])) }
     ensures fails { IfErr result (
-        FailsBy (S.told source.old) (S.faults source.old) (S.faults source.new) (λ bytes.
+        IsReadFailure (S.told source.old) (S.faults source.old) (S.faults source.new) (λ bytes.
         index_causes_of_group fields.now bounds.now bytes group.now)) }
     ensures kept { IfOk result (λ runs. IfSome (S.told source.old) (λ bytes. runs.items
         ≡ maximal_runs (pages_keep true fields.now bounds.now bytes group.now) group.now.num_rows)) }
@@ -73,7 +73,7 @@ fn read_all_runs<S: Source>(
     ensures ok { OnOk result (IfSome (S.told source.old) (λ bytes.
         flat_map (index_causes_of_bound fields.now bytes group.now) bounds.now ≡ [])) }
     ensures fails { IfErr result (
-        FailsBy (S.told source.old) (S.faults source.old) (S.faults source.new) (λ bytes.
+        IsReadFailure (S.told source.old) (S.faults source.old) (S.faults source.new) (λ bytes.
         flat_map (index_causes_of_bound fields.now bytes group.now) bounds.now)) }
     ensures runs { IfOk result (λ lists. IfSome (S.told source.old) (λ bytes.
         map (λ bound.
@@ -109,7 +109,7 @@ fn read_runs<S: Source>(
     ensures ok { OnOk result (IfSome (S.told source.old) (λ bytes.
         index_causes_of_bound fields.now bytes group.now bound.now ≡ [])) }
     ensures fails { IfErr result (
-        FailsBy (S.told source.old) (S.faults source.old) (S.faults source.new) (λ bytes.
+        IsReadFailure (S.told source.old) (S.faults source.old) (S.faults source.new) (λ bytes.
         index_causes_of_bound fields.now bytes group.now bound.now)) }
     ensures runs { IfOk result (λ runs. IfSome (S.told source.old) (λ bytes.
         maximal_runs (λ row. bound_keeps fields.now bytes group.now row bound.now) group.now.num_rows

@@ -6,11 +6,12 @@ ghost use Rattle.page_decoding.specs.Queue.{IsChunkSize};
 ghost use Rattle.parquet_base.specs.Intervals.{is_well_shaped, row_count, rows_of};
 ghost use Rattle.parquet_base.specs.Pieces.{cut};
 ghost use Rattle.parquet_meta.specs.Keeps.{Keeps};
+ghost use Rattle.parquet_meta.specs.Source.{IsReadFailure};
 ghost use Rattle.parquet_scan.specs.Causes.{causes_of_column, causes_of_group};
 ghost use Rattle.parquet_scan.specs.Cells.{given_chunk, given_column};
 ghost use Rattle.parquet_scan.specs.Costs.{lent_of_column, lent_of_group};
 ghost use Rattle.parquet_scan.specs.Counting.{AreFirst, lie_in_groups, causes_if_read, causes_of_groups, chunks_if_read, chunks_of_groups, column_taken, columns_taken, lies_in_group, lent_if_read, lent_of_groups, rows_of_groups, shown, taken_if_read, taken_of_groups};
-ghost use Rattle.parquet_scan.specs.Scan.{FailsBy, RisesBy, RisesJustBy, rows_in};
+ghost use Rattle.parquet_scan.specs.Scan.{RisesBy, RisesJustBy, rows_in};
 
 use crate::chunks::{RowsRead, add_chunks};
 use crate::group_column::read_column;
@@ -44,7 +45,7 @@ pub(crate) fn read_groups<S: Source, L: Ledger>(
     ensures ok { OnOk result (IfSome (S.told source.old) (λ bytes.
         causes_of_groups by_pages chunk_size fields.now bytes groups.now given.now ≡ [])) }
     ensures fails { IfErr result (
-        FailsBy (S.told source.old) (S.faults source.old) (S.faults source.new) (λ bytes.
+        IsReadFailure (S.told source.old) (S.faults source.old) (S.faults source.new) (λ bytes.
         causes_of_groups by_pages chunk_size fields.now bytes groups.now given.now)) }
     ensures chunks { OnOk result (IfSome (S.told source.old) (λ bytes. shown read.new.chunks.items
         ≡ shown read.old.chunks.items ++ chunks_of_groups by_pages chunk_size fields.now bytes groups.now
@@ -94,7 +95,7 @@ fn read_if_given<S: Source, L: Ledger>(
     ensures ok { OnOk result (IfSome (S.told source.old) (λ bytes.
         causes_if_read by_pages chunk_size fields.now bytes (group.now, runs.now) ≡ [])) }
     ensures fails { IfErr result (
-        FailsBy (S.told source.old) (S.faults source.old) (S.faults source.new) (λ bytes.
+        IsReadFailure (S.told source.old) (S.faults source.old) (S.faults source.new) (λ bytes.
         causes_if_read by_pages chunk_size fields.now bytes (group.now, runs.now))) }
     ensures chunks { OnOk result (IfSome (S.told source.old) (λ bytes. shown read.new.chunks.items
         ≡ shown read.old.chunks.items ++ chunks_if_read by_pages chunk_size fields.now bytes
@@ -144,7 +145,7 @@ fn read_group<S: Source, L: Ledger>(
     ensures ok { OnOk result (IfSome (S.told source.old) (λ bytes.
         causes_of_group by_pages chunk_size fields.now bytes (group.now, rows_of runs.now) ≡ [])) }
     ensures fails { IfErr result (
-        FailsBy (S.told source.old) (S.faults source.old) (S.faults source.new) (λ bytes.
+        IsReadFailure (S.told source.old) (S.faults source.old) (S.faults source.new) (λ bytes.
         causes_of_group by_pages chunk_size fields.now bytes (group.now, rows_of runs.now))) }
     ensures chunks { OnOk result (IfSome (S.told source.old) (λ bytes. shown read.new.chunks.items
         ≡ shown read.old.chunks.items ++ map (given_chunk by_pages fields.now bytes group.now)
@@ -190,7 +191,7 @@ fn read_columns<S: Source, L: Ledger>(
     ensures ok { OnOk result (IfSome (S.told source.old) (λ bytes.
         causes_of_group by_pages chunk_size fields.now bytes (group.now, rows_of runs.now) ≡ [])) }
     ensures fails { IfErr result (
-        FailsBy (S.told source.old) (S.faults source.old) (S.faults source.new) (λ bytes.
+        IsReadFailure (S.told source.old) (S.faults source.old) (S.faults source.new) (λ bytes.
         causes_of_group by_pages chunk_size fields.now bytes (group.now, rows_of runs.now))) }
     ensures count { IfOk result (λ found. length found.0.items ≡ length fields.now) }
     ensures counts { IfOk result (λ found.
@@ -240,7 +241,7 @@ fn read_field<S: Source, L: Ledger>(
     ensures ok { OnOk result (IfSome (S.told source.old) (λ bytes.
         causes_of_column by_pages chunk_size bytes group.now (rows_of runs.now) field.now ≡ [])) }
     ensures fails { IfErr result (
-        FailsBy (S.told source.old) (S.faults source.old) (S.faults source.new) (λ bytes.
+        IsReadFailure (S.told source.old) (S.faults source.old) (S.faults source.new) (λ bytes.
         causes_of_column by_pages chunk_size bytes group.now (rows_of runs.now) field.now)) }
     ensures counts { IfOk result (λ found.
         map (λ array. length (cells array)) found.0.items ≡ map length (cut chunk_size (rows_of runs.now))) }

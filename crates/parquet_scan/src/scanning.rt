@@ -3,12 +3,13 @@ ghost use Rattle.std.specs.Prelude.{◌≡◌, ◌+◌, ◌-◌, ◌^◌, ◌≤
 ghost use Rattle.columns_core.specs.Causes.{ComesOf, and_then};
 ghost use Rattle.columns_core.specs.Chunk.{AreEqualLengths};
 ghost use Rattle.parquet_meta.specs.Keeps.{Keeps};
+ghost use Rattle.parquet_meta.specs.Source.{IsReadFailure};
 ghost use Rattle.parquet_scan.specs.Causes.{index_causes, metadata_causes, read_causes};
 ghost use Rattle.parquet_scan.specs.Cells.{columns_of_chunk, given_chunks};
 ghost use Rattle.parquet_scan.specs.Costs.{bytes_behind_footer, most_bytes_taken, most_pages, pages_lent};
 ghost use Rattle.parquet_scan.specs.Request as spec;
 ghost use Rattle.parquet_scan.specs.Rows.{file_with, given_row_count, group_counts};
-ghost use Rattle.parquet_scan.specs.Scan.{Answers, FailsBy, IsApart, OnFile, RefusesScan, RisesBy, RisesJustBy, kept_groups as kept_groups_by, kept_of, request_of, rows_in};
+ghost use Rattle.parquet_scan.specs.Scan.{Answers, IsApart, OnFile, RefusesScan, RisesBy, RisesJustBy, kept_groups as kept_groups_by, kept_of, request_of, rows_in};
 
 use crate::Bound;
 use crate::chunks::RowsRead;
@@ -127,7 +128,7 @@ fn scan_groups<S: Source, L: Ledger>(
         OnOk result (IfSome (S.told source.old) (λ bytes. let file = file_with bytes metadata.now in
         and_then (index_causes request file) (read_causes request file) ≡ [])) }
     ensures fails { let request = request_of schema.now bounds.now chunk_size limit in
-        IfErr result (FailsBy (S.told source.old) (S.faults source.old) (S.faults source.new) (λ bytes.
+        IfErr result (IsReadFailure (S.told source.old) (S.faults source.old) (S.faults source.new) (λ bytes.
         let file = file_with bytes metadata.now in
         and_then (index_causes request file) (read_causes request file))) }
     ensures kept { let request = request_of schema.now bounds.now chunk_size limit in

@@ -6,8 +6,8 @@ use Rattle.columns_core.specs.declared.data_type.DataType.{DataType}
 use Rattle.columns_core.specs.declared.error.Part.TheVariants as part
 use Rattle.parquet_meta.specs.Indexes.{begins_with, column_index_length, field_columns}
 use Rattle.parquet_meta.specs.declared.metadata.ColumnChunkMetaData.{ColumnChunkMetaData}
+use Rattle.parquet_meta.specs.Source.{IsReadFailure}
 use Rattle.parquet_indexes.specs.FieldStatistics.{IsOfColumn, causes_of_field, causes_of_typed}
-use Rattle.parquet_indexes.specs.Failures.{IsReadFailure}
 use Rattle.parquet_indexes.specs.FieldTypes.{leaf_types}
 use Rattle.parquet_indexes.proofs.FieldLemmas.{at_most, both_lengths, columns_fail, no_causes, of_field, uneven}
 use Rattle.parquet_indexes.proofs.TypedLemmas.{all_named}

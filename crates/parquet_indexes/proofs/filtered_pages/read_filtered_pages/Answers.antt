@@ -5,10 +5,9 @@ use Rattle.std.proofs.lemmas.Result.{IfErr-weaker, IfOk-weaker, err_from_is_err_
 use Rattle.columns_core.specs.Refusals.{IsDamaged}
 use Rattle.parquet_base.specs.Intervals.{is_well_shaped}
 use Rattle.parquet_base.specs.declared.interval.Interval.{Interval}
-use Rattle.parquet_meta.specs.Source.{Finds}
+use Rattle.parquet_meta.specs.Source.{Finds, IsReadFailure}
 use Rattle.parquet_meta.specs.declared.metadata.PageLocation.{PageLocation}
 use Rattle.parquet_indexes.specs.Answered.{AnswersAt, RowsOfPages}
-use Rattle.parquet_indexes.specs.Failures.{IsReadFailure}
 use Rattle.parquet_indexes.specs.FieldStatistics.{AreOfFields, causes_of_fields}
 use Rattle.parquet_indexes.specs.FieldTypes.{has_column}
 use Rattle.parquet_indexes.specs.PageMaps.{InFields, in_fields, locations_of_fields, pages_at_places, rows_at_places}

@@ -9,10 +9,11 @@ use Rattle.flat_values.specs.Conversion.{Value}
 use Rattle.parquet_base.specs.Intervals.{rows_of}
 use Rattle.parquet_base.specs.Pieces.{cut}
 use Rattle.parquet_meta.specs.Indexes.{offset_index_length}
+use Rattle.parquet_meta.specs.Source.{IsReadFailure}
 use Rattle.parquet_scan.specs.Causes.{causes_of_chunk, causes_of_read, chunk_read_causes, pair_causes}
 use Rattle.parquet_scan.specs.Cells.{column_cell, is_null_type}
 use Rattle.parquet_scan.specs.Costs.{lent_of_chunk, lent_of_read, taken_of_chunk, taken_of_read}
-use Rattle.parquet_scan.specs.Scan.{FailsBy, RisesBy, RisesJustBy}
+use Rattle.parquet_scan.specs.Scan.{RisesBy, RisesJustBy}
 use Rattle.parquet_scan.proofs.ColumnLemmas.{cells_read, item_by, null_type, nulls_counted, nulls_read, nulls_typed}
 use Rattle.parquet_scan.proofs.CostLemmas.{lent_as_read, rises_as, taken_as_read}
 use Rattle.parquet_scan.proofs.ExactCounts.{just_as}
@@ -68,7 +69,7 @@ returns-then-by_pages-clause-fails g c =
     let value = sym c.is_null_type.ensures ∙ c.if-is_null_type.false in
     let start = g.S.Source.faults c.args.source.now in
     let now = g.S.Source.faults c.read_located.new.source in
-    subst (λ (b : Bool). IfErr c.read_located.result (FailsBy told start now (λ bytes. causes_of_read b size bytes group rows data_type column))) (sym c.if-by_pages.true)
+    subst (λ (b : Bool). IfErr c.read_located.result (IsReadFailure told start now (λ bytes. causes_of_read b size bytes group rows data_type column))) (sym c.if-by_pages.true)
     (if_err c.read_located.result (λ e k. fails_same told start now (λ bytes. causes_of_chunk true size bytes group rows data_type column) (λ bytes. causes_of_read true size bytes group rows data_type column) e
     (of_read told true size group rows data_type column false c.in_ok-check_pair.ensures.ok value) k) c.read_located.ensures.fails)
 
@@ -138,7 +139,7 @@ returns-clause-fails g c =
     let value = sym c.is_null_type.ensures ∙ c.if-is_null_type.false in
     let start = g.S.Source.faults c.args.source.now in
     let now = g.S.Source.faults c.read_first.new.source in
-    subst (λ (b : Bool). IfErr c.read_first.result (FailsBy told start now (λ bytes. causes_of_read b size bytes group rows data_type column))) (sym c.if-by_pages.false)
+    subst (λ (b : Bool). IfErr c.read_first.result (IsReadFailure told start now (λ bytes. causes_of_read b size bytes group rows data_type column))) (sym c.if-by_pages.false)
     (if_err c.read_first.result (λ e k. fails_same told start now (λ bytes. causes_of_chunk false size bytes group rows data_type column) (λ bytes. causes_of_read false size bytes group rows data_type column) e
     (of_read told false size group rows data_type column false c.in_ok-check_pair.ensures.ok value) k) c.read_first.ensures.fails)
 

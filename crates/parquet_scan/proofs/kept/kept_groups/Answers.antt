@@ -1,6 +1,7 @@
 use Rattle.std.specs.Prelude.{IfSome}
 use Rattle.std.proofs.Common.{rules, ◌≡◌, All, ◌++◌, ◌+◌, sym, drop, map, arith, subst, List, [], ℕ, Option, Bool, false, get_or, refl, ◌∙◌}
 use Rattle.parquet_meta.specs.declared.metadata.RowGroupMetaData.{RowGroupMetaData}
+use Rattle.parquet_meta.specs.Source.{IsReadFailure}
 use Rattle.std.proofs.lemmas.List.Elements.{All-nil, All-push}
 use Rattle.std.proofs.lemmas.Result.{err_from_is_err_and}
 use Rattle.parquet_scan.specs.Counting.{AreFirst, index_causes_if, index_causes_of_groups, indexes_taken, kept_if, kept_of_groups}
@@ -8,7 +9,7 @@ use Rattle.parquet_scan.specs.declared.scanning.GroupKept.{GroupKept}
 use Rattle.parquet_scan.proofs.CostLemmas.{no_pair_left, pair_left}
 use Rattle.parquet_scan.proofs.PairLemmas.{map_pair, none_pair}
 use Rattle.parquet_scan.proofs.KeptLemmas.{rows_done, rows_more}
-use Rattle.parquet_scan.specs.Scan.{FailsBy, IsApart}
+use Rattle.parquet_scan.specs.Scan.{IsApart}
 use Rattle.parquet_scan.proofs.ScanLemmas.{fails_more, in_pair}
 use Rattle.parquet_scan.proofs.kept.kept_groups.Goals as goal
 
@@ -27,7 +28,7 @@ returns-in_err-kept_group-clause-fails g c =
     (λ bytes. index_causes_if c.args.by_pages c.args.fields.now c.args.bounds.now bytes group) (λ bytes. index_causes_of_groups c.args.by_pages c.args.fields.now c.args.bounds.now bytes c.args.groups.now c.args.counts.now)
     c.in_err-kept_group.field-0.0 c.loop-i.invariant.keeps.later
     (in_pair (g.S.Source.told c.args.source.now) (index_causes_if c.args.by_pages c.args.fields.now c.args.bounds.now) c.args.groups.now c.args.counts.now c.loop-i.i c.index-groups-i.result counts false (omega arith) (omega arith) c.index-groups-i.is refl)
-    (subst (λ (told : Option (List ℕ)). FailsBy told mid now (λ bytes. index_causes_if c.args.by_pages c.args.fields.now c.args.bounds.now bytes group) c.in_err-kept_group.field-0.0) c.loop-i.invariant.keeps.same c.in_err-kept_group.ensures.fails))
+    (subst (λ (told : Option (List ℕ)). IsReadFailure told mid now (λ bytes. index_causes_if c.args.by_pages c.args.fields.now c.args.bounds.now bytes group) c.in_err-kept_group.field-0.0) c.loop-i.invariant.keeps.same c.in_err-kept_group.ensures.fails))
 
 pub loop-i-init : goal.loop-i-init
 loop-i-init g c = record {

@@ -1,9 +1,9 @@
 use Rattle.std.proofs.Common.{◌∙◌, sym, subst, List, ℕ}
+use Rattle.parquet_meta.specs.Source.{IsReadFailure}
 use Rattle.std.specs.Prelude.{Option, filter, flat_map}
 use Rattle.std.proofs.lemmas.Result.{err_from_is_err_and}
 use Rattle.parquet_page.specs.Lent.{is_wanted}
 use Rattle.parquet_scan.specs.Located.{entry_causes, part_causes}
-use Rattle.parquet_scan.specs.Scan.{FailsBy}
 use Rattle.parquet_scan.proofs.OpenedLemmas.{entry_within}
 use Rattle.parquet_scan.proofs.ScanLemmas.{fails_more}
 use Rattle.parquet_scan.proofs.located.read_bodies.Goals as goal
@@ -20,4 +20,4 @@ returns-in_err-read_part-clause-fails g c =
     rw (p.1, p.2) (fails_more told before mid now (λ bytes. part_causes bytes chunk part) (λ bytes. flat_map (entry_causes bytes chunk) (filter is_wanted c.args.pages.now))
     c.in_err-read_part.field-0.0 c.loop-page.invariant.keeps.later
     (entry_within told chunk c.args.pages.now c.loop-page.page-index c.page-item.result part c.loop-page-test.true c.page-item.is (sym c.is_wanted.ensures ∙ c.if-is_wanted.true) c.part_of_page.ensures)
-    (subst (λ (told : Option (List ℕ)). FailsBy told mid now (λ bytes. part_causes bytes chunk part) c.in_err-read_part.field-0.0) c.loop-page.invariant.keeps.same c.in_err-read_part.ensures.fails))
+    (subst (λ (told : Option (List ℕ)). IsReadFailure told mid now (λ bytes. part_causes bytes chunk part) c.in_err-read_part.field-0.0) c.loop-page.invariant.keeps.same c.in_err-read_part.ensures.fails))

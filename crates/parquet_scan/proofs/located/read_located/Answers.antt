@@ -19,6 +19,7 @@ use Rattle.parquet_meta.specs.declared.metadata.ColumnChunkMetaData.{ColumnChunk
 use Rattle.parquet_meta.specs.declared.metadata.PageLocation.{PageLocation}
 use Rattle.parquet_meta.specs.declared.metadata.Place.{Place}
 use Rattle.parquet_meta.specs.declared.metadata.RowGroupMetaData.{RowGroupMetaData}
+use Rattle.parquet_meta.specs.Source.{IsReadFailure}
 use Rattle.parquet_page.specs.Lent.{first_start, is_wanted, located_parts}
 use Rattle.parquet_page.specs.Locations.{selected_pages}
 use Rattle.parquet_page.specs.declared.page.FilteredPage.{FilteredPage}
@@ -34,7 +35,6 @@ use Rattle.parquet_scan.specs.Costs.{lent_of_chunk, with_dictionary_page}
 use Rattle.parquet_scan.specs.Decoded.{column_rows, pages_for}
 use Rattle.parquet_scan.specs.Located.{entry_causes, entry_part, part_in, place_before}
 use Rattle.parquet_scan.specs.Pages.{locations, locations_causes}
-use Rattle.parquet_scan.specs.Scan.{FailsBy}
 use Rattle.parquet_scan.proofs.CostLemmas.{just_told, lent_located, taken_located}
 use Rattle.parquet_scan.proofs.LocationLemmas.{selection_fails}
 use Rattle.parquet_scan.proofs.OpenedLemmas.{IsRead, IsSelected, before_causes, before_in, bodies_in, entries_shaped, locations_in, opened_by, read_count, read_fine, read_in, read_items, read_lent, read_tells, reading_of, told_causes, told_parts, within_opened}
@@ -110,7 +110,7 @@ returns-in_err-locations-clause-fails g c =
     let whole : List ℕ → List Cause = λ bytes. causes_of_chunk true c.args.chunk_size bytes group (rows_of intervals) data_type column in
     let mid = g.S.Source.faults c.place_of_chunk.new.source in
     let now = g.S.Source.faults c.read_locations.new.source in
-    let fails = subst (λ (told : Option (List ℕ)). FailsBy told mid now (λ bytes. locations_causes bytes group column) c.in_err-locations.field-0.0) c.in_ok-chunk.ensures.keeps.same c.in_err-locations.ensures.fails in
+    let fails = subst (λ (told : Option (List ℕ)). IsReadFailure told mid now (λ bytes. locations_causes bytes group column) c.in_err-locations.field-0.0) c.in_ok-chunk.ensures.keeps.same c.in_err-locations.ensures.fails in
     rw (p.1, p.2) (fails_more told start mid now (λ bytes. locations_causes bytes group column) whole c.in_err-locations.field-0.0 c.in_ok-chunk.ensures.keeps.later
     (locations_in told c.args.chunk_size group column data_type (rows_of intervals) c.in_ok-chunk.chunk c.in_ok-chunk.ensures.readable c.in_ok-chunk.ensures.place) fails)
 
@@ -149,8 +149,8 @@ returns-in_err-bodies-clause-fails g c =
     let mid = g.S.Source.faults c.read_locations.new.source in
     let now = g.S.Source.faults c.read_bodies.new.source in
     let part : List FilteredPage → List ℕ → List Cause = λ entries bytes. flat_map (entry_causes bytes chunk) (filter is_wanted entries) in
-    let fails = subst (λ (told : Option (List ℕ)). FailsBy told mid now (part entries) c.in_err-bodies.field-0.0) (c.in_ok-locations.ensures.keeps.same ∙ c.in_ok-chunk.ensures.keeps.same)
-    (subst (λ entries. FailsBy (g.S.Source.told c.read_locations.new.source) mid now (part entries) c.in_err-bodies.field-0.0) c.deref-2.ensures.value c.in_err-bodies.ensures.fails) in
+    let fails = subst (λ (told : Option (List ℕ)). IsReadFailure told mid now (part entries) c.in_err-bodies.field-0.0) (c.in_ok-locations.ensures.keeps.same ∙ c.in_ok-chunk.ensures.keeps.same)
+    (subst (λ entries. IsReadFailure (g.S.Source.told c.read_locations.new.source) mid now (part entries) c.in_err-bodies.field-0.0) c.deref-2.ensures.value c.in_err-bodies.ensures.fails) in
     rw (p.1, p.2) (fails_more told start mid now (part entries) whole c.in_err-bodies.field-0.0 (omega (arith, c.in_ok-chunk.ensures.keeps.later, c.in_ok-locations.ensures.keeps.later))
     (within_opened told whole (λ bytes. opened_by bytes (reading bytes) chunk entries) items (part entries) opened (λ bytes. bodies_in bytes (reading bytes) chunk entries)) fails)
 
@@ -179,8 +179,8 @@ returns-in_err-before-clause-fails g c =
     let mid = g.S.Source.faults c.read_bodies.new.source in
     let now = g.S.Source.faults c.read_before.new.source in
     let part : List FilteredPage → List ℕ → List Cause = λ entries bytes. before_causes bytes chunk entries wanted in
-    let fails = subst (λ (told : Option (List ℕ)). FailsBy told mid now (part entries) c.in_err-before.field-0.0) (c.in_ok-bodies.ensures.keeps.same ∙ c.in_ok-locations.ensures.keeps.same ∙ c.in_ok-chunk.ensures.keeps.same)
-    (subst (λ entries. FailsBy (g.S.Source.told c.read_bodies.new.source) mid now (part entries) c.in_err-before.field-0.0) c.deref-3.ensures.value c.in_err-before.ensures.fails) in
+    let fails = subst (λ (told : Option (List ℕ)). IsReadFailure told mid now (part entries) c.in_err-before.field-0.0) (c.in_ok-bodies.ensures.keeps.same ∙ c.in_ok-locations.ensures.keeps.same ∙ c.in_ok-chunk.ensures.keeps.same)
+    (subst (λ entries. IsReadFailure (g.S.Source.told c.read_bodies.new.source) mid now (part entries) c.in_err-before.field-0.0) c.deref-3.ensures.value c.in_err-before.ensures.fails) in
     rw (p.1, p.2) (fails_more told start mid now (part entries) whole c.in_err-before.field-0.0 (omega (arith, c.in_ok-chunk.ensures.keeps.later, c.in_ok-locations.ensures.keeps.later, c.in_ok-bodies.ensures.keeps.later))
     (within_opened told whole (λ bytes. opened_by bytes (reading bytes) chunk entries) items (part entries) opened
     (λ bytes o. before_in bytes column.descriptor.primitive_type data_type chunk entries wanted o (wanted_some wanted c.in_ok-bodies.bodies.items entries wanted_is count))) fails)

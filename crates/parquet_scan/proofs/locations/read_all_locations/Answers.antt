@@ -6,11 +6,11 @@ use Rattle.std.proofs.lemmas.List.{map-append}
 use Rattle.std.proofs.lemmas.List.Folds.{list_all-append}
 use Rattle.std.proofs.lemmas.Result.{err_from_is_err_and}
 use Rattle.parquet_meta.specs.declared.metadata.PageLocation.{PageLocation}
+use Rattle.parquet_meta.specs.Source.{IsReadFailure}
 use Rattle.parquet_page.specs.Locations.{has_shape}
 use Rattle.parquet_scan.specs.Causes.{offset_causes_of_field}
 use Rattle.parquet_scan.specs.Costs.{location_bytes_of}
 use Rattle.parquet_scan.specs.Rows.{field_locations}
-use Rattle.parquet_scan.specs.Scan.{FailsBy}
 use Rattle.parquet_scan.proofs.CostLemmas.{none_left, sum_left}
 use Rattle.parquet_scan.proofs.ScanLemmas.{fails_more, in_item, made_more, none_more}
 use Rattle.parquet_scan.proofs.locations.read_all_locations.Goals as goal
@@ -26,7 +26,7 @@ returns-in_err-read_field_locations-clause-fails g c =
     rw (p.1, p.2) (fails_more told before mid now (λ bytes. offset_causes_of_field bytes group c.field-item.result) (λ bytes. flat_map (offset_causes_of_field bytes group) c.args.fields.now)
     c.in_err-read_field_locations.field-0.0 c.loop-field.invariant.keeps.later
     (in_item told (λ bytes. offset_causes_of_field bytes group) c.args.fields.now c.loop-field.field-index c.field-item.result c.loop-field-test.true c.field-item.is)
-    (subst (λ (told : Option (List ℕ)). FailsBy told mid now (λ bytes. offset_causes_of_field bytes group c.field-item.result) c.in_err-read_field_locations.field-0.0) c.loop-field.invariant.keeps.same c.in_err-read_field_locations.ensures.fails))
+    (subst (λ (told : Option (List ℕ)). IsReadFailure told mid now (λ bytes. offset_causes_of_field bytes group c.field-item.result) c.in_err-read_field_locations.field-0.0) c.loop-field.invariant.keeps.same c.in_err-read_field_locations.ensures.fails))
 
 pub loop-field-preserved : goal.loop-field-preserved
 loop-field-preserved g c =

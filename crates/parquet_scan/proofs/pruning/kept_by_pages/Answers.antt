@@ -7,10 +7,10 @@ use Rattle.parquet_base.specs.Intervals.{AreApart, covers, maximal_runs}
 use Rattle.parquet_base.proofs.SegmentLemmas.{runs_apart}
 use Rattle.parquet_base.specs.declared.interval.Interval.{Interval}
 use Rattle.parquet_meta.specs.declared.metadata.PageLocation.{PageLocation}
+use Rattle.parquet_meta.specs.Source.{IsReadFailure}
 use Rattle.parquet_page.specs.Locations.{has_shape}
 use Rattle.parquet_scan.specs.Causes.{index_causes_of_bound, offset_causes_of_field}
 use Rattle.parquet_scan.specs.Rows.{bound_keeps, field_locations}
-use Rattle.parquet_scan.specs.Scan.{FailsBy}
 use Rattle.parquet_scan.proofs.PruningLemmas.{all_runs}
 use Rattle.parquet_scan.proofs.ScanLemmas.{fails_more, in_first, in_second, none_of_both}
 use Rattle.parquet_scan.proofs.pruning.kept_by_pages.Goals as goal
@@ -54,7 +54,7 @@ returns-in_err-runs-clause-fails g c =
     let first : List ℕ → List Cause = λ bytes. flat_map (offset_causes_of_field bytes group) fields in
     let second : List ℕ → List Cause = λ bytes. flat_map (index_causes_of_bound fields bytes group) bounds in
     rw (p.1, p.2) (fails_more told start mid now second (λ bytes. first bytes ++ second bytes) c.in_err-runs.field-0.0 c.in_ok-locations.ensures.keeps.later (in_second told first second)
-    (subst (λ (told : Option (List ℕ)). FailsBy told mid now second c.in_err-runs.field-0.0) c.in_ok-locations.ensures.keeps.same c.in_err-runs.ensures.fails))
+    (subst (λ (told : Option (List ℕ)). IsReadFailure told mid now second c.in_err-runs.field-0.0) c.in_ok-locations.ensures.keeps.same c.in_err-runs.ensures.fails))
 
 pub runs_of_all-requires : goal.runs_of_all-requires
 runs_of_all-requires g c = subst (λ (lists : List (Vec Interval Global)). All (λ list. AreApart 0 list.items c.args.group.now.num_rows) lists) (sym c.deref-2.ensures.value) c.in_ok-runs.ensures.apart

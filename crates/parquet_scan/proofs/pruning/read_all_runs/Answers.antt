@@ -7,12 +7,12 @@ use Rattle.parquet_base.specs.Intervals.{AreApart, maximal_runs}
 use Rattle.parquet_base.specs.declared.interval.Interval.{Interval}
 use Rattle.parquet_scan.specs.Causes.{index_causes_of_bound}
 use Rattle.parquet_meta.specs.declared.metadata.PageLocation.{PageLocation}
+use Rattle.parquet_meta.specs.Source.{IsReadFailure}
 use Rattle.parquet_scan.specs.Costs.{index_bytes_of}
 use Rattle.parquet_scan.specs.Request.{is_legal_bound_of}
 use Rattle.parquet_scan.specs.Rows.{bound_keeps, field_locations}
 use Rattle.parquet_scan.proofs.CostLemmas.{none_left, sum_left}
 use Rattle.parquet_scan.proofs.PruningLemmas.{all_at, locations_at}
-use Rattle.parquet_scan.specs.Scan.{FailsBy}
 use Rattle.parquet_scan.proofs.ScanLemmas.{fails_more, in_item, made_more, none_more}
 use Rattle.parquet_scan.proofs.pruning.read_all_runs.Goals as goal
 
@@ -27,7 +27,7 @@ returns-in_err-read_runs-clause-fails g c =
     rw (p.1, p.2) (fails_more told before mid now (λ bytes. index_causes_of_bound c.args.fields.now bytes group c.bound-item.result) (λ bytes. flat_map (index_causes_of_bound c.args.fields.now bytes group) c.args.bounds.now)
     c.in_err-read_runs.field-0.0 c.loop-bound.invariant.keeps.later
     (in_item told (λ bytes. index_causes_of_bound c.args.fields.now bytes group) c.args.bounds.now c.loop-bound.bound-index c.bound-item.result c.loop-bound-test.true c.bound-item.is)
-    (subst (λ (told : Option (List ℕ)). FailsBy told mid now (λ bytes. index_causes_of_bound c.args.fields.now bytes group c.bound-item.result) c.in_err-read_runs.field-0.0) c.loop-bound.invariant.keeps.same c.in_err-read_runs.ensures.fails))
+    (subst (λ (told : Option (List ℕ)). IsReadFailure told mid now (λ bytes. index_causes_of_bound c.args.fields.now bytes group c.bound-item.result) c.in_err-read_runs.field-0.0) c.loop-bound.invariant.keeps.same c.in_err-read_runs.ensures.fails))
 
 pub loop-bound-preserved : goal.loop-bound-preserved
 loop-bound-preserved g c =

@@ -1,4 +1,5 @@
 use Rattle.std.proofs.Common.{◌≡◌, ◌+◌, ◌∙◌, ◌++◌, ◌∷◌, [], All, List, ℕ, Option, Some, length, map, drop, rules, arith, ap, subst, sym}
+use Rattle.parquet_meta.specs.Source.{IsReadFailure}
 use Rattle.std.specs.Prelude.{IfSome}
 use Rattle.std.proofs.lemmas.List.{map-append}
 use Rattle.std.proofs.lemmas.Result.{err_from_is_err_and}
@@ -13,7 +14,7 @@ use Rattle.parquet_scan.specs.Causes.{causes_of_column, causes_of_group}
 use Rattle.parquet_scan.specs.Cells.{given_column}
 use Rattle.parquet_scan.specs.Costs.{lent_of_column}
 use Rattle.parquet_scan.specs.Counting.{column_taken}
-use Rattle.parquet_scan.specs.Scan.{FailsBy, RisesBy, RisesJustBy}
+use Rattle.parquet_scan.specs.Scan.{RisesBy, RisesJustBy}
 use Rattle.parquet_scan.proofs.CostLemmas.{rises_all, rises_more}
 use Rattle.parquet_scan.proofs.ExactCounts.{just_all, just_more}
 use Rattle.parquet_scan.proofs.ScanLemmas.{fails_more, in_item, made_more, none_more}
@@ -32,7 +33,7 @@ returns-in_err-arrays-clause-fails g c =
     (λ bytes. column bytes c.field-item.result) (λ bytes. causes_of_group c.args.by_pages c.args.chunk_size c.args.fields.now bytes (group, rows))
     c.in_err-arrays.field-0.0 c.loop-field.invariant.keeps.later
     (in_item (g.S.Source.told c.args.source.now) column c.args.fields.now c.loop-field.field-index c.field-item.result c.loop-field-test.true c.field-item.is)
-    (subst (λ (told : Option (List ℕ)). FailsBy told mid now (λ bytes. column bytes c.field-item.result) c.in_err-arrays.field-0.0) c.loop-field.invariant.keeps.same c.in_err-arrays.ensures.fails))
+    (subst (λ (told : Option (List ℕ)). IsReadFailure told mid now (λ bytes. column bytes c.field-item.result) c.in_err-arrays.field-0.0) c.loop-field.invariant.keeps.same c.in_err-arrays.ensures.fails))
 
 pub loop-field-preserved : goal.loop-field-preserved
 loop-field-preserved g c =

@@ -5,8 +5,9 @@ use Rattle.std.proofs.lemmas.Result.{err_from_is_err_and}
 use Rattle.parquet_base.specs.Intervals.{row_count}
 use Rattle.parquet_base.specs.declared.interval.Interval.{Interval}
 use Rattle.parquet_meta.specs.declared.metadata.RowGroupMetaData.{RowGroupMetaData}
+use Rattle.parquet_meta.specs.Source.{IsReadFailure}
 use Rattle.parquet_scan.specs.Counting.{AreFirst, causes_if_read, causes_of_groups, chunks_if_read, lies_in_group, lent_if_read, rows_of_groups, shown, taken_if_read}
-use Rattle.parquet_scan.specs.Scan.{FailsBy, RisesBy, RisesJustBy}
+use Rattle.parquet_scan.specs.Scan.{RisesBy, RisesJustBy}
 use Rattle.parquet_scan.proofs.CostLemmas.{rises_pairs, sum_left}
 use Rattle.parquet_scan.proofs.ExactCounts.{just_pair, just_pairs, most_pair}
 use Rattle.parquet_scan.proofs.PairLemmas.{flat_pair, none_pair, pair_passes}
@@ -84,7 +85,7 @@ returns-in_err-read_if_given-clause-fails g c =
     rw (p.1, p.2) (fails_more told before mid now (λ bytes. causes bytes group) (λ bytes. causes_of_groups c.args.by_pages c.args.chunk_size c.args.fields.now bytes c.args.groups.now given)
     c.in_err-read_if_given.field-0.0 c.loop-i.invariant.keeps.later
     (in_pair told causes c.args.groups.now given i c.index-groups-i.result runs runs c.loop-i-test.true below c.index-groups-i.is beside)
-    (subst (λ (told : Option (List ℕ)). FailsBy told mid now (λ bytes. causes bytes group) c.in_err-read_if_given.field-0.0) c.loop-i.invariant.keeps.same c.in_err-read_if_given.ensures.fails))
+    (subst (λ (told : Option (List ℕ)). IsReadFailure told mid now (λ bytes. causes bytes group) c.in_err-read_if_given.field-0.0) c.loop-i.invariant.keeps.same c.in_err-read_if_given.ensures.fails))
 
 none_left : (given : List (List Interval)) (i : ℕ) → length given ≤ i → rows_of_groups (drop i given) ≡ 0
 none_left given i h = ap rows_of_groups (drop_all i given h)

@@ -8,11 +8,12 @@ use Rattle.columns_core.specs.declared.data_type.Field.{Field}
 use Rattle.parquet_base.specs.Intervals.{is_well_shaped}
 use Rattle.parquet_base.specs.declared.interval.Interval.{Interval}
 use Rattle.parquet_meta.specs.declared.metadata.RowGroupMetaData.{RowGroupMetaData}
+use Rattle.parquet_meta.specs.Source.{IsReadFailure}
 use Rattle.parquet_scan.specs.Counting.{AreFirst, lie_in_groups, causes_of_groups, chunks_of_groups, given_of_groups, index_causes_of_groups, indexes_taken_of_groups, lent_of_groups, rows_of_groups, shown, taken_of_groups}
 use Rattle.parquet_scan.specs.Cells.{columns_of_chunk, given_chunks}
 use Rattle.parquet_scan.specs.Request.{is_legal_bound_of}
 use Rattle.parquet_scan.specs.Rows.{file_with, group_counts}
-use Rattle.parquet_scan.specs.Scan.{FailsBy, RisesBy, RisesJustBy, kept_groups, kept_of, request_of}
+use Rattle.parquet_scan.specs.Scan.{RisesBy, RisesJustBy, kept_groups, kept_of, request_of}
 use Rattle.parquet_scan.specs.declared.scanning.GroupKept.{GroupKept}
 use Rattle.parquet_scan.proofs.ClippedLemmas.{given_first}
 use Rattle.parquet_scan.proofs.FileCosts.{lent_told, taken_told}
@@ -76,7 +77,7 @@ returns-in_err-kept-clause-fails g c =
     let now = g.S.Source.faults c.kept_groups.new.source in
     let e = c.in_err-kept.field-0.0 in
     let is = pruned_is request metadata c.are_pruned-by_pages.result c.as_slice-fields.result.now c.as_slice-groups.result.now c.args.counts.now c.are_pruned-by_pages.ensures c.as_slice-fields.ensures c.as_slice-groups.ensures c.requires.counts in
-    let fails = moved (λ told b fields groups counts given. FailsBy told start now (λ bytes. index_causes_of_groups b fields request.bounds bytes groups counts) e) told told c.are_pruned-by_pages.result (pruned request metadata)
+    let fails = moved (λ told b fields groups counts given. IsReadFailure told start now (λ bytes. index_causes_of_groups b fields request.bounds bytes groups counts) e) told told c.are_pruned-by_pages.result (pruned request metadata)
     c.as_slice-fields.result.now request.fields c.as_slice-groups.result.now metadata.row_groups c.args.counts.now (counting request metadata) [] [] refl is c.as_slice-fields.ensures c.as_slice-groups.ensures c.requires.counts refl c.in_err-kept.ensures.fails in
     rw (p.1, p.2) (fails_more told start start now (λ bytes. index_causes_of_groups (pruned request metadata) request.fields request.bounds bytes metadata.row_groups (counting request metadata)) (behind_metadata request metadata) e (omega arith)
     (index_wrong request metadata told) fails)
@@ -98,7 +99,7 @@ returns-in_err-read_groups-clause-fails g c =
     c.in_ok-kept.ensures.kept c.in_ok-kept.ensures.rows c.in_ok-given.ensures.rows c.in_ok-given.ensures.shaped in
     let none = moved (λ told b fields groups counts given. IfSome told (λ bytes. index_causes_of_groups b fields request.bounds bytes groups counts ≡ [])) told told c.are_pruned-by_pages.result (pruned request metadata)
     c.as_slice-fields.result.now request.fields c.as_slice-groups.result.now metadata.row_groups c.args.counts.now (counting request metadata) [] [] refl is c.as_slice-fields.ensures c.as_slice-groups.ensures c.requires.counts refl c.in_ok-kept.ensures.ok in
-    let fails = moved (λ told b fields groups counts given. FailsBy told mid now (λ bytes. causes_of_groups b request.chunk_size fields bytes groups given) e) (g.S.Source.told c.kept_groups.new.source) told c.are_pruned-by_pages.result (pruned request metadata)
+    let fails = moved (λ told b fields groups counts given. IsReadFailure told mid now (λ bytes. causes_of_groups b request.chunk_size fields bytes groups given) e) (g.S.Source.told c.kept_groups.new.source) told c.are_pruned-by_pages.result (pruned request metadata)
     c.as_slice-fields.result.now request.fields c.as_slice-groups.result.now metadata.row_groups c.args.counts.now (counting request metadata) c.deref-2.result.now given
     c.in_ok-kept.ensures.keeps.same is c.as_slice-fields.ensures c.as_slice-groups.ensures c.requires.counts c.deref-2.ensures.value c.in_err-read_groups.ensures.fails in
     rw (p.1, p.2) (fails_more told start mid now (λ bytes. causes_of_groups (pruned request metadata) request.chunk_size request.fields bytes metadata.row_groups given) (behind_metadata request metadata) e c.in_ok-kept.ensures.keeps.later

@@ -1,4 +1,5 @@
 use Rattle.std.proofs.Common.{◌≡◌, ◌≤◌, ◌+◌, ◌∙◌, [], map, min, ◌-◌, ◌^◌, sym, subst, List, ℕ}
+use Rattle.parquet_meta.specs.Source.{IsReadFailure}
 use Rattle.std.specs.Prelude.{Option, Some, IfSome, IfOk, IfErr, OnOk}
 use Rattle.std.proofs.lemmas.Result.{err_from_is_err_and}
 use Rattle.columns_core.specs.Causes.{cause_of}
@@ -6,7 +7,7 @@ use Rattle.parquet_scan.specs.Causes.{metadata_causes}
 use Rattle.parquet_scan.specs.Cells.{columns_of_chunk, given_chunks}
 use Rattle.parquet_scan.specs.Costs.{bytes_behind_footer, most_bytes_taken, most_pages, pages_lent}
 use Rattle.parquet_scan.specs.Rows.{file_with, given_row_count}
-use Rattle.parquet_scan.specs.Scan.{FailsBy, RisesBy, RisesJustBy, kept_groups, kept_of, request_of}
+use Rattle.parquet_scan.specs.Scan.{RisesBy, RisesJustBy, kept_groups, kept_of, request_of}
 use Rattle.parquet_scan.specs.declared.scanning.Scan.{Scan}
 use Rattle.parquet_scan.proofs.AnswerLemmas.{answers, illegal, legal_told, refused_by_causes, refused_by_footer, refused_by_groups}
 use Rattle.parquet_scan.proofs.FileCosts.{all_taken, at_most, scan_sound}
@@ -60,7 +61,7 @@ returns-clause-refuses g c =
     let now = g.S.Source.faults c.scan_groups.new.source in
     let scan = c.scan_groups.result in
     let legal = sym c.is_legal.ensures ∙ c.if-not-is_legal.false in
-    let fails = subst (λ (told : Option (List ℕ)). IfErr scan (FailsBy told mid now (behind_metadata request metadata))) c.in_ok-metadata.ensures.keeps.same c.scan_groups.ensures.fails in
+    let fails = subst (λ (told : Option (List ℕ)). IfErr scan (IsReadFailure told mid now (behind_metadata request metadata))) c.in_ok-metadata.ensures.keeps.same c.scan_groups.ensures.fails in
     refused_by_groups request scan told before mid now _ c.in_ok-metadata.ensures.keeps.later fails
     (each_error scan (λ e. asks_legally request told metadata (cause_of e) c.in_ok-metadata.ensures.footer legal))
     (has_cause request metadata c.in_ok-counts.ensures.ok scan told mid now c.in_ok-metadata.ensures.footer fails)
