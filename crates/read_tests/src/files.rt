@@ -56,15 +56,16 @@ const CHUNKS: [Read<'static>; 5] = [
 fn groups_under_a_limit(rt: HostRuntime) -> Result<(), Fail> {
     let alloc = rt.alloc();
     for (chunk_size, limit, chunks) in CHUNKS {
-        let mut given = 0;
+        let mut given = Vec::new(alloc);
         for group in groups_of(alloc, TWO_GROUPS, "a", chunk_size, limit)? {
             for chunk in group? {
-                let numbers = numbers_of(alloc, &chunk?)?;
-                assert_eq!(rt; chunks.get(given).copied(), Some(numbers.as_slice()));
-                given += 1;
+                given.push(numbers_of(alloc, &chunk?)?)?;
             }
         }
-        assert_eq!(rt; given, chunks.len());
+        assert_eq!(rt; given.len(), chunks.len());
+        for (numbers, chunk) in given.iter().zip(chunks.iter()) {
+            assert_eq!(rt; numbers.as_slice(), *chunk);
+        }
     }
     Ok(())
 }
