@@ -103,7 +103,11 @@ takes_size fixed.DaysAndMillis size = size == interval_size
 
 abbrev pub fits_size : ValueRule → Bool
 fits_size (values.Fixed size rule) = takes_size rule size
-fits_size _ = true
+fits_size values.Truth = true
+fits_size (values.Int32 rule) = true
+fits_size (values.Int64 rule) = true
+fits_size (values.Int96 rule) = true
+fits_size (values.Bytes rule) = true
 
 -- a rule for the columns of a type
 abbrev pub IsValueRuleOf : PhysicalType → ValueRule → Type 0

@@ -16,7 +16,12 @@ use Rattle.parquet_meta.specs.declared.metadata.StatisticsBytes.{StatisticsBytes
 abbrev pub is_carried : PhysicalType → Bool
 is_carried types.Float = false
 is_carried types.Double = false
-is_carried _ = true
+is_carried types.Boolean = true
+is_carried types.Int32 = true
+is_carried types.Int64 = true
+is_carried types.Int96 = true
+is_carried types.ByteArray = true
+is_carried (types.FixedLenByteArray size) = true
 
 -- a count that is told is not negative
 abbrev pub known_count : Option ℤ → Option (Option ℕ)

@@ -3,7 +3,7 @@ use Rattle.std.specs.Prelude.{ℕ, ℤ, pos, negsuc, ◌==◌, ◌||◌, ◌&&�
 use Rattle.parquet_base.specs.Reading.{◌>>=◌, given}
 use Rattle.parquet_meta.specs.declared.metadata.PhysicalType.{PhysicalType}
 use Rattle.parquet_meta.specs.declared.metadata.Repetition.{Repetition}
-use Rattle.parquet_meta.specs.declared.metadata.Repetition.TheVariants.{Optional}
+use Rattle.parquet_meta.specs.declared.metadata.Repetition.TheVariants.{Required, Optional, Repeated}
 use Rattle.parquet_page.specs.Content.{DataContent, DictContent, header_values}
 use Rattle.parquet_page.specs.Levels.{body_parts, presence, present_count, placed}
 use Rattle.parquet_page.specs.Stored.{Stored}
@@ -23,7 +23,9 @@ header_encoding (V2 count encoding definition repetition) = encoding
 abbrev pub has_readable_levels : Repetition → DataPageHeader → Bool
 has_readable_levels Optional (V1 count encoding (pos levels)) = levels == 3
 has_readable_levels Optional (V1 count encoding (negsuc levels)) = false
-has_readable_levels _ _ = true
+has_readable_levels Optional (V2 count encoding definition repetition) = true
+has_readable_levels Required header = true
+has_readable_levels Repeated header = true
 
 -- the encoding of a page, if it and that of its levels are read for this type
 abbrev pub page_encoding : DataContent → Option Encoding

@@ -115,7 +115,8 @@ causes_of_dictionary reading (Defined page) = option_map_or (causes_of_defined r
 
 abbrev pub has_dictionary : Dictionary → Bool
 has_dictionary NoDictionary = false
-has_dictionary _ = true
+has_dictionary Undefined = true
+has_dictionary (Defined page) = true
 
 -- how many entries a dictionary has, where they are spelled
 abbrev pub entry_count : PhysicalType → Dictionary → Option ℕ
