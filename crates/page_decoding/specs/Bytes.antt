@@ -1,7 +1,7 @@
 -- How many bytes the texts and byte strings of rows have together.
 use Rattle.std.specs.Prelude.{◌≡◌, ◌⊎◌, ℕ, ◌*◌, nat_le, Bool, true, false, List, length, take, drop, sum_by, Option, Some, None}
 use Rattle.columns_core.specs.Causes.{Overflow, cause_of}
-use Rattle.columns_core.specs.declared.cell.Cell.{Cell, Null, Bool as Truth, Int, DaysMs, Text, Bytes, Cells}
+use Rattle.columns_core.specs.declared.cell.Cell.{Cell, Text, Bytes}
 use Rattle.columns_core.specs.declared.error.Error.{Error}
 use Rattle.page_decoding.specs.Outcome.{Outcome, Given, Refused, IsCausedBy}
 
@@ -9,11 +9,7 @@ use Rattle.page_decoding.specs.Outcome.{Outcome, Given, Refused, IsCausedBy}
 abbrev pub cell_bytes : Cell → ℕ
 cell_bytes (Text text) = length text
 cell_bytes (Bytes bytes) = length bytes
-cell_bytes Null = 0
-cell_bytes (Truth value) = 0
-cell_bytes (Int number) = 0
-cell_bytes (DaysMs days milliseconds) = 0
-cell_bytes (Cells cells) = 0
+cell_bytes _ = 0
 
 -- A place that gives no cell has no bytes.
 abbrev pub row_bytes : Outcome → ℕ
