@@ -2,6 +2,7 @@ pub mod AllChunks
 pub mod Asked
 pub mod ColumnPages
 pub mod Columns
+pub mod FileReader
 pub mod GroupReader
 pub mod Groups
 pub mod Opening

@@ -72,6 +72,20 @@ impl<S: Source + Drop> RowGroupReader<S> {
         })
     }
 
+    /// The source, as it was left.
+    pub fn into_source(self) -> S
+        ensures { result ≡ self.source }
+    {
+        self.source
+    }
+
+    /// The fields that are read.
+    pub(crate) fn schema(&self) -> &Schema
+        ensures { result.now ≡ self.now.schema }
+    {
+        &self.schema
+    }
+
     /// The next group, while a row is wanted and there is a field. One whose reading failed counts nothing, and is not tried again.
     pub(crate) fn next_group(&mut self) -> Option<Result<RowGroupDeserializer, Error>>
         ensures { NextGroup S.Source self.old result self.new }

@@ -1,5 +1,5 @@
 //! The rows of a group, in chunks.
-ghost use Rattle.std.specs.Prelude.{◌≡◌, [], ◌<◌, map, length, IsTrue, IfOk, IfErr};
+ghost use Rattle.std.specs.Prelude.{◌≡◌, ◌==◌, [], ◌<◌, map, length, IsTrue, IfOk, IfErr};
 
 use crate::ColumnPages;
 use crate::rows::{next_chunk, pages_lent, wanted_after};
@@ -58,6 +58,13 @@ impl RowGroupDeserializer {
         ensures { result ≡ (group_left self.now).num_rows }
     {
         self.num_rows
+    }
+
+    /// Whether none of its rows is wanted any more.
+    pub(crate) fn is_over(&self) -> bool
+        ensures { result ≡ (self.now.wanted == 0) }
+    {
+        self.wanted == 0
     }
 
     /// The next chunk, and a step for each page that is lent for it. After an error there is none.
