@@ -24,7 +24,7 @@ chunk_rows olds arrays news steps steps_now makes =
     (subst (λ (answers : List Answer). AnswerInTurn so_far.asked answers so_far.asked_now steps steps_now) makes.given.0 so_far.answered) makes.even.0
 
 -- fewer rows are wanted behind a chunk and behind an error
-nearer : (old : GroupLeft) (result : Option (Result (List Array) Error)) (new : GroupLeft) (steps steps_now : ℕ)
+pub nearer : (old : GroupLeft) (result : Option (Result (List Array) Error)) (new : GroupLeft) (steps steps_now : ℕ)
     → GivesNextRows old result new steps steps_now → OnSome result (new.wanted < old.wanted)
 nearer old None new steps steps_now gives = tt
 nearer old (Some (Ok arrays)) new steps steps_now gives =

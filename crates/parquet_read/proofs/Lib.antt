@@ -5,10 +5,12 @@ pub mod ChunkLemmas
 pub mod ColumnLemmas
 pub mod CutLemmas
 pub mod FieldLemmas
+pub mod FileLemmas
 pub mod FoundLemmas
 pub mod GroupLemmas
 pub mod GroupListLemmas
 pub mod GroupReaderLemmas
+pub mod LentLemmas
 pub mod ListLemmas
 pub mod OpenLemmas
 pub mod OpenedGroupLemmas

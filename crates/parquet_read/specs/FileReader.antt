@@ -104,6 +104,9 @@ abbrev pub most_answers : List RowGroupMetaData → Option (List PageLists) → 
 most_answers [] lists = 0
 most_answers (group ∷ groups) lists = suc (rows_of_group group (front_lists lists) + most_answers groups (lists_behind lists))
 
+abbrev pub answers_left : {S : Type 0} → FileReader S → ℕ
+answers_left reader = rows_at_hand reader.group + most_answers reader.groups.groups.rest.items (lists_left reader.groups.lists)
+
 -- no more chunks than these come, and errors
 abbrev pub answers_to_come : {S : Type 0} → FileReader S → Count
-answers_to_come reader = at_most (rows_at_hand reader.group + most_answers reader.groups.groups.rest.items (lists_left reader.groups.lists))
+answers_to_come reader = at_most (answers_left reader)

@@ -10,16 +10,19 @@ use std::alloc::Global;
 use std::iter::Iterator;
 use std::test::*;
 
-/// A group of three rows, and one of five.
-const TWO_GROUPS: &[&[Chunk<'static>]] = &[
+/// A group of five rows.
+pub(crate) const FIVE_ROWS: &[Chunk<'static>] = &[Chunk {
+    pages: &[Page(5, Absent, Numbers(&[4, 5, 6, 7, 8]))],
+    ..CHUNK
+}];
+
+/// A group of three rows, and that of five.
+pub(crate) const TWO_GROUPS: &[&[Chunk<'static>]] = &[
     &[Chunk {
         pages: &[Page(3, Absent, Numbers(&[1, 2, 3]))],
         ..CHUNK
     }],
-    &[Chunk {
-        pages: &[Page(5, Absent, Numbers(&[4, 5, 6, 7, 8]))],
-        ..CHUNK
-    }],
+    FIVE_ROWS,
 ];
 
 /// The groups of a file, of which column `a` is read.

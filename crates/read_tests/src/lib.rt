@@ -6,6 +6,8 @@ mod asked;
 #[cfg(test)]
 mod columns;
 #[cfg(test)]
+mod file_rows;
+#[cfg(test)]
 mod files;
 #[cfg(test)]
 mod groups;

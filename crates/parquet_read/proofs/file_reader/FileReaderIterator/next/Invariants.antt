@@ -1,0 +1,4 @@
+use Rattle.parquet_read.proofs.file_reader.FileReaderIterator.next.Given as goal
+
+abbrev pub ghosts-next_alone : goal.ghosts-next_alone
+ghosts-next_alone g a = record { name = a.blank.name; parts = a.blank.parts }
