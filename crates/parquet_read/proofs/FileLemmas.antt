@@ -43,6 +43,7 @@ fresh_column data_type size rows entries chunk = by (conversion chunk.0.descript
   by_null : (rule : Conversion) (b : Bool) → b ≡ is_null_type data_type → (column_left chunk.0.descriptor.primitive_type.physical_type data_type (size_within rows size) rows (chunk_supply chunk entries) rule).lent ≡ 0
   by_null rule true is = rw sym is refl
   by_null rule false is = rw sym is (fresh_supply_lent chunk entries)
+
   by : (o : Option Conversion) → IsFresh (option_map (column_left chunk.0.descriptor.primitive_type.physical_type data_type (size_within rows size) rows (chunk_supply chunk entries)) o)
   by None = tt
   by (Some rule) = by_null rule (is_null_type data_type) refl

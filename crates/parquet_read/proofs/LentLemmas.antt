@@ -1,6 +1,6 @@
 -- Pages that are lent for the chunks of a group.
 use Rattle.std.proofs.Common.{◌≡◌, ◌∙◌, ℕ, zero, suc, ◌+◌, ◌-◌, ◌^◌, ◌≤◌, List, [], ◌∷◌, ◌++◌, length, refl, sym, ap, arith}
-use Rattle.std.specs.Prelude.{min, sum_by, Unit, Option, Some, None, Result}
+use Rattle.std.specs.Prelude.{min, sum_by, Option, Some, None, Result}
 use Rattle.std.proofs.lemmas.List.Sums.{sum_by-append, sum_by-cons}
 use Rattle.columns_core.specs.Array.{cells, data_type_of}
 use Rattle.columns_core.specs.declared.array.Array.{Array}
@@ -72,6 +72,7 @@ none_lent {A} value fresh (x ∷ xs) columns is = first (value x) (fresh x) is w
   rest left none (Some others) all e =
       let same : left ∷ others ≡ columns = (let own : Some (left ∷ others) ≡ Some columns = e in cc) in
       omega (arith, ap all_lent (sym same), sum_by-cons (λ (l : ColumnLeft). l.lent) left others, none, all others refl)
+
   first : (o : Option ColumnLeft) → IsFresh o → (o >>= λ left. all_of value xs >>= λ others. Some (left ∷ others)) ≡ Some columns → all_lent columns ≡ 0
   first None own e = absurd (let bad : None ≡ Some columns = e in cc)
   first (Some left) own e = rest left own (all_of value xs) (λ others all. none_lent value fresh xs others all) e

@@ -1,5 +1,5 @@
 -- A reader of the rows of a file, group after group: what is left of the group at hand, and what it answers.
-use Rattle.std.specs.Prelude.{◌≡◌, ◌⊎◌, ℕ, suc, ◌+◌, ◌-◌, ◌≤◌, ◌==◌, Bool, true, if◌then◌else◌, List, [], ◌∷◌, sum_by, Unit, Option, None, Some, IfSome, Result, Ok, Err, OnOk}
+use Rattle.std.specs.Prelude.{◌≡◌, ◌⊎◌, ℕ, suc, ◌+◌, ◌-◌, ◌≤◌, ◌==◌, Bool, true, if◌then◌else◌, List, [], ◌∷◌, sum_by, Option, None, Some, IfSome, Result, Ok, Err, OnOk}
 use Rattle.std.specs.Iterator.{Count, at_most}
 use Rattle.columns_core.specs.declared.array.Array.{Array}
 use Rattle.columns_core.specs.declared.error.Error.{Error}
