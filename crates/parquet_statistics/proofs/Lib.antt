@@ -1,0 +1,4 @@
+mod PushLemmas
+mod RefusalLemmas
+mod TypeRefusals
+mod BuilderLemmas
