@@ -2,3 +2,5 @@ mod PushLemmas
 mod RefusalLemmas
 mod TypeRefusals
 mod BuilderLemmas
+mod EmptyLemmas
+mod ShapeLemmas

@@ -7,7 +7,7 @@ use Rattle.columns_core.specs.declared.cell.Cell.{Cell}
 use Rattle.columns_core.specs.declared.error.Error.{Error}
 use Rattle.flat_values.specs.CellTypes.{is_cell_of}
 use Rattle.flat_builders.specs.Kept.{IsRefusedCell, cells_fit}
-use Rattle.parquet_statistics.specs.Flats.{IsAppended, IsNotAppended, flat_at, flat_of}
+use Rattle.parquet_statistics.specs.Flats.{IsPushed, IsNotAppended, flat_at, flat_of}
 use denote.Hole.Carrier
 use Rattle.parquet_statistics.specs.declared.dyn_mutable.DynMutable.TheViews
 use Rattle.parquet_statistics.specs.declared.dyn_mutable.DynMutable.{DynMutable, Flat, Dictionary, List as ListBuilder, Map, Struct, out-DynMutable, out-roll-DynMutable}
@@ -56,9 +56,9 @@ nested_refused builder cell e argument nested = subst (λ (old : Option Shown). 
 
 module _ (builder : DynMutable) (old : Shown) (cell : Cell) (is : builder ≡ Flat old) where
   pub appended : {T : Type 0} (r : Result T Error) (new : Shown) → OnOk r (new ≡ (old.0, old.1 ++ cell ∷ [])) → OnOk r (is_cell_of old.0 cell ≡ true) → OnOk r (cells_fit old.0 (old.1 ++ cell ∷ []) ≡ true)
-      → OnOk r (IsSomeAnd (flat_of builder) (λ old. IsAppended old cell (Flat new)))
+      → OnOk r (IsSomeAnd (flat_of builder) (λ old. IsPushed old cell (Flat new)))
   appended (Ok done) new pushed typed fits =
-      subst (λ (found : Option Shown). IsSomeAnd found (λ old. IsAppended old cell (Flat new))) (sym (ap flat_of is ∙ flat_out old))
+      subst (λ (found : Option Shown). IsSomeAnd found (λ old. IsPushed old cell (Flat new))) (sym (ap flat_of is ∙ flat_out old))
       (record { appended = λ i. Flat (pushed i); typed = typed; fits = fits })
   appended (Err e) new pushed typed fits = tt
 

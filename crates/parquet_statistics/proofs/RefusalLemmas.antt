@@ -6,7 +6,7 @@ use Rattle.columns_core.specs.Causes.{Cause, IsWantOfMemory, NotYetImplemented, 
 use Rattle.columns_core.specs.declared.error.Error.{Error}
 use Rattle.columns_core.specs.declared.error.Error.TheVariants as error
 use Rattle.columns_core.specs.declared.error.Part.{Part}
-use Rattle.parquet_statistics.specs.Refusal.{Refusal, Argument, Caused, IsOneRefusal, IsRefusedBy, demand, in_order, refusal_of}
+use Rattle.parquet_statistics.specs.Refusal.{Refusal, Argument, Caused, IsOneRefusal, IsRefusedBy, demand, told_refusal}
 
 -- ---- of one of several
 
@@ -18,37 +18,27 @@ one_right : (first rest : List Refusal) (told : Option Refusal) → IsOneRefusal
 one_right first rest None told = absurd told
 one_right first rest (Some refusal) told = Contains-append_right first rest refusal told
 
-one_of_none : (told : Option Refusal) → IsOneRefusal [] told → ⊥
-one_of_none None told = told
-one_of_none (Some refusal) told = absurd (omega (arith, told.1))
-
 module _ (e : Error) where
   pub refused_left : (first rest : List Refusal) → IsRefusedBy first e → IsRefusedBy (first ++ rest) e
   refused_left first rest (inl memory) = inl memory
-  refused_left first rest (inr told) = inr (one_left first rest (refusal_of e) told)
+  refused_left first rest (inr told) = inr (one_left first rest (told_refusal e) told)
 
   pub refused_right : (first rest : List Refusal) → IsRefusedBy rest e → IsRefusedBy (first ++ rest) e
   refused_right first rest (inl memory) = inl memory
-  refused_right first rest (inr told) = inr (one_right first rest (refusal_of e) told)
+  refused_right first rest (inr told) = inr (one_right first rest (told_refusal e) told)
 
-  -- of what comes first
-  pub refused_first : (first next : List Refusal) → IsRefusedBy first e → IsRefusedBy (in_order first next) e
-  refused_first [] next (inl memory) = inl memory
-  refused_first [] next (inr told) = absurd (one_of_none (refusal_of e) told)
-  refused_first (refusal ∷ others) next refused = refused
+  -- by the same
+  pub as_refused : (first second : List Refusal) → first ≡ second → IsRefusedBy first e → IsRefusedBy second e
+  as_refused first second same refused = subst (λ refusals. IsRefusedBy refusals e) same refused
 
-  -- by want of memory, whatever else may be refused
-  pub by_memory : (refusals : List Refusal) → IsWantOfMemory e → IsRefusedBy refusals e
-  by_memory refusals memory = inl memory
-
-  argument_told : (own : Error) → IsTrue (is_invalid_argument own) → refusal_of own ≡ Some Argument
+  argument_told : (own : Error) → IsTrue (is_invalid_argument own) → told_refusal own ≡ Some Argument
   argument_told (error.InvalidArgumentError part) h = refl
   argument_told _ h = absurd cc
 
   pub refused_argument : (refusals : List Refusal) → IsTrue (is_invalid_argument e) → Contains refusals Argument → IsRefusedBy refusals e
   refused_argument refusals argument told = inr (subst (λ own. IsOneRefusal refusals own) (sym (argument_told e argument)) told)
 
-  cause_told : (own : Error) (cause : Cause) → cause_of own ≡ Some cause → refusal_of own ≡ Some (Caused cause)
+  cause_told : (own : Error) (cause : Cause) → cause_of own ≡ Some cause → told_refusal own ≡ Some (Caused cause)
   cause_told (error.NotYetImplemented part) cause h = let same : _ ≡ cause = cc in λ i. Some (Caused (same i))
   cause_told (error.ExternalFormat part) cause h = let same : _ ≡ cause = cc in λ i. Some (Caused (same i))
   cause_told (error.OutOfSpec part) cause h = let same : _ ≡ cause = cc in λ i. Some (Caused (same i))
@@ -68,10 +58,6 @@ first_refusal refusal others = (0, omega arith, refl)
 pub demand_met : (passes : Bool) (refusal : Refusal) → passes ≡ true → demand passes refusal ≡ []
 demand_met true refusal e = refl
 demand_met false refusal e = absurd cc
-
-pub demand_fails : (passes : Bool) (refusal : Refusal) → passes ≡ false → Contains (demand passes refusal) refusal
-demand_fails false refusal e = first_refusal refusal []
-demand_fails true refusal e = absurd cc
 
 pub by_test : (passes : Bool) (refusal : Refusal) → (passes ≡ true → ⊥) → Contains (demand passes refusal) refusal
 by_test false refusal fails = first_refusal refusal []

@@ -1,6 +1,6 @@
 -- Why there is no builder of a type, by its outermost constructor.
 use Rattle.std.proofs.Common.{◌≡◌, refl, sym, ◌∙◌, ap, subst, Bool, true, false, List, [], ◌∷◌, map, inl, inr}
-use Rattle.std.specs.Prelude.{◌==◌, not, if◌then◌else◌, Some}
+use Rattle.std.specs.Prelude.{◌⊎◌, ◌==◌, not, if◌then◌else◌, Some}
 use Rattle.columns_core.specs.Causes.{IsWantOfMemory, NotYetImplemented}
 use Rattle.columns_core.specs.Types.{Layer}
 use Rattle.columns_core.specs.declared.data_type.DataType.{DataType, Dictionary, List as ListType, LargeList, Struct, Map, fold_out-DataType, map-DataType, out-DataType, out-roll-DataType, roll-out-DataType, roll-DataType}
@@ -156,5 +156,9 @@ module _ (data_type : DataType) (no_dictionary : (key : IntegerType) (value : Da
   flat_by e _ is refused = inl refused
 
   -- a type that is none of these is refused as a flat one
-  pub flat_refused : (e : Error) → IsRefusedType (flatness data_type) e → IsRefusedBy (type_refusals data_type) e
+  flat_refused : (e : Error) → IsRefusedType (flatness data_type) e → IsRefusedBy (type_refusals data_type) e
   flat_refused e refused = subst (λ refusals. IsRefusedBy refusals e) (sym (refusals_out data_type)) (flat_by e (out-DataType data_type) refl refused)
+
+  pub flat_or_memory : (e : Error) → IsWantOfMemory e ⊎ IsRefusedType (flatness data_type) e → IsRefusedBy (type_refusals data_type) e
+  flat_or_memory e (inl memory) = inl memory
+  flat_or_memory e (inr refused) = flat_refused e refused

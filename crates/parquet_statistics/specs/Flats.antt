@@ -25,7 +25,7 @@ abbrev pub flat_of : DynMutable → Option Shown
 flat_of builder = flat_at (out-DynMutable builder)
 
 -- a cell of the type was appended, and the bytes of all fit its offsets
-pub record IsAppended (old : Shown) (cell : Cell) (new : DynMutable) : Type 0 where
+pub record IsPushed (old : Shown) (cell : Cell) (new : DynMutable) : Type 0 where
   pub appended : new ≡ Flat (old.0, old.1 ++ cell ∷ [])
   pub typed : is_cell_of old.0 cell ≡ true
   pub fits : cells_fit old.0 (old.1 ++ cell ∷ []) ≡ true

@@ -1,29 +1,21 @@
 -- What builders make: the type and the cells of an array, or why there is none.
-use Rattle.std.specs.Prelude.{◌≡◌, IsSomeAnd, ℕ, ◌-◌, ◌^◌, ◌==◌, ◌&&◌, nat_le, nat_lt, Bool, true, false, List, [], ◌∷◌, ◌++◌, length, map, flat_map, Option, Some, None}
+use Rattle.std.specs.Prelude.{ℕ, ◌-◌, ◌^◌, ◌==◌, ◌&&◌, nat_le, nat_lt, Bool, true, false, List, [], ◌∷◌, ◌++◌, length, map, flat_map, Option}
 use Rattle.std.specs.Coded.{coded_list}
-use Rattle.std.specs.List.{list_all, range_with_len}
+use Rattle.std.specs.List.{list_all}
 use Rattle.std.specs.Option.{option_map_or}
-use Rattle.columns_core.specs.Array.{cells, data_type_of}
 use Rattle.columns_core.specs.Causes.{Overflow}
 use Rattle.columns_core.specs.DictionaryType.{entry_type, key_type}
 use Rattle.columns_core.specs.Equal.{is_same}
-use Rattle.columns_core.specs.Keyed.{KeyedColumn}
 use Rattle.columns_core.specs.Nested.{map_type, field_types, first_length, rows}
 use Rattle.columns_core.specs.contracts.data_type.DataType.{the_row as data_type_row}
-use Rattle.columns_core.specs.declared.array.Array.{Array}
-use Rattle.columns_core.specs.declared.array.Array.TheVariants as array
 use Rattle.columns_core.specs.declared.cell.Cell.{Cell, Cells}
 use Rattle.columns_core.specs.declared.data_type.DataType.{DataType}
 use Rattle.columns_core.specs.declared.data_type.IntegerType.{IntegerType}
 use Rattle.columns_core.specs.declared.data_type.IntegerType.TheVariants as key
 use Rattle.parquet_statistics.specs.BuiltTypes.{is_large_list, is_same_type, item_type}
-use Rattle.parquet_statistics.specs.Refusal.{Refusal, Argument, Caused, demand, in_order}
-use Rattle.parquet_statistics.specs.declared.dyn_mutable.DynMutable.{DynMutable, fold-DynMutable, out-DynMutable}
+use Rattle.parquet_statistics.specs.Refusal.{Refusal, Argument, Caused, demand}
+use Rattle.parquet_statistics.specs.declared.dyn_mutable.DynMutable.{DynMutable, fold-DynMutable}
 use Rattle.parquet_statistics.specs.declared.dyn_mutable.DynMutable.TheOpen.{DynMutable-F, DynMutableDictionary-F, DynMutableListArray-F, DynMutableMapArray-F, DynMutableStructArray-F}
-use Rattle.parquet_statistics.specs.declared.dyn_mutable.DynMutableDictionary.{DynMutableDictionary}
-use Rattle.parquet_statistics.specs.declared.dyn_mutable.DynMutableListArray.{DynMutableListArray}
-use Rattle.parquet_statistics.specs.declared.dyn_mutable.DynMutableMapArray.{DynMutableMapArray}
-use Rattle.parquet_statistics.specs.declared.dyn_mutable.DynMutableStructArray.{DynMutableStructArray}
 
 -- An array of the type with the cells, where nothing is refused.
 pub record Made : Type 0 where
@@ -32,28 +24,21 @@ pub record Made : Type 0 where
   pub refusals : List Refusal
 
 abbrev pub made_cells : Made → List Cell
-made_cells made = made.cells
+made_cells all = all.cells
 
 abbrev pub made_type : Made → DataType
-made_type made = made.data_type
+made_type all = all.data_type
 
 abbrev pub made_refusals : Made → List Refusal
-made_refusals made = made.refusals
+made_refusals all = all.refusals
 
 -- nothing is refused
 abbrev pub freely_made : DataType → List Cell → Made
 freely_made data_type cells = record { data_type = data_type; cells = cells; refusals = [] }
 
-abbrev pub of_array : Array → Made
-of_array array = freely_made (data_type_of array) (cells array)
-
--- it is this array, and nothing is refused
-abbrev pub IsMade : Made → Array → Type 0
-IsMade made array = made ≡ of_array array
-
 -- a type is the one that is named
-abbrev pub is_named : Option DataType → DataType → Bool
-is_named named data_type = option_map_or (λ own. is_same_type own data_type) named false
+abbrev pub is_type_named : Option DataType → DataType → Bool
+is_type_named named data_type = option_map_or (λ own. is_same_type own data_type) named false
 
 -- types are those that are named, in turn
 abbrev pub are_named : Option (List DataType) → List DataType → Bool
@@ -77,23 +62,10 @@ abbrev pub dictionary_made : DataType → Made → Made
 dictionary_made data_type entries = record {
   data_type = data_type;
   cells = entries.cells;
-  refusals = in_order entries.refusals
-      (demand (is_named (entry_type data_type) entries.data_type) Argument
+  refusals = entries.refusals
+      ++ (demand (is_type_named (entry_type data_type) entries.data_type) Argument
       ++ demand (option_map_or (λ keys. nat_le (length entries.cells) (most_keys keys)) (key_type data_type) true) (Caused Overflow));
 }
-
--- the keys 0, 1, 2 and on, so many of them
-abbrev pub counted_keys : ℕ → List (Option ℕ)
-counted_keys count = map Some (range_with_len 0 count)
-
--- the keys and the entries of a dictionary array
-abbrev pub keyed_in : Array → Option KeyedColumn
-keyed_in (array.Dictionary column) = Some column
-keyed_in _ = None
-
--- a dictionary array whose keys name all of its entries, in turn
-abbrev pub CountsKeys : Array → Type 0
-CountsKeys array = IsSomeAnd (keyed_in array) (λ column. column.keys ≡ counted_keys (length column.entries))
 
 -- ---- lists and maps
 
@@ -107,8 +79,8 @@ abbrev pub list_made : DataType → Made → Made
 list_made data_type items = record {
   data_type = data_type;
   cells = map (λ cell. Cells (cell ∷ [])) items.cells;
-  refusals = in_order items.refusals
-      (demand (is_named (item_type data_type) items.data_type) Argument
+  refusals = items.refusals
+      ++ (demand (is_type_named (item_type data_type) items.data_type) Argument
       ++ demand (nat_le (length items.cells) (most_places (is_large_list data_type))) (Caused Overflow));
 }
 
@@ -117,8 +89,8 @@ abbrev pub map_made : DataType → Made → Made
 map_made data_type pairs = record {
   data_type = data_type;
   cells = Cells pairs.cells ∷ [];
-  refusals = in_order pairs.refusals
-      (demand (is_named (map_type data_type) pairs.data_type) Argument
+  refusals = pairs.refusals
+      ++ (demand (is_type_named (map_type data_type) pairs.data_type) Argument
       ++ demand (nat_le (length pairs.cells) (most_places false)) (Caused Overflow));
 }
 
@@ -133,8 +105,8 @@ abbrev pub struct_made : DataType → List Made → Made
 struct_made data_type columns = record {
   data_type = data_type;
   cells = map Cells (rows (map made_cells columns));
-  refusals = in_order (flat_map made_refusals columns)
-      (demand (are_named (field_types data_type) (map made_type columns)) Argument
+  refusals = flat_map made_refusals columns
+      ++ (demand (are_named (field_types data_type) (map made_type columns)) Argument
       ++ demand (are_even (map made_cells columns)) Argument);
 }
 
@@ -160,16 +132,5 @@ abbrev pub made_struct : DynMutableStructArray-F Made Made Made Made Made → Ma
 made_struct fields = struct_made fields.data_type fields.inner.items
 
 -- what a builder makes
-unfoldable pub made : DynMutable → Made
-made builder = fold-DynMutable Made Made Made Made Made made_at made_dictionary made_list made_map made_struct builder
-
--- it is a builder of the entries of a dictionary
-abbrev pub builds_keys_at : DynMutable-F DynMutable DynMutableDictionary DynMutableListArray DynMutableMapArray DynMutableStructArray → Bool
-builds_keys_at (DynMutable-F.Flat builder) = false
-builds_keys_at (DynMutable-F.Dictionary entries) = true
-builds_keys_at (DynMutable-F.List items) = false
-builds_keys_at (DynMutable-F.Map pairs) = false
-builds_keys_at (DynMutable-F.Struct fields) = false
-
-abbrev pub builds_keys : DynMutable → Bool
-builds_keys builder = builds_keys_at (out-DynMutable builder)
+unfoldable pub made_by : DynMutable → Made
+made_by builder = fold-DynMutable Made Made Made Made Made made_at made_dictionary made_list made_map made_struct builder

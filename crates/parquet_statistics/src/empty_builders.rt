@@ -43,15 +43,19 @@ impl DynMutableDictionary {
         data_type: DataType,
         capacity: usize,
     ) -> Result<Self, Error>
-        ensures empty { IfOk result (λ builder. is_empty_of data_type (DynMutable.Dictionary builder) ≡ true) }
+        ensures empty { IfOk result (λ builder.
+            is_empty_of data_type (DynMutable.Dictionary builder) ≡ true) }
         ensures ok { OnOk result (shape_refusals (is_some (entry_type data_type)) data_type ≡ []) }
-        ensures err { IfErr result (IsRefusedBy (shape_refusals (is_some (entry_type data_type)) data_type)) }
+        ensures err { let refusals = shape_refusals (is_some (entry_type data_type)) data_type in
+            IfErr result (IsRefusedBy refusals) }
     {
-        let inner = match &data_type {
-            DataType::Dictionary(_, value, _) => builder_of(alloc, value.get(), capacity)?,
-            _ => return Err(Error::InvalidArgumentError(Part::Request)),
-        };
-        dictionary_over(alloc, &data_type, inner)
+        match &data_type {
+            DataType::Dictionary(_, value, _) => {
+                let inner = builder_of(alloc, value.get(), capacity)?;
+                dictionary_over(alloc, &data_type, inner)
+            }
+            _ => Err(Error::InvalidArgumentError(Part::Request)),
+        }
     }
 }
 
@@ -69,12 +73,17 @@ impl DynMutableListArray {
         ensures ok { OnOk result (shape_refusals (is_some (item_type data_type)) data_type ≡ []) }
         ensures err { IfErr result (IsRefusedBy (shape_refusals (is_some (item_type data_type)) data_type)) }
     {
-        let inner = match &data_type {
-            DataType::List(field) => builder_of(alloc, &field.get().data_type, capacity)?,
-            DataType::LargeList(field) => builder_of(alloc, &field.get().data_type, capacity)?,
-            _ => return Err(Error::InvalidArgumentError(Part::Request)),
-        };
-        list_over(alloc, &data_type, inner)
+        match &data_type {
+            DataType::List(field) => {
+                let inner = builder_of(alloc, &field.get().data_type, capacity)?;
+                list_over(alloc, &data_type, inner)
+            }
+            DataType::LargeList(field) => {
+                let inner = builder_of(alloc, &field.get().data_type, capacity)?;
+                list_over(alloc, &data_type, inner)
+            }
+            _ => Err(Error::InvalidArgumentError(Part::Request)),
+        }
     }
 }
 
@@ -92,11 +101,13 @@ impl DynMutableMapArray {
         ensures ok { OnOk result (shape_refusals (is_some (map_type data_type)) data_type ≡ []) }
         ensures err { IfErr result (IsRefusedBy (shape_refusals (is_some (map_type data_type)) data_type)) }
     {
-        let inner = match &data_type {
-            DataType::Map(field, _) => builder_of(alloc, &field.get().data_type, capacity)?,
-            _ => return Err(Error::InvalidArgumentError(Part::Request)),
-        };
-        map_over(alloc, &data_type, inner)
+        match &data_type {
+            DataType::Map(field, _) => {
+                let inner = builder_of(alloc, &field.get().data_type, capacity)?;
+                map_over(alloc, &data_type, inner)
+            }
+            _ => Err(Error::InvalidArgumentError(Part::Request)),
+        }
     }
 }
 
@@ -112,13 +123,16 @@ impl DynMutableStructArray {
     ) -> Result<Self, Error>
         ensures empty { IfOk result (λ builder. is_empty_of data_type (DynMutable.Struct builder) ≡ true) }
         ensures ok { OnOk result (shape_refusals (is_some (field_types data_type)) data_type ≡ []) }
-        ensures err { IfErr result (IsRefusedBy (shape_refusals (is_some (field_types data_type)) data_type)) }
+        ensures err { let refusals = shape_refusals (is_some (field_types data_type)) data_type in
+            IfErr result (IsRefusedBy refusals) }
     {
-        let inner = match &data_type {
-            DataType::Struct(fields) => builders_of(alloc, fields.as_slice(), capacity)?,
-            _ => return Err(Error::InvalidArgumentError(Part::Request)),
-        };
-        struct_over(alloc, &data_type, inner)
+        match &data_type {
+            DataType::Struct(fields) => {
+                let inner = builders_of(alloc, fields.as_slice(), capacity)?;
+                struct_over(alloc, &data_type, inner)
+            }
+            _ => Err(Error::InvalidArgumentError(Part::Request)),
+        }
     }
 }
 
@@ -185,7 +199,8 @@ fn dictionary_over(
     data_type: &DataType,
     inner: DynMutable,
 ) -> Result<DynMutableDictionary, Error>
-    ensures over { IfOk result (λ builder. (builder.data_type ≡ data_type.now) × (builder.inner.value ≡ inner)) }
+    ensures over { IfOk result (λ builder.
+        (builder.data_type ≡ data_type.now) × (builder.inner.value ≡ inner)) }
     ensures memory { IfErr result IsWantOfMemory }
 {
     let inner = Box::new(alloc, inner)?;
@@ -202,7 +217,8 @@ fn list_over(
     data_type: &DataType,
     inner: DynMutable,
 ) -> Result<DynMutableListArray, Error>
-    ensures over { IfOk result (λ builder. (builder.data_type ≡ data_type.now) × (builder.inner.value ≡ inner)) }
+    ensures over { IfOk result (λ builder.
+        (builder.data_type ≡ data_type.now) × (builder.inner.value ≡ inner)) }
     ensures memory { IfErr result IsWantOfMemory }
 {
     let inner = Box::new(alloc, inner)?;
@@ -219,7 +235,8 @@ fn map_over(
     data_type: &DataType,
     inner: DynMutable,
 ) -> Result<DynMutableMapArray, Error>
-    ensures over { IfOk result (λ builder. (builder.data_type ≡ data_type.now) × (builder.inner.value ≡ inner)) }
+    ensures over { IfOk result (λ builder.
+        (builder.data_type ≡ data_type.now) × (builder.inner.value ≡ inner)) }
     ensures memory { IfErr result IsWantOfMemory }
 {
     let inner = Box::new(alloc, inner)?;
@@ -236,7 +253,8 @@ fn struct_over(
     data_type: &DataType,
     inner: Vec<DynMutable>,
 ) -> Result<DynMutableStructArray, Error>
-    ensures over { IfOk result (λ builder. (builder.data_type ≡ data_type.now) × (builder.inner ≡ inner)) }
+    ensures over { IfOk result (λ builder.
+        (builder.data_type ≡ data_type.now) × (builder.inner ≡ inner)) }
     ensures memory { IfErr result IsWantOfMemory }
 {
     let data_type = data_type.try_clone(alloc)?;

@@ -1,6 +1,6 @@
 //! How many cells builders would make.
 ghost use Rattle.std.specs.Prelude.{◌≡◌, length};
-ghost use Rattle.parquet_statistics.specs.Made.{made, made_cells};
+ghost use Rattle.parquet_statistics.specs.Made.{made_by, made_cells};
 
 use crate::{
     DynMutable, DynMutableDictionary, DynMutableListArray, DynMutableMapArray,
@@ -11,7 +11,7 @@ impl DynMutable {
     /// The number of cells of the array.
     #[cycle(len)]
     pub fn len(&self) -> usize
-        ensures { result ≡ length (made_cells (made self.now)) }
+        ensures { result ≡ length (made_cells (made_by self.now)) }
     {
         match self {
             DynMutable::Flat(builder) => builder.len(),
@@ -27,7 +27,7 @@ impl DynMutableDictionary {
     /// As many as entries.
     #[cycle(len)]
     pub fn len(&self) -> usize
-        ensures { result ≡ length (made_cells (made (DynMutable.Dictionary self.now))) }
+        ensures { result ≡ length (made_cells (made_by (DynMutable.Dictionary self.now))) }
     {
         self.inner.len()
     }
@@ -37,7 +37,7 @@ impl DynMutableListArray {
     /// As many as items.
     #[cycle(len)]
     pub fn len(&self) -> usize
-        ensures { result ≡ length (made_cells (made (DynMutable.List self.now))) }
+        ensures { result ≡ length (made_cells (made_by (DynMutable.List self.now))) }
     {
         self.inner.len()
     }
@@ -46,7 +46,7 @@ impl DynMutableListArray {
 impl DynMutableMapArray {
     /// One map.
     pub fn len(&self) -> usize
-        ensures { result ≡ length (made_cells (made (DynMutable.Map self.now))) }
+        ensures { result ≡ length (made_cells (made_by (DynMutable.Map self.now))) }
     {
         1
     }
@@ -56,7 +56,7 @@ impl DynMutableStructArray {
     /// As many as the first field has, and 0 where there is no field.
     #[cycle(len)]
     pub fn len(&self) -> usize
-        ensures { result ≡ length (made_cells (made (DynMutable.Struct self.now))) }
+        ensures { result ≡ length (made_cells (made_by (DynMutable.Struct self.now))) }
     {
         match self.inner.first() {
             None => 0,

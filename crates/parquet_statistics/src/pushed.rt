@@ -1,6 +1,6 @@
 //! Cells that are appended to a builder.
 ghost use Rattle.std.specs.Prelude.{◌≡◌, IfErr, IsSomeAnd, OnOk};
-ghost use Rattle.parquet_statistics.specs.Flats.{IsAppended, IsNotAppended, flat_of};
+ghost use Rattle.parquet_statistics.specs.Flats.{IsPushed, IsNotAppended, flat_of};
 
 use crate::DynMutable;
 use columns_core::{Cell, Error, Part};
@@ -11,7 +11,7 @@ impl DynMutable {
     /// `InvalidArgumentError` where the builder is not flat, or the cell is of another type; `Overflow` where the bytes of all cells
     /// pass the offsets of the type.
     pub fn push_cell(&mut self, cell: &Cell) -> Result<(), Error>
-        ensures ok { OnOk result (IsSomeAnd (flat_of self.old) (λ old. IsAppended old cell.now self.new)) }
+        ensures ok { OnOk result (IsSomeAnd (flat_of self.old) (λ old. IsPushed old cell.now self.new)) }
         ensures same { IfErr result (λ _. self.new ≡ self.old) }
         ensures err { IfErr result (IsNotAppended (flat_of self.old) cell.now) }
     {

@@ -4,4 +4,4 @@ use Rattle.parquet_statistics.proofs.BuilderLemmas.{made_of_map}
 use Rattle.parquet_statistics.proofs.dyn_mutable.DynMutableMapArray.len.Goals as goal
 
 pub returns : goal.returns
-returns c = ap (λ (made : Made). length made.cells) (sym (made_of_map c.args.self.now))
+returns c = ap (λ (all : Made). length all.cells) (sym (made_of_map c.args.self.now))
