@@ -1,0 +1,6 @@
+mod PushLemmas
+mod RefusalLemmas
+mod TypeRefusals
+mod BuilderLemmas
+mod EmptyLemmas
+mod ShapeLemmas

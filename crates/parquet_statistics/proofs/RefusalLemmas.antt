@@ -1,0 +1,69 @@
+-- What is refused of a part is refused of the whole.
+use Rattle.std.proofs.Common.{◌≡◌, refl, sym, subst, ℕ, ◌<◌, Bool, true, false, List, [], ◌∷◌, ◌++◌, length, inl, inr, arith}
+use Rattle.std.specs.Prelude.{◌⊎◌, Contains, Option, Some, None, IsTrue, flat_map}
+use Rattle.std.proofs.lemmas.List.Elements.{Contains-append_left, Contains-append_right}
+use Rattle.columns_core.specs.Causes.{Cause, IsWantOfMemory, NotYetImplemented, cause_of, is_invalid_argument}
+use Rattle.columns_core.specs.declared.error.Error.{Error}
+use Rattle.columns_core.specs.declared.error.Error.TheVariants as error
+use Rattle.columns_core.specs.declared.error.Part.{Part}
+use Rattle.parquet_statistics.specs.Refusal.{Refusal, Argument, Caused, IsOneRefusal, IsRefusedBy, demand, told_refusal}
+
+-- ---- of one of several
+
+one_left : (first rest : List Refusal) (told : Option Refusal) → IsOneRefusal first told → IsOneRefusal (first ++ rest) told
+one_left first rest None told = absurd told
+one_left first rest (Some refusal) told = Contains-append_left first rest refusal told
+
+one_right : (first rest : List Refusal) (told : Option Refusal) → IsOneRefusal rest told → IsOneRefusal (first ++ rest) told
+one_right first rest None told = absurd told
+one_right first rest (Some refusal) told = Contains-append_right first rest refusal told
+
+module _ (e : Error) where
+  pub refused_left : (first rest : List Refusal) → IsRefusedBy first e → IsRefusedBy (first ++ rest) e
+  refused_left first rest (inl memory) = inl memory
+  refused_left first rest (inr told) = inr (one_left first rest (told_refusal e) told)
+
+  pub refused_right : (first rest : List Refusal) → IsRefusedBy rest e → IsRefusedBy (first ++ rest) e
+  refused_right first rest (inl memory) = inl memory
+  refused_right first rest (inr told) = inr (one_right first rest (told_refusal e) told)
+
+  -- by the same
+  pub as_refused : (first second : List Refusal) → first ≡ second → IsRefusedBy first e → IsRefusedBy second e
+  as_refused first second same refused = subst (λ refusals. IsRefusedBy refusals e) same refused
+
+  argument_told : (own : Error) → IsTrue (is_invalid_argument own) → told_refusal own ≡ Some Argument
+  argument_told (error.InvalidArgumentError part) h = refl
+  argument_told _ h = absurd cc
+
+  pub refused_argument : (refusals : List Refusal) → IsTrue (is_invalid_argument e) → Contains refusals Argument → IsRefusedBy refusals e
+  refused_argument refusals argument told = inr (subst (λ own. IsOneRefusal refusals own) (sym (argument_told e argument)) told)
+
+  cause_told : (own : Error) (cause : Cause) → cause_of own ≡ Some cause → told_refusal own ≡ Some (Caused cause)
+  cause_told (error.NotYetImplemented part) cause h = let same : _ ≡ cause = cc in λ i. Some (Caused (same i))
+  cause_told (error.ExternalFormat part) cause h = let same : _ ≡ cause = cc in λ i. Some (Caused (same i))
+  cause_told (error.OutOfSpec part) cause h = let same : _ ≡ cause = cc in λ i. Some (Caused (same i))
+  cause_told error.Overflow cause h = let same : _ ≡ cause = cc in λ i. Some (Caused (same i))
+  cause_told (error.InvalidArgumentError part) cause h = absurd cc
+  cause_told error.Io cause h = absurd cc
+  cause_told error.OutOfMemory cause h = absurd cc
+
+  pub refused_cause : (refusals : List Refusal) (cause : Cause) → cause_of e ≡ Some cause → Contains refusals (Caused cause) → IsRefusedBy refusals e
+  refused_cause refusals cause is told = inr (subst (λ own. IsOneRefusal refusals own) (sym (cause_told e cause is)) told)
+
+pub first_refusal : (refusal : Refusal) (others : List Refusal) → Contains (refusal ∷ others) refusal
+first_refusal refusal others = (0, omega arith, refl)
+
+-- ---- tests
+
+pub demand_met : (passes : Bool) (refusal : Refusal) → passes ≡ true → demand passes refusal ≡ []
+demand_met true refusal e = refl
+demand_met false refusal e = absurd cc
+
+pub by_test : (passes : Bool) (refusal : Refusal) → (passes ≡ true → ⊥) → Contains (demand passes refusal) refusal
+by_test false refusal fails = first_refusal refusal []
+by_test true refusal fails = absurd (fails refl)
+
+-- several parts have no refusal
+pub none_of_both : (first rest : List Refusal) → first ≡ [] → rest ≡ [] → first ++ rest ≡ []
+none_of_both [] rest e f = f
+none_of_both (refusal ∷ first) rest e f = absurd cc
