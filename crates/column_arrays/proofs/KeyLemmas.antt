@@ -26,8 +26,7 @@ use Rattle.flat_binary.specs.Decoding.{column_decoding, outcomes_by}
 use Rattle.flat_binary.specs.Left.{Supply, converted_left, decoded_left}
 use Rattle.flat_binary.specs.Paged.{entry_conversion, is_null_at, is_null_type}
 use Rattle.column_arrays.specs.Begun.{BeginsColumn}
-use Rattle.column_arrays.specs.EntryReaders.{ReadsEntries, entries_read}
-use Rattle.column_arrays.specs.declared.entry_reader.EntryReader.{EntryReader}
+use Rattle.column_arrays.specs.EntryReaders.{Reader, ReadsEntries, entries_read}
 
 -- ---- a dictionary type by its constructor
 
@@ -63,7 +62,7 @@ keys_decoded physical data_type rule key entry read keyed entries same = by (out
   by layer keyed entries = absurd cc
 
 -- So all of it is left.
-pub keys_begin : {X : Type 0} (left_of : X → ColumnLeft) (physical : PhysicalType) (logical : Option PrimitiveLogicalType) (data_type : DataType) (size : Option ℕ) (rows : ℕ) (supply : Supply) (key : IntegerType) (entry : DataType) (reader : EntryReader) (result : Result X Error)
+pub keys_begin : {X : Type 0} (left_of : X → ColumnLeft) (physical : PhysicalType) (logical : Option PrimitiveLogicalType) (data_type : DataType) (size : Option ℕ) (rows : ℕ) (supply : Supply) (key : IntegerType) (entry : DataType) (reader : Reader) (result : Result X Error)
     → key_type data_type ≡ Some key → entry_type data_type ≡ Some entry → IfSome (entry_from_physical physical logical (out-DataType entry)) (λ rule. ReadsEntries physical entry rule (Ok reader))
     → BeginsColumn left_of (decoded_left (keys_decoding (entries_read reader) (keys_of key)) data_type size rows supply) result
     → IfSome (entry_conversion (entry_from_physical physical logical) data_type) (λ rule. BeginsColumn left_of (converted_left physical data_type size rows supply rule) result)

@@ -24,10 +24,9 @@ use Rattle.dictionary_values.specs.DictLeft.{DictLeft, dict_left, keys_decoding}
 use Rattle.dictionary_values.specs.Keys.{keys_of}
 use Rattle.columns_core.specs.declared.data_type.IntegerType.{IntegerType}
 use Rattle.columns_core.specs.declared.data_type.IntegerType.TheVariants as keyed
-use Rattle.column_arrays.specs.EntryReaders.{entries_read, most_large_bytes, most_small_bytes}
+use Rattle.column_arrays.specs.EntryReaders.{Reader, entries_read, most_large_bytes, most_small_bytes}
 use Rattle.column_arrays.specs.declared.array_iter.ArrayIter.{ArrayIter}
 use Rattle.column_arrays.specs.declared.array_iter.ArrayIter.TheVariants as any
-use Rattle.column_arrays.specs.declared.entry_reader.EntryReader.{EntryReader}
 use Rattle.column_arrays.specs.declared.key_iter.KeysIter.{KeysIter}
 use Rattle.column_arrays.specs.declared.key_iter.KeysIter.TheVariants as key
 use Rattle.column_arrays.specs.declared.number_iter.Int32Iter.{Int32Iter}
@@ -79,7 +78,7 @@ module _ {I : Type 0} (to_come : I → List Content) (causes : I → List Cause)
   -- ---- keys
 
   -- keys of a type, over the entries that a reader reads
-  abbrev keys_by : IntegerType → DictLeft I EntryReader → ColumnLeft
+  abbrev keys_by : IntegerType → DictLeft I Reader → ColumnLeft
   keys_by type = dict_left (λ reader. keys_decoding (entries_read reader) (keys_of type)) to_come causes row_count lent_count
 
   abbrev pub keyed_column_left : KeysIter I → ColumnLeft

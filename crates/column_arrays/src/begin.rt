@@ -33,4 +33,6 @@ pub(crate) fn values_iter<I: Pages, V: IntoArray + Drop>(
 }
 
 /// Drops an iterator of values.
-pub(crate) fn let_go<I: Pages, V: IntoArray + Drop>(_arrays: FlatIter<I, V>) {}
+pub(crate) fn let_go<I: Pages, V: IntoArray + Drop>(arrays: FlatIter<I, V>) {
+    drop(arrays);
+}

@@ -20,7 +20,9 @@ pub enum KeysIter<I: Pages> {
 }
 
 /// Drops an iterator of keys.
-fn let_keys_go<K: StoredKey, R: ReadDict + Drop, I: Pages>(_arrays: DictIter<K, R, I>) {}
+fn let_keys_go<K: StoredKey, R: ReadDict + Drop, I: Pages>(arrays: DictIter<K, R, I>) {
+    drop(arrays);
+}
 
 impl<I: Pages> Drop for KeysIter<I> {
     fn drop(self) {

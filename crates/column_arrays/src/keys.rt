@@ -10,7 +10,7 @@ ghost use Rattle.dictionary_values.specs.Keys.{keys_of};
 ghost use Rattle.flat_binary.specs.Left.{converted_left, decoded_left, supply_of};
 ghost use Rattle.flat_binary.specs.Paged.{entry_conversion};
 ghost use Rattle.column_arrays.specs.Begun.{BeginsColumn, IsRefusedPair};
-ghost use Rattle.column_arrays.specs.EntryReaders.{entries_read, reader_type};
+ghost use Rattle.column_arrays.specs.EntryReaders.{Reader, entries_read, reader_type};
 ghost use Rattle.column_arrays.specs.Layers.{array_left, keyed_column_left};
 
 use crate::array_iter::ArrayIter;
@@ -121,7 +121,7 @@ fn keys_in<K: StoredKey, I: Pages>(
     requires ordered { has_data_behind (I.to_come pages) ≡ true }
     requires size { IsChunkSize chunk_size }
     ensures { let supply = supply_of I.to_come I.causes I.row_count I.lent_count pages in
-        let decoding = λ (own : EntryReader). keys_decoding (entries_read own) K.key_count in
+        let decoding = λ (own : Reader). keys_decoding (entries_read own) K.key_count in
         let left = dict_left decoding I.to_come I.causes I.row_count I.lent_count in
         BeginsColumn left (decoded_left (decoding reader) data_type chunk_size num_rows supply) result }
 {

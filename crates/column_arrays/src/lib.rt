@@ -6,6 +6,7 @@ mod begin;
 pub mod binary;
 mod delta;
 mod entry_reader;
+mod entry_rule;
 pub mod fixed_size_binary;
 mod key_iter;
 mod keys;
@@ -20,6 +21,7 @@ mod strings;
 
 pub use array_iter::ArrayIter;
 pub use entry_reader::EntryReader;
+pub use entry_rule::{EntryRule, Int32Entry, Int64Entry};
 pub use flat_binary::{ColumnArrays, carries};
 pub use flat_values::{boolean, null};
 pub use key_iter::KeysIter;
