@@ -1,6 +1,6 @@
 -- Builders over empty builders are empty, and what is refused of fields one by one is refused of all.
-use Rattle.std.proofs.Common.{◌≡◌, refl, sym, ◌∙◌, ap, subst, ℕ, zero, suc, ◌+◌, ◌<◌, Bool, true, false, List, [], ◌∷◌, ◌++◌, length, get_or, map, take, arith, inl, inr}
-use Rattle.std.specs.Prelude.{◌==◌, ◌&&◌, not, IsTrue, Option, Some, None, flat_map}
+use Rattle.std.proofs.Common.{◌≡◌, refl, sym, ◌∙◌, ap, subst, ℕ, zero, suc, ◌+◌, ◌<◌, true, false, List, [], ◌∷◌, ◌++◌, length, get_or, map, take, arith}
+use Rattle.std.specs.Prelude.{◌==◌, ◌&&◌, not, IsTrue, Option, Some, flat_map}
 use Rattle.std.specs.Cmp.{first_so, second_so}
 use Rattle.std.specs.Option.{option_map_or}
 use Rattle.std.proofs.lemmas.List.{length-map, map-append, take_more}
@@ -15,8 +15,8 @@ use Rattle.columns_core.specs.contracts.data_type.DataType.{the_row as data_type
 use Rattle.columns_core.specs.declared.data_type.DataType.{DataType}
 use Rattle.columns_core.specs.declared.data_type.Field.{Field}
 use Rattle.columns_core.specs.declared.error.Error.{Error}
-use Rattle.parquet_statistics.specs.BuiltTypes.{OfType, are_each, are_empty_of, is_empty_of, is_empty_over, is_same_type, item_type, refusals_of_all, refusals_of_fields, type_refusals}
-use Rattle.parquet_statistics.specs.Refusal.{Refusal, Argument, IsRefusedBy, demand}
+use Rattle.parquet_statistics.specs.BuiltTypes.{OfType, are_each, are_empty_of, is_empty_of, is_empty_over, is_same_type, item_type, refusals_of_fields, type_refusals}
+use Rattle.parquet_statistics.specs.Refusal.{Argument, IsRefusedBy}
 use Rattle.parquet_statistics.specs.declared.dyn_mutable.DynMutable.{DynMutable, Flat, Dictionary, List as ListBuilder, Map, Struct}
 use Rattle.parquet_statistics.specs.declared.dyn_mutable.DynMutableDictionary.{DynMutableDictionary}
 use Rattle.parquet_statistics.specs.declared.dyn_mutable.DynMutableListArray.{DynMutableListArray}
