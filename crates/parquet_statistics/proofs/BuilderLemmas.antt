@@ -1,12 +1,12 @@
 -- What builders are, by their constructors.
-use Rattle.std.proofs.Common.{◌≡◌, refl, sym, ◌∙◌, ap, ℕ, List, [], ◌∷◌, map}
+use Rattle.std.proofs.Common.{◌≡◌, refl, ◌∙◌, ap, ℕ, List, [], ◌∷◌, map}
 use denote.Hole.Carrier
 use Rattle.columns_core.specs.DictionaryType.{entry_type}
 use Rattle.columns_core.specs.Nested.{map_type, field_types, first_length, row_at, rows}
 use Rattle.columns_core.specs.Shown.{Shown}
 use Rattle.columns_core.specs.declared.cell.Cell.{Cell, Cells}
 use Rattle.columns_core.specs.declared.data_type.DataType.{DataType}
-use Rattle.std.specs.Prelude.{◌==◌, ◌&&◌, Bool, false, length, slice_get, Some, None}
+use Rattle.std.specs.Prelude.{◌==◌, ◌&&◌, false, length, slice_get, Some, None}
 use Rattle.std.specs.List.{range_with_len}
 use Rattle.std.proofs.lemmas.List.{length-map}
 use Rattle.std.proofs.lemmas.List.FromFn.{length-range_with_len}

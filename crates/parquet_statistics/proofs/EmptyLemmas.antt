@@ -1,12 +1,11 @@
 -- Builders over empty builders are empty, and what is refused of fields one by one is refused of all.
-use Rattle.std.proofs.Common.{◌≡◌, refl, sym, ◌∙◌, ap, subst, ℕ, zero, suc, ◌+◌, ◌<◌, Bool, true, false, List, [], ◌∷◌, ◌++◌, length, get_or, map, take, arith, inl, inr}
-use Rattle.std.specs.Prelude.{◌==◌, ◌&&◌, not, IsTrue, Option, Some, None, flat_map}
+use Rattle.std.proofs.Common.{◌≡◌, refl, sym, ◌∙◌, ap, subst, ℕ, zero, suc, ◌+◌, ◌<◌, true, false, List, [], ◌∷◌, ◌++◌, length, get_or, map, take, arith}
+use Rattle.std.specs.Prelude.{◌==◌, ◌&&◌, not, Option, Some, flat_map}
 use Rattle.std.specs.Cmp.{first_so, second_so}
 use Rattle.std.specs.Option.{option_map_or}
 use Rattle.std.proofs.lemmas.List.{length-map, map-append, take_more}
 use Rattle.std.proofs.lemmas.List.Concat.{flat_map-append}
 use Rattle.std.proofs.lemmas.List.Folds.{flat_map-map}
-use Rattle.columns_core.specs.Causes.{is_invalid_argument}
 use Rattle.columns_core.specs.DictionaryType.{entry_type}
 use Rattle.columns_core.specs.Nested.{map_type, field_types}
 use Rattle.columns_core.specs.Same.{same_itself}
@@ -15,15 +14,15 @@ use Rattle.columns_core.specs.contracts.data_type.DataType.{the_row as data_type
 use Rattle.columns_core.specs.declared.data_type.DataType.{DataType}
 use Rattle.columns_core.specs.declared.data_type.Field.{Field}
 use Rattle.columns_core.specs.declared.error.Error.{Error}
-use Rattle.parquet_statistics.specs.BuiltTypes.{OfType, are_each, are_empty_of, is_empty_of, is_empty_over, is_same_type, item_type, refusals_of_all, refusals_of_fields, type_refusals}
-use Rattle.parquet_statistics.specs.Refusal.{Refusal, Argument, IsRefusedBy, demand}
+use Rattle.parquet_statistics.specs.BuiltTypes.{OfType, are_each, are_empty_of, is_empty_of, is_empty_over, is_same_type, item_type, refusals_of_fields, type_refusals}
+use Rattle.parquet_statistics.specs.Refusal.{Argument, IsRefusedBy}
 use Rattle.parquet_statistics.specs.declared.dyn_mutable.DynMutable.{DynMutable, Flat, Dictionary, List as ListBuilder, Map, Struct}
 use Rattle.parquet_statistics.specs.declared.dyn_mutable.DynMutableDictionary.{DynMutableDictionary}
 use Rattle.parquet_statistics.specs.declared.dyn_mutable.DynMutableListArray.{DynMutableListArray}
 use Rattle.parquet_statistics.specs.declared.dyn_mutable.DynMutableMapArray.{DynMutableMapArray}
 use Rattle.parquet_statistics.specs.declared.dyn_mutable.DynMutableStructArray.{DynMutableStructArray}
 use Rattle.parquet_statistics.proofs.BuilderLemmas.{empty_dictionary, empty_flat, empty_list, empty_map, empty_struct}
-use Rattle.parquet_statistics.proofs.RefusalLemmas.{demand_met, first_refusal, none_of_both, refused_argument, refused_left, refused_right}
+use Rattle.parquet_statistics.proofs.RefusalLemmas.{demand_met, none_of_both, refused_left, refused_right}
 
 same_so : (a b : DataType) → a ≡ b → is_same_type a b ≡ true
 same_so a b e = same_itself data_type_row.coded a b e
@@ -90,10 +89,6 @@ module _ (fields : List Field) (i : ℕ) (field : Field) (within : i < length fi
     any [] i h is = absurd (omega arith)
     any (first ∷ fields) zero h is = refused_left e _ _ (subst (λ (own : Field). IsRefusedBy (type_refusals own.data_type) e) is refused)
     any (first ∷ fields) (suc i) h is = refused_right e (type_refusals first.data_type) _ (any fields i (omega arith) is)
-
-pub no_field_refused : (fields : List Field) (e : Error) → IsTrue (is_invalid_argument e) → length fields ≡ 0 → IsRefusedBy (refusals_of_fields fields) e
-no_field_refused [] e argument none = refused_argument e (Argument ∷ []) argument (first_refusal Argument [])
-no_field_refused (field ∷ fields) e argument none = absurd (omega (arith, none))
 
 not_none : (n : ℕ) → 0 < n → not (n == 0) ≡ true
 not_none n h = grind (arith, h)

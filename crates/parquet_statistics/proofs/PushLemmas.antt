@@ -1,5 +1,5 @@
 -- Cells that were appended to a flat builder, or not.
-use Rattle.std.proofs.Common.{◌≡◌, ◌++◌, List, [], ◌∷◌, true, sym, subst, ap, ◌∙◌, inl, inr}
+use Rattle.std.proofs.Common.{◌≡◌, ◌++◌, [], ◌∷◌, true, sym, subst, ap, ◌∙◌, inl, inr}
 use Rattle.std.specs.Prelude.{◌⊎◌, IsTrue, Err, IfErr, IsSomeAnd, Ok, OnOk, Option, None, Result, Some}
 use Rattle.columns_core.specs.Causes.{is_invalid_argument}
 use Rattle.columns_core.specs.Shown.{Shown}

@@ -1,11 +1,10 @@
 -- What is refused of a part is refused of the whole.
-use Rattle.std.proofs.Common.{◌≡◌, refl, sym, subst, ℕ, ◌<◌, Bool, true, false, List, [], ◌∷◌, ◌++◌, length, inl, inr, arith}
-use Rattle.std.specs.Prelude.{◌⊎◌, Contains, Option, Some, None, IsTrue, flat_map}
+use Rattle.std.proofs.Common.{◌≡◌, refl, sym, subst, Bool, true, false, List, [], ◌∷◌, ◌++◌, inl, inr, arith}
+use Rattle.std.specs.Prelude.{Contains, Option, Some, None, IsTrue}
 use Rattle.std.proofs.lemmas.List.Elements.{Contains-append_left, Contains-append_right}
-use Rattle.columns_core.specs.Causes.{Cause, IsWantOfMemory, NotYetImplemented, cause_of, is_invalid_argument}
+use Rattle.columns_core.specs.Causes.{Cause, cause_of, is_invalid_argument}
 use Rattle.columns_core.specs.declared.error.Error.{Error}
 use Rattle.columns_core.specs.declared.error.Error.TheVariants as error
-use Rattle.columns_core.specs.declared.error.Part.{Part}
 use Rattle.parquet_statistics.specs.Refusal.{Refusal, Argument, Caused, IsOneRefusal, IsRefusedBy, demand, told_refusal}
 
 -- ---- of one of several

@@ -4,7 +4,7 @@ use Rattle.std.specs.Prelude.{◌⊎◌, ◌==◌, not, if◌then◌else◌, Som
 use Rattle.columns_core.specs.Causes.{IsWantOfMemory, NotYetImplemented}
 use Rattle.columns_core.specs.Types.{Layer}
 use Rattle.columns_core.specs.declared.data_type.DataType.{DataType, Dictionary, List as ListType, LargeList, Struct, Map, fold_out-DataType, map-DataType, out-DataType, out-roll-DataType, roll-out-DataType, roll-DataType}
-use Rattle.columns_core.specs.declared.data_type.DataType.TheOpen.{DataType-F, Field-F}
+use Rattle.columns_core.specs.declared.data_type.DataType.TheOpen.{DataType-F}
 use denote.Hole.Carrier
 use Rattle.columns_core.specs.declared.data_type.DataType.TheViews
 use Rattle.columns_core.specs.declared.data_type.DataType.TheVariants.{rolls-Dictionary, rolls-List, rolls-LargeList, rolls-Struct, rolls-Map}
@@ -13,7 +13,7 @@ use Rattle.columns_core.specs.declared.data_type.IntegerType.{IntegerType}
 use Rattle.columns_core.specs.declared.error.Error.{Error}
 use Rattle.columns_core.specs.DictionaryType.{entry_type, entry_type_at}
 use Rattle.columns_core.specs.Nested.{map_type, map_type_at, field_types, field_types_at, list_type_at}
-use Rattle.flat_builders.specs.Flat.{Flat, Sizeless, Nested, flatness, flatness_at}
+use Rattle.flat_builders.specs.Flat.{Flat, Sizeless, flatness, flatness_at}
 use Rattle.flat_builders.specs.Kept.{IsRefusedType}
 use Rattle.parquet_statistics.specs.BuiltTypes.{item_type, is_large_list, is_large_list_at, refusals_of_all, refusals_of_field, refusals_of_fields, type_refusals, type_refusals_at}
 use Rattle.parquet_statistics.specs.Refusal.{Refusal, Caused, IsRefusedBy, demand}

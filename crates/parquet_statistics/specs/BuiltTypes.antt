@@ -1,5 +1,5 @@
 -- Which types there are builders of, and which builders are empty ones of a type.
-use Rattle.std.specs.Prelude.{ℕ, ◌==◌, ◌&&◌, not, Bool, true, false, List, [], ◌∷◌, ◌++◌, length, map, flat_map, Option}
+use Rattle.std.specs.Prelude.{◌==◌, ◌&&◌, not, Bool, true, false, List, [], ◌∷◌, ◌++◌, length, map, flat_map, Option}
 use Rattle.std.specs.Option.{option_map_or}
 use Rattle.columns_core.specs.Causes.{NotYetImplemented}
 use Rattle.columns_core.specs.DictionaryType.{entry_type}

@@ -1,5 +1,5 @@
 -- Cells are appended to flat builders alone.
-use Rattle.std.specs.Prelude.{◌≡◌, ◌++◌, [], ◌∷◌, true, false, IsTrue, IsSomeAnd, Option, Some, None}
+use Rattle.std.specs.Prelude.{◌≡◌, ◌++◌, [], ◌∷◌, true, IsTrue, Option, Some, None}
 use Rattle.columns_core.specs.Causes.{is_invalid_argument}
 use Rattle.columns_core.specs.Shown.{Shown}
 use Rattle.columns_core.specs.declared.cell.Cell.{Cell}

@@ -1,6 +1,6 @@
 use Rattle.std.proofs.Common.{◌∙◌, List, ap, length, sym}
 use Rattle.std.specs.Prelude.{option_copied, slice_get}
-use Rattle.parquet_statistics.specs.Made.{Made, made_by}
+use Rattle.parquet_statistics.specs.Made.{made_by}
 use Rattle.parquet_statistics.specs.declared.dyn_mutable.DynMutable.{DynMutable}
 use Rattle.parquet_statistics.proofs.BuilderLemmas.{count_of_dictionary, count_of_flat, count_of_list, count_of_struct, first_count, none_count}
 use Rattle.parquet_statistics.proofs.dyn_mutable.+len.Goals as goal

@@ -6,7 +6,7 @@ use Rattle.columns_core.specs.DictionaryType.{entry_type}
 use Rattle.columns_core.specs.Nested.{map_type, field_types}
 use Rattle.columns_core.specs.declared.data_type.Field.{Field}
 use Rattle.parquet_statistics.specs.BuiltTypes.{are_empty_of, item_type, refusals_of_fields, type_refusals}
-use Rattle.parquet_statistics.proofs.EmptyLemmas.{dictionary_so, empty_more, field_refused, flat_so, free_more, list_so, map_so, no_field_refused, some_free, struct_so}
+use Rattle.parquet_statistics.proofs.EmptyLemmas.{dictionary_so, empty_more, field_refused, flat_so, free_more, list_so, map_so, some_free, struct_so}
 use Rattle.parquet_statistics.proofs.RefusalLemmas.{as_refused}
 use Rattle.parquet_statistics.proofs.TypeRefusals.{entry_of_dictionary, fields_of_struct, flat_is_free, flat_or_memory, item_of_large, item_of_list, pairs_of_map, refusals_of_dictionary, refusals_of_large, refusals_of_list, refusals_of_map, refusals_of_struct}
 use Rattle.parquet_statistics.proofs.empty_builders.+builder_of.Goals as goal

@@ -1,4 +1,4 @@
-use Rattle.std.proofs.Common.{◌≡◌, ◌<◌, [], length, map, take, true}
+use Rattle.std.proofs.Common.{◌≡◌, ◌<◌, [], length, take, true}
 use Rattle.std.specs.Prelude.{flat_map}
 use Rattle.parquet_statistics.specs.BuiltTypes.{are_empty_of, type_refusals}
 use Rattle.parquet_statistics.proofs.empty_builders.+builder_of.Given as goal

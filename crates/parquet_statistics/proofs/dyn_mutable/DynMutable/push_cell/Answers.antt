@@ -1,13 +1,9 @@
-use mathlib.Core.Option.{Option as Read, some}
-use Rattle.std.proofs.Common.{◌≡◌, ◌∙◌, [], ◌∷◌, ap, refl, subst, sym}
+use Rattle.std.proofs.Common.{◌≡◌, ◌∙◌, ap, refl, subst, sym}
 use Rattle.std.specs.Prelude.{IsSomeAnd, OnOk, Result}
-use borrow.Enum.Known.{ValuesAt}
-use borrow.Enum.Lend.{put_if}
 use borrow.Enum.Total.{values_d, values_d_at, values_o, values_o_at}
 use Rattle.columns_core.specs.Shown.{Shown}
 use Rattle.columns_core.specs.declared.cell.Cell.{Cell}
 use Rattle.columns_core.specs.declared.error.Error.{Error}
-use Rattle.flat_builders.specs.contracts.flat_mutable.FlatMutable as FlatMutable
 use Rattle.parquet_statistics.specs.Flats.{IsPushed, flat_of}
 use Rattle.parquet_statistics.specs.contracts.dyn_mutable.DynMutable as builders
 use Rattle.parquet_statistics.specs.declared.dyn_mutable.DynMutable.{DynMutable, Flat}
