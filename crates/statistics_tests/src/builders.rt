@@ -1,0 +1,108 @@
+//! Builders inside builders: their lengths, and what they refuse.
+use columns_core::{Boxed, Cell, DataType, Error, Field, IntegerType, Name, Seq};
+use parquet_statistics::{
+    DynMutable, DynMutableDictionary, DynMutableListArray, DynMutableMapArray,
+    DynMutableStructArray,
+};
+use std::alloc::Global;
+use std::test::*;
+
+fn field(alloc: Global, data_type: DataType) -> Result<Field, Error> {
+    Ok(Field {
+        name: Name::new(String::from_str(alloc, "item")?),
+        data_type,
+        is_nullable: true,
+    })
+}
+
+fn list_of(alloc: Global, data_type: DataType) -> Result<DataType, Error> {
+    let field = field(alloc, data_type)?;
+    Ok(DataType::List(Boxed::new(alloc, field)?))
+}
+
+fn map_of(alloc: Global, data_type: DataType) -> Result<DataType, Error> {
+    let field = field(alloc, data_type)?;
+    Ok(DataType::Map(Boxed::new(alloc, field)?, false))
+}
+
+fn dictionary_of(alloc: Global, data_type: DataType) -> Result<DataType, Error> {
+    let value = Boxed::new(alloc, data_type)?;
+    Ok(DataType::Dictionary(IntegerType::Int32, value, false))
+}
+
+/// A struct of one field.
+fn struct_of(alloc: Global, data_type: DataType) -> Result<DataType, Error> {
+    let field = field(alloc, data_type)?;
+    Ok(DataType::Struct(Seq::new(vec![in alloc; field]?)))
+}
+
+#[test]
+fn lengths_of_dictionaries_and_lists(rt: HostRuntime) -> Result<(), Fail> {
+    let alloc = rt.alloc();
+    let keyed = dictionary_of(alloc, DataType::Int64)?;
+    let mut entries = DynMutableDictionary::try_with_capacity(alloc, keyed, 2)?;
+    assert_eq!(rt; entries.len(), 0);
+    entries.inner.push_cell(&Cell::Int(5))?;
+    entries.inner.push_cell(&Cell::Null)?;
+    assert_eq!(rt; entries.len(), 2);
+    let numbers = list_of(alloc, DataType::Int32)?;
+    let mut items = DynMutableListArray::try_with_capacity(alloc, numbers, 1)?;
+    assert_eq!(rt; items.len(), 0);
+    items.inner.push_cell(&Cell::Int(7))?;
+    assert_eq!(rt; items.len(), 1);
+    Ok(())
+}
+
+#[test]
+fn lengths_of_maps_and_structs(rt: HostRuntime) -> Result<(), Fail> {
+    let alloc = rt.alloc();
+    // A map has one slot, whatever is in it.
+    let pairs = map_of(alloc, struct_of(alloc, DataType::Int32)?)?;
+    let map = DynMutableMapArray::try_with_capacity(alloc, pairs, 0)?;
+    assert_eq!(rt; map.len(), 1);
+    let one_field = struct_of(alloc, DataType::Int8)?;
+    let mut fields = DynMutableStructArray::try_with_capacity(alloc, one_field, 1)?;
+    assert_eq!(rt; fields.len(), 0);
+    for inner in fields.inner.iter_mut() {
+        inner.push_cell(&Cell::Int(-128))?;
+    }
+    assert_eq!(rt; fields.len(), 1);
+    Ok(())
+}
+
+#[test]
+fn types_that_are_refused(rt: HostRuntime) -> Result<(), Fail> {
+    let alloc = rt.alloc();
+    let none = DataType::Struct(Seq::new(Vec::new(alloc)));
+    let refused = DynMutable::try_with_capacity(alloc, none, 0);
+    assert!(rt; matches!(refused, Err(Error::InvalidArgumentError(_))));
+    let sizeless = list_of(alloc, DataType::FixedSizeBinary(0))?;
+    let refused = DynMutable::try_with_capacity(alloc, sizeless, 0);
+    assert!(rt; matches!(refused, Err(Error::NotYetImplemented(_))));
+    let refused = DynMutableMapArray::try_with_capacity(alloc, DataType::Int8, 0);
+    assert!(rt; matches!(refused, Err(Error::InvalidArgumentError(_))));
+    Ok(())
+}
+
+#[test]
+fn cells_go_to_flat_builders_alone(rt: HostRuntime) -> Result<(), Fail> {
+    let alloc = rt.alloc();
+    let mut flat = DynMutable::try_with_capacity(alloc, DataType::Int8, 1)?;
+    flat.push_cell(&Cell::Int(-128))?;
+    assert!(rt;
+        matches!(
+            flat.push_cell(&Cell::Int(128)),
+            Err(Error::InvalidArgumentError(_))
+        )
+    );
+    assert_eq!(rt; flat.len(), 1);
+    let numbers = list_of(alloc, DataType::Int8)?;
+    let mut list = DynMutable::try_with_capacity(alloc, numbers, 1)?;
+    assert!(rt;
+        matches!(
+            list.push_cell(&Cell::Int(1)),
+            Err(Error::InvalidArgumentError(_))
+        )
+    );
+    Ok(())
+}
