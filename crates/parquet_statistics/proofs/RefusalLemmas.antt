@@ -1,11 +1,11 @@
 -- What is refused of a part is refused of the whole.
 use Rattle.std.proofs.Common.{◌≡◌, refl, sym, subst, Bool, true, false, List, [], ◌∷◌, ◌++◌, inl, inr, arith}
-use Rattle.std.specs.Prelude.{Contains, Option, Some, None, IsTrue}
+use Rattle.std.specs.Prelude.{Contains, Option, Some, None}
 use Rattle.std.proofs.lemmas.List.Elements.{Contains-append_left, Contains-append_right}
-use Rattle.columns_core.specs.Causes.{Cause, cause_of, is_invalid_argument}
+use Rattle.columns_core.specs.Causes.{Cause, cause_of}
 use Rattle.columns_core.specs.declared.error.Error.{Error}
 use Rattle.columns_core.specs.declared.error.Error.TheVariants as error
-use Rattle.parquet_statistics.specs.Refusal.{Refusal, Argument, Caused, IsOneRefusal, IsRefusedBy, demand, told_refusal}
+use Rattle.parquet_statistics.specs.Refusal.{Refusal, Caused, IsOneRefusal, IsRefusedBy, demand, told_refusal}
 
 -- ---- of one of several
 
@@ -30,13 +30,6 @@ module _ (e : Error) where
   pub as_refused : (first second : List Refusal) → first ≡ second → IsRefusedBy first e → IsRefusedBy second e
   as_refused first second same refused = subst (λ refusals. IsRefusedBy refusals e) same refused
 
-  argument_told : (own : Error) → IsTrue (is_invalid_argument own) → told_refusal own ≡ Some Argument
-  argument_told (error.InvalidArgumentError part) h = refl
-  argument_told _ h = absurd cc
-
-  pub refused_argument : (refusals : List Refusal) → IsTrue (is_invalid_argument e) → Contains refusals Argument → IsRefusedBy refusals e
-  refused_argument refusals argument told = inr (subst (λ own. IsOneRefusal refusals own) (sym (argument_told e argument)) told)
-
   cause_told : (own : Error) (cause : Cause) → cause_of own ≡ Some cause → told_refusal own ≡ Some (Caused cause)
   cause_told (error.NotYetImplemented part) cause h = let same : _ ≡ cause = cc in λ i. Some (Caused (same i))
   cause_told (error.ExternalFormat part) cause h = let same : _ ≡ cause = cc in λ i. Some (Caused (same i))
@@ -57,10 +50,6 @@ first_refusal refusal others = (0, omega arith, refl)
 pub demand_met : (passes : Bool) (refusal : Refusal) → passes ≡ true → demand passes refusal ≡ []
 demand_met true refusal e = refl
 demand_met false refusal e = absurd cc
-
-pub by_test : (passes : Bool) (refusal : Refusal) → (passes ≡ true → ⊥) → Contains (demand passes refusal) refusal
-by_test false refusal fails = first_refusal refusal []
-by_test true refusal fails = absurd (fails refl)
 
 -- several parts have no refusal
 pub none_of_both : (first rest : List Refusal) → first ≡ [] → rest ≡ [] → first ++ rest ≡ []

@@ -15,7 +15,7 @@ use Rattle.columns_core.specs.DictionaryType.{entry_type, entry_type_at}
 use Rattle.columns_core.specs.Nested.{map_type, map_type_at, field_types, field_types_at, list_type_at}
 use Rattle.flat_builders.specs.Flat.{Flat, Sizeless, flatness, flatness_at}
 use Rattle.flat_builders.specs.Kept.{IsRefusedType}
-use Rattle.parquet_statistics.specs.BuiltTypes.{item_type, is_large_list, is_large_list_at, refusals_of_all, refusals_of_field, refusals_of_fields, type_refusals, type_refusals_at}
+use Rattle.parquet_statistics.specs.BuiltTypes.{item_type, is_large_list_at, refusals_of_all, refusals_of_field, refusals_of_fields, type_refusals, type_refusals_at}
 use Rattle.parquet_statistics.specs.Refusal.{Refusal, Caused, IsRefusedBy, demand}
 use Rattle.parquet_statistics.proofs.RefusalLemmas.{first_refusal, refused_cause}
 
@@ -79,9 +79,6 @@ module _ (field : Field) where
   pub item_of_list : item_type (ListType field) ≡ Some field.data_type
   item_of_list = ap (λ (layer : Layer). list_type_at (is_large_list_at layer) layer) list_out
 
-  pub list_is_small : is_large_list (ListType field) ≡ false
-  list_is_small = ap is_large_list_at list_out
-
   large_out : out-DataType (LargeList field) ≡ DataType-F.LargeList field
   unfolding Rattle.columns_core.specs.declared.data_type.DataType.TheViews.roll-DataType out-DataType denote.Hole.Carrier.roll
   large_out = ap out-DataType (rolls-LargeList field) ∙ out-roll-DataType (DataType-F.LargeList field)
@@ -91,9 +88,6 @@ module _ (field : Field) where
 
   pub item_of_large : item_type (LargeList field) ≡ Some field.data_type
   item_of_large = ap (λ (layer : Layer). list_type_at (is_large_list_at layer) layer) large_out
-
-  pub large_is_large : is_large_list (LargeList field) ≡ true
-  large_is_large = ap is_large_list_at large_out
 
   module _ (is_sorted : Bool) where
     map_out : out-DataType (Map field is_sorted) ≡ DataType-F.Map field is_sorted
