@@ -30,7 +30,7 @@ pub fn to_deserializer(
 ) -> Result<ArrayIter<ColumnPages>, Error>
     ensures { let lists = option_map (λ all. map (λ entries. entries.items) all.items) pages in
         let chunks = map (λ chunk. (chunk.0.now, chunk.1.items)) columns.entry.items in
-        spec.Opens (spec.IsLegalOpening chunk_size (length chunks) lists)
+        spec.OpensAsked (spec.IsLegalOpening chunk_size (length chunks) lists)
         (spec.opening_causes field.data_type lists chunks) iter_left
         (spec.field_left field.data_type chunk_size num_rows lists chunks) result }
 {
@@ -97,7 +97,7 @@ fn open_chunk(
     requires { IsChunkSize chunk_size }
     ensures { let entries = option_map (λ all. all.items) pages in
         let chunk : spec.ChunkBytes = (column.now, bytes.items) in
-        spec.Opens (spec.AreShaped entries) (spec.chunk_causes_for data_type entries chunk) iter_left
+        spec.OpensAsked (spec.AreShaped entries) (spec.chunk_causes_for data_type entries chunk) iter_left
         (spec.opened_left data_type chunk_size num_rows entries chunk) result }
 {
     check_column(column)?;
