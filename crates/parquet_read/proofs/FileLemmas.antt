@@ -1,6 +1,6 @@
 -- Groups of a file that are opened one after another, and their chunks.
 use Rattle.std.proofs.Common.{◌≡◌, ◌∙◌, ℕ, ◌+◌, ◌-◌, ◌<◌, ◌≤◌, Bool, true, false, List, [], ◌∷◌, refl, sym, ap, subst, inl, inr, arith}
-use Rattle.std.specs.Prelude.{sum_by, if◌then◌else◌, ◌==◌, Option, Some, None, IfNone, IfSome, Result, Ok, Err, OnOk, option_and_then, option_map}
+use Rattle.std.specs.Prelude.{min, sum_by, if◌then◌else◌, ◌==◌, Option, Some, None, IfNone, IfSome, Result, Ok, Err, OnOk, option_and_then, option_map}
 use Rattle.std.specs.Iterator.{MakesProgress}
 use Rattle.std.proofs.lemmas.List.Sums.{sum_by-cons}
 use Rattle.columns_core.specs.declared.array.Array.{Array}
@@ -17,7 +17,9 @@ use Rattle.parquet_meta.specs.declared.source.Source.{Ghosts}
 use Rattle.parquet_page.specs.declared.page.FilteredPage.{FilteredPage}
 use Rattle.flat_values.specs.ColumnLeft.{ColumnLeft}
 use Rattle.flat_values.specs.Conversion.{Conversion}
+use Rattle.flat_values.specs.NullChunks.{nulls_left}
 use Rattle.flat_values.specs.Pairs.{conversion}
+use Rattle.flat_binary.specs.Left.{Supply, converted_left}
 use Rattle.flat_binary.specs.Paged.{is_null_type}
 use Rattle.column_arrays.specs.Begun.{column_left}
 use Rattle.parquet_read.specs.Asked.{AskedField, GroupReading, PageLists, asked_column, asked_fields, asked_left, fields_left, left_in_file, rows_asked}
@@ -40,13 +42,17 @@ fresh_supply_lent chunk (Some entries) = refl
 
 fresh_column : (data_type : DataType) (size : Option ℕ) (rows : ℕ) (entries : Option (List FilteredPage)) (chunk : ChunkBytes) → IsFresh (opened_left data_type size rows entries chunk)
 fresh_column data_type size rows entries chunk = by (conversion chunk.0.descriptor.primitive_type data_type) where
-  by_null : (rule : Conversion) (b : Bool) → b ≡ is_null_type data_type → (column_left chunk.0.descriptor.primitive_type.physical_type data_type (size_within rows size) rows (chunk_supply chunk entries) rule).lent ≡ 0
-  by_null rule true is = rw sym is refl
-  by_null rule false is = rw sym is (fresh_supply_lent chunk entries)
+  supply : Supply
+  supply = chunk_supply chunk entries
 
-  by : (o : Option Conversion) → IsFresh (option_map (column_left chunk.0.descriptor.primitive_type.physical_type data_type (size_within rows size) rows (chunk_supply chunk entries)) o)
+  by_null : (rule : Conversion) (b : Bool)
+      → (if b then nulls_left (record { size = size_within rows size; rows = min rows supply.row_count }) else converted_left chunk.0.descriptor.primitive_type.physical_type data_type (size_within rows size) rows supply rule).lent ≡ 0
+  by_null rule true = refl
+  by_null rule false = fresh_supply_lent chunk entries
+
+  by : (o : Option Conversion) → IsFresh (option_map (column_left chunk.0.descriptor.primitive_type.physical_type data_type (size_within rows size) rows supply) o)
   by None = tt
-  by (Some rule) = by_null rule (is_null_type data_type) refl
+  by (Some rule) = by_null rule (is_null_type data_type)
 
 fresh_in_file : (data_type : DataType) (size : Option ℕ) (rows : ℕ) (entries : Option (List FilteredPage)) (column : ColumnChunkMetaData) (o : Option (List ℕ))
     → IsFresh (option_and_then (λ bytes. opened_left data_type size rows entries (column, bytes)) o)
