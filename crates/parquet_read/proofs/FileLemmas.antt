@@ -1,6 +1,6 @@
 -- Groups of a file that are opened one after another, and their chunks.
-use Rattle.std.proofs.Common.{◌≡◌, ◌∙◌, ℕ, zero, pos, suc, ◌+◌, ◌-◌, ◌^◌, ◌<◌, ◌≤◌, Bool, true, false, List, [], ◌∷◌, refl, sym, ap, subst, inl, inr, arith}
-use Rattle.std.specs.Prelude.{min, sum_by, if◌then◌else◌, Option, Some, None, IfSome, Result, Ok, Err, OnOk, option_and_then, option_map}
+use Rattle.std.proofs.Common.{◌≡◌, ◌∙◌, ℕ, ◌+◌, ◌-◌, ◌<◌, ◌≤◌, Bool, true, false, List, [], ◌∷◌, refl, sym, ap, subst, inl, inr, arith}
+use Rattle.std.specs.Prelude.{min, sum_by, if◌then◌else◌, ◌==◌, Option, Some, None, IfNone, IfSome, Result, Ok, Err, OnOk, option_and_then, option_map}
 use Rattle.std.specs.Iterator.{MakesProgress}
 use Rattle.std.proofs.lemmas.List.Sums.{sum_by-cons}
 use Rattle.columns_core.specs.declared.array.Array.{Array}
@@ -17,7 +17,9 @@ use Rattle.parquet_meta.specs.declared.source.Source.{Ghosts}
 use Rattle.parquet_page.specs.declared.page.FilteredPage.{FilteredPage}
 use Rattle.flat_values.specs.ColumnLeft.{ColumnLeft}
 use Rattle.flat_values.specs.Conversion.{Conversion}
+use Rattle.flat_values.specs.NullChunks.{nulls_left}
 use Rattle.flat_values.specs.Pairs.{conversion}
+use Rattle.flat_binary.specs.Left.{Supply, converted_left}
 use Rattle.flat_binary.specs.Paged.{is_null_type}
 use Rattle.column_arrays.specs.Begun.{column_left}
 use Rattle.parquet_read.specs.Asked.{AskedField, GroupReading, PageLists, asked_column, asked_fields, asked_left, fields_left, left_in_file, rows_asked}
@@ -26,7 +28,7 @@ use Rattle.parquet_read.specs.GroupReader.{NextGroup, groups_left}
 use Rattle.parquet_read.specs.Groups.{GroupsLeft, OpensGroup, front_lists, front_reading, length_of_front, rows_of_group}
 use Rattle.parquet_read.specs.Opening.{ChunkBytes, chunk_supply, opened_left, size_within}
 use Rattle.parquet_read.specs.RowGroup.{group_left, group_lent}
-use Rattle.parquet_read.specs.Rows.{limited}
+use Rattle.parquet_read.specs.Rows.{GivesNextRows, limited}
 use Rattle.parquet_read.specs.declared.file_reader.FileReader.{FileReader}
 use Rattle.parquet_read.specs.declared.row_group.RowGroupDeserializer.{RowGroupDeserializer}
 use Rattle.parquet_read.proofs.GroupLemmas.{nearer}
@@ -40,13 +42,17 @@ fresh_supply_lent chunk (Some entries) = refl
 
 fresh_column : (data_type : DataType) (size : Option ℕ) (rows : ℕ) (entries : Option (List FilteredPage)) (chunk : ChunkBytes) → IsFresh (opened_left data_type size rows entries chunk)
 fresh_column data_type size rows entries chunk = by (conversion chunk.0.descriptor.primitive_type data_type) where
-  by_null : (rule : Conversion) (b : Bool) → b ≡ is_null_type data_type → (column_left chunk.0.descriptor.primitive_type.physical_type data_type (size_within rows size) rows (chunk_supply chunk entries) rule).lent ≡ 0
-  by_null rule true is = rw sym is refl
-  by_null rule false is = rw sym is (fresh_supply_lent chunk entries)
+  supply : Supply
+  supply = chunk_supply chunk entries
 
-  by : (o : Option Conversion) → IsFresh (option_map (column_left chunk.0.descriptor.primitive_type.physical_type data_type (size_within rows size) rows (chunk_supply chunk entries)) o)
+  by_null : (rule : Conversion) (b : Bool)
+      → (if b then nulls_left (record { size = size_within rows size; rows = min rows supply.row_count }) else converted_left chunk.0.descriptor.primitive_type.physical_type data_type (size_within rows size) rows supply rule).lent ≡ 0
+  by_null rule true = refl
+  by_null rule false = fresh_supply_lent chunk entries
+
+  by : (o : Option Conversion) → IsFresh (option_map (column_left chunk.0.descriptor.primitive_type.physical_type data_type (size_within rows size) rows supply) o)
   by None = tt
-  by (Some rule) = by_null rule (is_null_type data_type) refl
+  by (Some rule) = by_null rule (is_null_type data_type)
 
 fresh_in_file : (data_type : DataType) (size : Option ℕ) (rows : ℕ) (entries : Option (List FilteredPage)) (column : ColumnChunkMetaData) (o : Option (List ℕ))
     → IsFresh (option_and_then (λ bytes. opened_left data_type size rows entries (column, bytes)) o)
@@ -136,6 +142,7 @@ module _ {S : Type 0} (g : Ghosts S) where
   record IsLastCall (last : FileReader S) (result : Option (Result (List Array) Error)) (new : FileReader S) (steps steps_now : ℕ) : Type 0 where
     keeps : Keeps g last.groups.source new.groups.source
     quiet : IfSome result (λ given. OnOk given (g.faults new.groups.source ≡ g.faults last.groups.source))
+    quiet_end : IfNone result (g.faults new.groups.source ≡ g.faults last.groups.source)
     taken : g.taken new.groups.source ≤ g.taken last.groups.source + length_of_next last
     lent : file_lent new ≡ raised (file_lent last) (steps_now - steps)
 
@@ -148,6 +155,7 @@ module _ {S : Type 0} (g : Ghosts S) where
     answers = answers;
     keeps = keeps_on (opened_keeps passed old last opens) call.keeps;
     quiet = subst (λ (n : ℕ). IfSome result (λ given. OnOk given (g.faults new.groups.source ≡ n))) (opened_quiet passed old last opens) call.quiet;
+    quiet_end = subst (λ (n : ℕ). IfNone result (g.faults new.groups.source ≡ n)) (opened_quiet passed old last opens) call.quiet_end;
     taken = omega (arith, call.taken, opened_taken passed old last opens, sum_by-cons length_of_next last passed);
     lent = over_own (g.told old.groups.source) (file_lent last ≡ file_lent old) (file_lent last ≡ file_lent old) (file_lent new ≡ raised (file_lent old) (steps_now - steps))
         (λ same again. call.lent ∙ ap (λ (n : ℕ). raised n (steps_now - steps)) same) (opened_lent passed old last opens) (opened_lent passed old last opens);
@@ -155,11 +163,12 @@ module _ {S : Type 0} (g : Ghosts S) where
 
   -- no group is opened
   replaced_call : (last : FileReader S) (found : Option (Result RowGroupDeserializer Error)) (result : Option (Result (List Array) Error)) (new : FileReader S) (steps steps_now : ℕ)
-      → ReplacesGroup g last found new → steps_now ≡ steps → pages_at_hand (opened_group found) ≡ 0 → IfSome result (λ given. OnOk given (g.faults new.groups.source ≡ g.faults last.groups.source))
+      → ReplacesGroup g last found new → steps_now ≡ steps → pages_at_hand (opened_group found) ≡ 0 → IfSome result (λ given. OnOk given (g.faults new.groups.source ≡ g.faults last.groups.source)) → IfNone result (g.faults new.groups.source ≡ g.faults last.groups.source)
       → IsLastCall last result new steps steps_now
-  replaced_call last found result new steps steps_now opens still none quiet = record {
+  replaced_call last found result new steps steps_now opens still none quiet quiet_end = record {
     keeps = opens.next.keeps;
     quiet = quiet;
+    quiet_end = quiet_end;
     taken = replaced_taken last found new opens;
     lent = omega (arith, replaced_lent last found new opens none, still);
   }
@@ -174,6 +183,7 @@ module _ {S : Type 0} (g : Ghosts S) where
       record {
         keeps = keeps_same last.groups.source new.groups.source source;
         quiet = all given (ap g.faults source);
+        quiet_end = tt;
         taken = omega (arith, ap g.taken source);
         lent = omega (arith, pages, before, after);
       } where
@@ -181,17 +191,28 @@ module _ {S : Type 0} (g : Ghosts S) where
         all (Ok chunk) same = same
         all (Err error) same = tt
 
+  -- a group of which a row is wanted answers
+  pub answers_at_hand : (old : FileReader S) (group : RowGroupDeserializer) (result : Option (Result (List Array) Error)) (group_now : RowGroupDeserializer) (steps steps_now : ℕ)
+      → old.group ≡ Some group → is_group_over old ≡ false → GivesNextRows (group_left group) result (group_left group_now) steps steps_now → AnswersHere g old result (record old { group = Some group_now }) steps steps_now
+  answers_at_hand old group None group_now steps steps_now at_hand wants gives =
+      let over : is_group_over old ≡ true = ap (λ (own : Option RowGroupDeserializer). rows_at_hand own == 0) at_hand ∙ ap (λ (n : ℕ). n == 0) gives.0 in
+      absurd (let bad : true ≡ false = sym over ∙ wants in cc)
+  answers_at_hand old group (Some (Ok chunk)) group_now steps steps_now at_hand wants gives =
+      record { group = group; group_now = group_now; at_hand = at_hand; gives = gives; left = refl }
+  answers_at_hand old group (Some (Err error)) group_now steps steps_now at_hand wants gives =
+      inl (record { group = group; group_now = group_now; at_hand = at_hand; gives = gives; left = refl })
+
   pub gives_rows : (passed : List (FileReader S)) (old last : FileReader S) (result : Option (Result (List Array) Error)) (new : FileReader S) (steps steps_now : ℕ)
       → OpensInTurn g passed old last → AnswersHere g last result new steps steps_now → GivesFileRows g old result new steps steps_now
   gives_rows passed old last None new steps steps_now opens answers =
-      behind_opened passed old last None new steps steps_now opens answers (replaced_call last None None new steps steps_now answers.0 answers.1 refl tt)
+      behind_opened passed old last None new steps steps_now opens answers (replaced_call last None None new steps steps_now answers.0 answers.1 refl tt (ap g.faults answers.0.next.untouched))
   gives_rows passed old last (Some (Ok chunk)) new steps steps_now opens answers =
       behind_opened passed old last (Some (Ok chunk)) new steps steps_now opens answers (at_hand_call last (Ok chunk) new steps steps_now answers)
   gives_rows passed old last (Some (Err error)) new steps steps_now opens (inl gives) =
       behind_opened passed old last (Some (Err error)) new steps steps_now opens (inl gives) (at_hand_call last (Err error) new steps steps_now gives)
   gives_rows passed old last (Some (Err error)) new steps steps_now opens (inr fails) =
       behind_opened passed old last (Some (Err error)) new steps steps_now opens (inr fails)
-      (replaced_call last (Some (Err error)) (Some (Err error)) new steps steps_now fails.0 fails.1 refl tt)
+      (replaced_call last (Some (Err error)) (Some (Err error)) new steps steps_now fails.0 fails.1 refl tt tt)
 
   -- ---- the calls come to an end
 

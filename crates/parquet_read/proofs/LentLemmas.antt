@@ -66,13 +66,13 @@ chunk_steps old given new steps steps_now gives =
 pub none_lent : {A : Type 0} (value : A → Option ColumnLeft) → ((x : A) → IsFresh (value x)) → (xs : List A) (columns : List ColumnLeft) → all_of value xs ≡ Some columns → all_lent columns ≡ 0
 unfolding all_of
 none_lent {A} value fresh [] columns is = let e : Some [] ≡ Some columns = is in let same : [] ≡ columns = cc in sym (ap all_lent same)
-none_lent {A} value fresh (x ∷ xs) columns is = first (value x) (fresh x) is where
+none_lent {A} value fresh (x ∷ xs) columns is = first (value x) (fresh x) (λ others all. none_lent value fresh xs others all) is where
   rest : (left : ColumnLeft) → left.lent ≡ 0 → (o : Option (List ColumnLeft)) → ((others : List ColumnLeft) → o ≡ Some others → all_lent others ≡ 0) → (o >>= λ others. Some (left ∷ others)) ≡ Some columns → all_lent columns ≡ 0
   rest left none None all e = absurd (let bad : None ≡ Some columns = e in cc)
   rest left none (Some others) all e =
       let same : left ∷ others ≡ columns = (let own : Some (left ∷ others) ≡ Some columns = e in cc) in
       omega (arith, ap all_lent (sym same), sum_by-cons (λ (l : ColumnLeft). l.lent) left others, none, all others refl)
 
-  first : (o : Option ColumnLeft) → IsFresh o → (o >>= λ left. all_of value xs >>= λ others. Some (left ∷ others)) ≡ Some columns → all_lent columns ≡ 0
-  first None own e = absurd (let bad : None ≡ Some columns = e in cc)
-  first (Some left) own e = rest left own (all_of value xs) (λ others all. none_lent value fresh xs others all) e
+  first : (o : Option ColumnLeft) → IsFresh o → ((others : List ColumnLeft) → all_of value xs ≡ Some others → all_lent others ≡ 0) → (o >>= λ left. all_of value xs >>= λ others. Some (left ∷ others)) ≡ Some columns → all_lent columns ≡ 0
+  first None own all e = absurd (let bad : None ≡ Some columns = e in cc)
+  first (Some left) own all e = rest left own (all_of value xs) all e

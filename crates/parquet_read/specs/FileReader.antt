@@ -1,5 +1,5 @@
 -- A reader of the rows of a file, group after group: what is left of the group at hand, and what it answers.
-use Rattle.std.specs.Prelude.{◌≡◌, ◌⊎◌, ℕ, suc, ◌+◌, ◌-◌, ◌≤◌, ◌==◌, Bool, true, if◌then◌else◌, List, [], ◌∷◌, sum_by, Option, None, Some, IfSome, Result, Ok, Err, OnOk}
+use Rattle.std.specs.Prelude.{◌≡◌, ◌⊎◌, ℕ, suc, ◌+◌, ◌-◌, ◌≤◌, ◌==◌, Bool, true, if◌then◌else◌, List, [], ◌∷◌, sum_by, Option, None, Some, IfNone, IfSome, Result, Ok, Err, OnOk}
 use Rattle.std.specs.Iterator.{Count, at_most}
 use Rattle.columns_core.specs.declared.array.Array.{Array}
 use Rattle.columns_core.specs.declared.error.Error.{Error}
@@ -82,7 +82,7 @@ AnswersHere g old (Some (Ok chunk)) new steps steps_now = GivesRowsAtHand old (O
 AnswersHere g old (Some (Err error)) new steps steps_now =
     GivesRowsAtHand old (Err error) new steps steps_now ⊎ (OpensNext g old (Some (Err error)) new × (steps_now ≡ steps))
 
--- Groups are opened while the one at hand is over, and then it answers.
+-- Groups are opened while the one at hand is over, and then it answers. What is said of the source and of the pages follows from these.
 pub record GivesFileRows {S : Type 0} (g : Ghosts S) (old : FileReader S) (result : Option (Result (List Array) Error)) (new : FileReader S) (steps steps_now : ℕ) : Type 0 where
   pub passed : List (FileReader S)
   pub last : FileReader S
@@ -90,6 +90,7 @@ pub record GivesFileRows {S : Type 0} (g : Ghosts S) (old : FileReader S) (resul
   pub answers : AnswersHere g last result new steps steps_now
   pub keeps : Keeps g old.groups.source new.groups.source
   pub quiet : IfSome result (λ given. OnOk given (g.faults new.groups.source ≡ g.faults old.groups.source))
+  pub quiet_end : IfNone result (g.faults new.groups.source ≡ g.faults old.groups.source)
   pub taken : g.taken new.groups.source ≤ g.taken old.groups.source + sum_by length_of_next (last ∷ passed)
   pub lent : IfSome (g.told old.groups.source) (λ file. file_lent new ≡ raised (file_lent old) (steps_now - steps))
 
@@ -104,9 +105,9 @@ abbrev pub most_answers : List RowGroupMetaData → Option (List PageLists) → 
 most_answers [] lists = 0
 most_answers (group ∷ groups) lists = suc (rows_of_group group (front_lists lists) + most_answers groups (lists_behind lists))
 
+-- no more answers than these come, chunks and errors together
 abbrev pub answers_left : {S : Type 0} → FileReader S → ℕ
 answers_left reader = rows_at_hand reader.group + most_answers reader.groups.groups.rest.items (lists_left reader.groups.lists)
 
--- no more chunks than these come, and errors
 abbrev pub answers_to_come : {S : Type 0} → FileReader S → Count
 answers_to_come reader = at_most (answers_left reader)

@@ -21,7 +21,7 @@ pub struct FileReader<S: Drop> {
 impl<S: Source + Drop> FileReader<S> {
     ghost use Rattle.std.specs.Prelude.{◌≡◌, ◌<◌, true, false, length, IfErr, IfOk, IsTrue, None, OnOk};
     ghost use Rattle.columns_core.specs.Causes.{is_invalid_argument};
-    ghost use Rattle.parquet_read.specs.FileReader.{AnswersHere, GivesFileAlone, GivesFileRows, OpensNext, file_lent, is_group_over};
+    ghost use Rattle.parquet_read.specs.FileReader.{AnswersHere, GivesFileAlone, GivesFileRows, OpensNext, file_lent, is_group_over, pages_at_hand as pages_at_hand_by};
     ghost use Rattle.parquet_read.specs.GroupReader.{all_lists, groups_left};
     ghost use Rattle.parquet_read.specs.Groups.{is_legal_file};
 
@@ -81,9 +81,16 @@ impl<S: Source + Drop> FileReader<S> {
     pub fn lent(&self) -> usize
         ensures { result ≡ file_lent self.now }
     {
+        self.lent.saturating_add(self.pages_at_hand())
+    }
+
+    /// Those of the group at hand.
+    fn pages_at_hand(&self) -> usize
+        ensures { result ≡ pages_at_hand_by self.now.group }
+    {
         match &self.group {
-            Some(group) => self.lent.saturating_add(group.lent()),
-            None => self.lent,
+            Some(group) => group.lent(),
+            None => 0,
         }
     }
 

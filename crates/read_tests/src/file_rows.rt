@@ -1,12 +1,14 @@
 //! The chunks of all groups of a file, under a chunk size and a limit.
+ghost use Rattle.std.specs.Prelude.{◌≡◌, ◌<◌};
+
 use crate::asked::{Located, field_of, numbers_of, opened, pages_of};
 use crate::files::{FIVE_ROWS, TWO_GROUPS};
 use columns_core::{DataType, Error, Part, Schema, Seq};
 use files_for_tests::Levels::Absent;
-use files_for_tests::Values::Bytes;
+use files_for_tests::Values::{Bytes, Numbers};
 use files_for_tests::{CHUNK, Chunk, Page, file_of};
 use parquet_base::Steps;
-use parquet_meta::{MemorySource, Source};
+use parquet_meta::{FailingSource, MemorySource, Source};
 use parquet_page::FilteredPage;
 use parquet_read::FileReader;
 use std::alloc::{AllocError, Global};
@@ -24,10 +26,21 @@ const SHORT_PAGE: &[&[Chunk<'static>]] = &[
     FIVE_ROWS,
 ];
 
-/// A file, the chunk size, the limit, and of each group the located pages of column `a`, which is read.
+/// The same groups, where the first one stands in another file.
+const ELSEWHERE: &[&[Chunk<'static>]] = &[
+    &[Chunk {
+        pages: &[Page(3, Absent, Numbers(&[1, 2, 3]))],
+        path: "x",
+        ..CHUNK
+    }],
+    FIVE_ROWS,
+];
+
+/// A file, the columns that are read, the chunk size, the limit, and of each group the located pages of its one column.
 #[derive(Clone, Copy)]
 struct Asked {
     groups: &'static [&'static [Chunk<'static>]],
+    names: &'static [&'static str],
     chunk_size: Option<usize>,
     limit: Option<usize>,
     pages: Option<&'static [&'static [Located]]>,
@@ -36,6 +49,7 @@ struct Asked {
 /// All rows of both groups.
 const ALL: Asked = Asked {
     groups: TWO_GROUPS,
+    names: &["a"],
     chunk_size: None,
     limit: None,
     pages: None,
@@ -54,14 +68,20 @@ fn lists_of(
     Ok(lists)
 }
 
+fn schema_of(alloc: Global, names: &[&str]) -> Result<Schema, AllocError> {
+    let mut fields = Vec::new(alloc);
+    for name in names {
+        fields.push(field_of(alloc, name, DataType::Int32)?)?;
+    }
+    Ok(Schema {
+        fields: Seq::new(fields),
+    })
+}
+
 fn reader_of(alloc: Global, asked: Asked) -> Result<FileReader<MemorySource>, Error> {
     let bytes = file_of(alloc, asked.groups)?;
     let (source, metadata) = opened(alloc, bytes.as_slice())?;
-    let mut fields = Vec::new(alloc);
-    fields.push(field_of(alloc, "a", DataType::Int32)?)?;
-    let schema = Schema {
-        fields: Seq::new(fields),
-    };
+    let schema = schema_of(alloc, asked.names)?;
     let groups = metadata.row_groups.into_vec();
     let pages = match asked.pages {
         Some(pages) => Some(lists_of(alloc, pages)?),
@@ -81,7 +101,7 @@ fn reader_of(alloc: Global, asked: Asked) -> Result<FileReader<MemorySource>, Er
 /// What is asked, and all chunks, each as the number of its rows and its numbers.
 type Given = (Asked, &'static [&'static [i128]]);
 
-const CHUNKS: [Given; 6] = [
+const CHUNKS: [Given; 7] = [
     (ALL, &[&[3, 1, 2, 3], &[5, 4, 5, 6, 7, 8]]),
     (
         Asked {
@@ -105,6 +125,7 @@ const CHUNKS: [Given; 6] = [
         },
         &[],
     ),
+    (Asked { names: &[], ..ALL }, &[]),
     // A page has a header of 45 bytes. Of the first group no row is selected: it is passed over, and gives no empty chunk.
     (
         Asked {
@@ -160,30 +181,61 @@ fn files_that_are_refused(rt: HostRuntime) -> Result<(), Fail> {
     Ok(())
 }
 
-const BEHIND_A_SHORT_PAGE: Asked = Asked {
-    groups: SHORT_PAGE,
-    limit: Some(5),
-    ..ALL
-};
+/// What is asked, the error of the first group, and the only chunk behind it.
+type Failing = (Asked, Error, &'static [i128]);
+
+const ERRORS: [Failing; 2] = [
+    // A group that is damaged counts whole against the limit, though none of its rows came.
+    (
+        Asked {
+            groups: SHORT_PAGE,
+            limit: Some(5),
+            ..ALL
+        },
+        Error::ExternalFormat(Part::Values),
+        &[2, 4, 5],
+    ),
+    // A group whose reading failed counts nothing.
+    (
+        Asked {
+            groups: ELSEWHERE,
+            limit: Some(5),
+            ..ALL
+        },
+        Error::NotYetImplemented(Part::Column),
+        &[5, 4, 5, 6, 7, 8],
+    ),
+];
 
 #[test]
-fn a_group_with_a_short_page(rt: HostRuntime) -> Result<(), Fail> {
+fn groups_behind_errors(rt: HostRuntime) -> Result<(), Fail> {
     let alloc = rt.alloc();
-    let mut reader = reader_of(alloc, BEHIND_A_SHORT_PAGE)?;
-    assert!(rt;
-        matches!(
-            reader.next(),
-            Some(Err(Error::ExternalFormat(Part::Values)))
-        )
-    );
-    // The first group counts whole against the limit, though none of its rows came.
+    for (asked, error, numbers) in ERRORS {
+        let mut reader = reader_of(alloc, asked)?;
+        assert_eq!(rt; reader.next().and_then(Result::err), Some(error));
+        let Some(chunk) = reader.next() else {
+            return Err(Fail::new(format_args!("no chunk, and not {numbers:?}")));
+        };
+        assert_eq!(rt; numbers_of(alloc, &chunk?)?.as_slice(), numbers);
+        assert!(rt; reader.next().is_none());
+    }
+    Ok(())
+}
+
+#[test]
+fn a_source_that_fails_once(rt: HostRuntime) -> Result<(), Fail> {
+    let alloc = rt.alloc();
+    let bytes = file_of(alloc, TWO_GROUPS)?;
+    let (_, metadata) = opened(alloc, bytes.as_slice())?;
+    let source = FailingSource::new(bytes, vec![in alloc; 1]?);
+    let schema = schema_of(alloc, &["a"])?;
+    let groups = metadata.row_groups.into_vec();
+    let mut reader = FileReader::new(alloc, source, groups, schema, None, Some(5), None)?;
+    assert!(rt; matches!(reader.next(), Some(Err(Error::Io))));
     let Some(chunk) = reader.next() else {
-        return Err(Fail::new(format_args!("no chunk behind the error")));
+        return Err(Fail::new(format_args!("no chunk behind the failure")));
     };
-    assert_eq!(rt;
-        numbers_of(alloc, &chunk?)?.as_slice(),
-        [2, 4, 5].as_slice()
-    );
+    assert_eq!(rt; chunk?.len(), 5);
     assert!(rt; reader.next().is_none());
     Ok(())
 }
