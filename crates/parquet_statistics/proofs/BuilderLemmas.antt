@@ -11,7 +11,8 @@ use Rattle.std.specs.List.{range_with_len}
 use Rattle.std.proofs.lemmas.List.{length-map}
 use Rattle.std.proofs.lemmas.List.FromFn.{length-range_with_len}
 use Rattle.std.specs.Option.{option_map_or}
-use Rattle.parquet_statistics.specs.BuiltTypes.{OfType, are_each, is_empty_at, is_empty_dictionary, is_empty_list, is_empty_map, is_empty_of, is_empty_over, is_empty_struct, is_same_type, item_type}
+use Rattle.flat_builders.specs.Flat.{flatness}
+use Rattle.parquet_statistics.specs.BuiltTypes.{OfType, are_each, is_empty_at, is_empty_dictionary, is_empty_list, is_empty_map, is_empty_of, is_empty_over, is_empty_struct, is_flat_shape, is_same_type, item_type}
 use Rattle.parquet_statistics.specs.Made.{Made, dictionary_made, freely_made, list_made, made_by, made_at, made_cells, made_dictionary, made_list, made_map, made_struct, map_made, struct_made}
 use Rattle.parquet_statistics.specs.declared.dyn_mutable.DynMutable.TheViews
 use Rattle.parquet_statistics.specs.declared.dyn_mutable.DynMutable.{DynMutable, Flat, Dictionary, List as ListBuilder, Map, Struct, fold-roll-DynMutable, out-DynMutable}
@@ -87,7 +88,7 @@ none_count (builder ∷ others) e = absurd cc
 abbrev empty : DynMutable → OfType
 empty builder data_type = is_empty_of data_type builder
 
-pub empty_flat : (builder : Shown) (data_type : DataType) → is_empty_of data_type (Flat builder) ≡ (is_same_type builder.0 data_type && length builder.1 == 0)
+pub empty_flat : (builder : Shown) (data_type : DataType) → is_empty_of data_type (Flat builder) ≡ (is_same_type builder.0 data_type && is_flat_shape (flatness data_type) && length builder.1 == 0)
 unfolding is_empty_of Rattle.parquet_statistics.specs.declared.dyn_mutable.DynMutable.TheViews.roll-DynMutable denote.Hole.Carrier.roll
 empty_flat builder data_type =
     ap (λ (own : DynMutable). empty own data_type) (rolls-Flat builder)

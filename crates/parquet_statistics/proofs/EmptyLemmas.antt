@@ -14,7 +14,8 @@ use Rattle.columns_core.specs.contracts.data_type.DataType.{the_row as data_type
 use Rattle.columns_core.specs.declared.data_type.DataType.{DataType}
 use Rattle.columns_core.specs.declared.data_type.Field.{Field}
 use Rattle.columns_core.specs.declared.error.Error.{Error}
-use Rattle.parquet_statistics.specs.BuiltTypes.{OfType, are_each, are_empty_of, is_empty_of, is_empty_over, is_same_type, item_type, refusals_of_fields, type_refusals}
+use Rattle.flat_builders.specs.Flat.{Flat as FlatShape, flatness}
+use Rattle.parquet_statistics.specs.BuiltTypes.{OfType, are_each, are_empty_of, is_empty_of, is_empty_over, is_flat_shape, is_same_type, item_type, refusals_of_fields, type_refusals}
 use Rattle.parquet_statistics.specs.Refusal.{Argument, IsRefusedBy}
 use Rattle.parquet_statistics.specs.declared.dyn_mutable.DynMutable.{DynMutable, Flat, Dictionary, List as ListBuilder, Map, Struct}
 use Rattle.parquet_statistics.specs.declared.dyn_mutable.DynMutableDictionary.{DynMutableDictionary}
@@ -33,8 +34,11 @@ over_so own inner named inside data_type e is empty =
     λ i. same_so own data_type e i && within i
 
 module _ (data_type : DataType) where
-  pub flat_so : (builder : Shown) → builder ≡ (data_type, []) → is_empty_of data_type (Flat builder) ≡ true
-  flat_so builder e = empty_flat builder data_type ∙ ap (λ (own : Shown). is_same_type own.0 data_type && length own.1 == 0) e ∙ (λ i. same_so data_type data_type refl i && true)
+  pub flat_so : (builder : Shown) → builder ≡ (data_type, []) → flatness data_type ≡ FlatShape → is_empty_of data_type (Flat builder) ≡ true
+  flat_so builder e flat =
+      empty_flat builder data_type
+      ∙ ap (λ (own : Shown). is_same_type own.0 data_type && is_flat_shape (flatness data_type) && length own.1 == 0) e
+      ∙ (λ i. same_so data_type data_type refl i && is_flat_shape (flat i) && true)
 
   module _ (inside : DataType) (inner : DynMutable) (empty : is_empty_of inside inner ≡ true) where
     pub dictionary_so : (entries : DynMutableDictionary) → entry_type data_type ≡ Some inside → (entries.data_type ≡ data_type) × (entries.inner.value ≡ inner) → is_empty_of data_type (Dictionary entries) ≡ true

@@ -10,6 +10,7 @@ use Rattle.columns_core.specs.contracts.data_type.DataType.{the_row as data_type
 use Rattle.columns_core.specs.declared.data_type.DataType.{DataType, fold-DataType, out-DataType}
 use Rattle.columns_core.specs.declared.data_type.DataType.TheOpen.{DataType-F, Field-F}
 use Rattle.columns_core.specs.declared.data_type.Field.{Field}
+use Rattle.flat_builders.specs.Flat.{Flatness, Flat, Sizeless, Nested, flatness}
 use Rattle.parquet_statistics.specs.Refusal.{Refusal, Argument, Caused, demand}
 use Rattle.parquet_statistics.specs.declared.dyn_mutable.DynMutable.{DynMutable, fold-DynMutable}
 use Rattle.parquet_statistics.specs.declared.dyn_mutable.DynMutable.TheOpen.{DynMutable-F, DynMutableDictionary-F, DynMutableListArray-F, DynMutableMapArray-F, DynMutableStructArray-F}
@@ -98,8 +99,13 @@ are_each (builder ∷ builders) (data_type ∷ types) = builder data_type && are
 are_each [] (data_type ∷ types) = false
 are_each (builder ∷ builders) [] = false
 
+abbrev pub is_flat_shape : Flatness → Bool
+is_flat_shape Flat = true
+is_flat_shape Sizeless = false
+is_flat_shape Nested = false
+
 abbrev pub is_empty_at : DynMutable-F OfType OfType OfType OfType OfType → OfType
-is_empty_at (DynMutable-F.Flat builder) data_type = is_same_type builder.0 data_type && length builder.1 == 0
+is_empty_at (DynMutable-F.Flat builder) data_type = is_same_type builder.0 data_type && is_flat_shape (flatness data_type) && length builder.1 == 0
 is_empty_at (DynMutable-F.Dictionary entries) data_type = entries data_type
 is_empty_at (DynMutable-F.List items) data_type = items data_type
 is_empty_at (DynMutable-F.Map pairs) data_type = pairs data_type
@@ -118,7 +124,7 @@ abbrev pub is_empty_struct : DynMutableStructArray-F OfType OfType OfType OfType
 is_empty_struct fields data_type =
     is_same_type fields.data_type data_type && option_map_or (are_each fields.inner.items) (field_types data_type) false
 
--- A builder of a type, with no cells: those inside it are empty builders of the types inside it.
+-- An empty builder of a type: nothing was appended to the flat builders inside it, and those inside it are empty builders of the types inside it.
 unfoldable pub is_empty_of : DataType → DynMutable → Bool
 is_empty_of data_type builder =
     fold-DynMutable OfType OfType OfType OfType OfType is_empty_at is_empty_dictionary is_empty_list is_empty_map is_empty_struct builder data_type

@@ -1,4 +1,4 @@
-//! Builders of no cells.
+//! Empty builders.
 ghost use Rattle.std.specs.Prelude.{◌≡◌, ◌⊎◌, [], is_some, true, IfOk, IfErr, OnOk};
 ghost use Rattle.columns_core.specs.Causes.{IsWantOfMemory};
 ghost use Rattle.columns_core.specs.DictionaryType.{entry_type};
@@ -17,7 +17,7 @@ use flat_builders::FlatMutable;
 use std::alloc::Global;
 
 impl DynMutable {
-    /// A builder of no cells, with memory for `capacity` cells in each flat builder.
+    /// An empty builder, with memory for `capacity` cells in each flat builder.
     ///
     /// `InvalidArgumentError` where a struct in the type has no fields; `NotYetImplemented` where bytes of a fixed size in it have no size.
     pub fn try_with_capacity(
@@ -34,7 +34,7 @@ impl DynMutable {
 }
 
 impl DynMutableDictionary {
-    /// A builder of no entries, with memory for `capacity` cells in each flat builder.
+    /// An empty builder, with memory for `capacity` cells in each flat builder.
     ///
     /// `InvalidArgumentError` where the type is no dictionary, or a struct in it has no fields; `NotYetImplemented` where bytes of a fixed
     /// size in it have no size.
@@ -60,7 +60,7 @@ impl DynMutableDictionary {
 }
 
 impl DynMutableListArray {
-    /// A builder of no items, with memory for `capacity` cells in each flat builder.
+    /// An empty builder, with memory for `capacity` cells in each flat builder.
     ///
     /// `InvalidArgumentError` where the type is no list, or a struct in it has no fields; `NotYetImplemented` where bytes of a fixed size
     /// in it have no size.
@@ -88,7 +88,7 @@ impl DynMutableListArray {
 }
 
 impl DynMutableMapArray {
-    /// A builder of no pairs, with memory for `capacity` cells in each flat builder.
+    /// An empty builder, with memory for `capacity` cells in each flat builder.
     ///
     /// `InvalidArgumentError` where the type is no map, or a struct in it has no fields; `NotYetImplemented` where bytes of a fixed size
     /// in it have no size.
@@ -112,7 +112,7 @@ impl DynMutableMapArray {
 }
 
 impl DynMutableStructArray {
-    /// Builders of no cells, one for each field, with memory for `capacity` cells in each flat builder.
+    /// An empty builder for each field, with memory for `capacity` cells in each flat builder.
     ///
     /// `InvalidArgumentError` where the type is no struct, or a struct in it has no fields; `NotYetImplemented` where bytes of a fixed
     /// size in it have no size.
@@ -136,7 +136,7 @@ impl DynMutableStructArray {
     }
 }
 
-/// A builder of no cells of a type.
+/// An empty builder of a type.
 #[cycle(builder_of)]
 fn builder_of(alloc: Global, data_type: &DataType, capacity: usize) -> Result<DynMutable, Error>
     ensures empty { IfOk result (λ builder. is_empty_of data_type.now builder ≡ true) }
@@ -168,7 +168,7 @@ fn builder_of(alloc: Global, data_type: &DataType, capacity: usize) -> Result<Dy
     }
 }
 
-/// Builders of no cells of the types of fields, of which there has to be one.
+/// Empty builders of the types of fields, of which there has to be one.
 #[cycle(builder_of)]
 fn builders_of(alloc: Global, fields: &[Field], capacity: usize) -> Result<Vec<DynMutable>, Error>
     ensures empty { IfOk result (λ builders. are_empty_of fields.now builders.items ≡ true) }

@@ -93,7 +93,7 @@ builder_of-returns-in_err-flat_builder-in_default t c =
 
 pub builder_of-returns-in_ok-flat_builder-in_default : goal.builder_of-returns-in_ok-flat_builder-in_default
 builder_of-returns-in_ok-flat_builder-in_default t c = record {
-  empty = flat_so c.args.data_type.now c.in_ok-flat_builder-in_default.field-0 c.in_ok-flat_builder-in_default.ensures.empty;
+  empty = flat_so c.args.data_type.now c.in_ok-flat_builder-in_default.field-0 c.in_ok-flat_builder-in_default.ensures.empty c.in_ok-flat_builder-in_default.ensures.ok;
   ok = flat_is_free c.args.data_type.now c.in_ok-flat_builder-in_default.ensures.ok;
   err = tt;
 }
