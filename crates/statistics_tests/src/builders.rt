@@ -85,9 +85,8 @@ fn types_that_are_refused(rt: HostRuntime) -> Result<(), Fail> {
 }
 
 #[test]
-fn cells_go_to_flat_builders_alone(rt: HostRuntime) -> Result<(), Fail> {
-    let alloc = rt.alloc();
-    let mut flat = DynMutable::try_with_capacity(alloc, DataType::Int8, 1)?;
+fn cells_of_a_flat_builder(rt: HostRuntime) -> Result<(), Fail> {
+    let mut flat = DynMutable::try_with_capacity(rt.alloc(), DataType::Int8, 1)?;
     flat.push_cell(&Cell::Int(-128))?;
     assert!(rt;
         matches!(
@@ -96,8 +95,13 @@ fn cells_go_to_flat_builders_alone(rt: HostRuntime) -> Result<(), Fail> {
         )
     );
     assert_eq!(rt; flat.len(), 1);
-    let numbers = list_of(alloc, DataType::Int8)?;
-    let mut list = DynMutable::try_with_capacity(alloc, numbers, 1)?;
+    Ok(())
+}
+
+#[test]
+fn a_list_takes_no_cell(rt: HostRuntime) -> Result<(), Fail> {
+    let numbers = list_of(rt.alloc(), DataType::Int8)?;
+    let mut list = DynMutable::try_with_capacity(rt.alloc(), numbers, 1)?;
     assert!(rt;
         matches!(
             list.push_cell(&Cell::Int(1)),
