@@ -110,15 +110,16 @@ fn chunks_of_groups(rt: HostRuntime) -> Result<(), Fail> {
     let alloc = rt.alloc();
     for (asked, rows, limit, chunks) in CHUNKS {
         let columns = columns_of(alloc, asked)?;
-        let mut group = RowGroupDeserializer::new(alloc, columns, rows, limit)?;
+        let group = RowGroupDeserializer::new(alloc, columns, rows, limit)?;
         assert_eq!(rt; group.num_rows(), rows);
-        for numbers in chunks {
-            let Some(chunk) = group.next() else {
-                return Err(Fail::new(format_args!("no chunk, and not {numbers:?}")));
-            };
-            assert_eq!(rt; numbers_of(alloc, &chunk?)?.as_slice(), *numbers);
+        let mut given = Vec::new(alloc);
+        for chunk in group {
+            given.push(numbers_of(alloc, &chunk?)?)?;
         }
-        assert!(rt; group.next().is_none());
+        assert_eq!(rt; given.len(), chunks.len());
+        for (numbers, chunk) in given.iter().zip(chunks.iter()) {
+            assert_eq!(rt; numbers.as_slice(), *chunk);
+        }
     }
     Ok(())
 }
