@@ -38,7 +38,8 @@ impl<O: Offset, I: Pages> Iter<O, I> {
         ensures ok { let fits = is_sized_text O.is_large data_type || is_binary O.is_large data_type in
             IfOk result (λ _. IsChunkSize chunk_size × IsTrue fits) }
         ensures err { let fits = is_sized_text O.is_large data_type || is_binary O.is_large data_type in
-            IfErr result (λ e. IsTrue (is_invalid_argument e) × (IsChunkSize chunk_size → IsTrue fits → ⊥)) }
+            IfErr result (λ e. IsTrue (is_invalid_argument e) ×
+            (IsChunkSize chunk_size → IsTrue fits → ⊥)) }
         ensures values { IfOk result (λ new.
             new.arrays.chunks.decoder.values.is_text ≡ is_sized_text O.is_large data_type) }
         ensures iter { IfOk result (λ new. new.arrays ≡ record {

@@ -109,7 +109,8 @@ pub(crate) fn take_values<O: Offset>(
 pub(crate) fn skip_values(place: BytePlace, bytes: &[u8], count: usize) -> BytePlace
     requires { IsAmongBytes bytes.now place }
     ensures rest { (is_text : Bool) (entries : Option (List Cell)) →
-        byte_left is_text entries bytes.now result ≡ drop count (byte_left is_text entries bytes.now place) }
+        byte_left is_text entries bytes.now result ≡
+        drop count (byte_left is_text entries bytes.now place) }
     ensures among { IsAmongBytes bytes.now result }
 {
     match place {

@@ -50,7 +50,8 @@ fn text_column<O: Offset>(
     requires fit { FitTogether offsets values.items validity }
     requires texts { AreTexts offsets values.items }
     ensures typed { column_type result ≡ data_type }
-    ensures cells { column_cells result ≡ map (cell_of Text) (joined_strings offsets values.items validity) }
+    ensures cells { column_cells result ≡
+        map (cell_of Text) (joined_strings offsets values.items validity) }
 {
     ByteColumn::Texts(Utf8Array::of_texts(data_type, offsets, values, validity))
 }

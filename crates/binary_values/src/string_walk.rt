@@ -23,7 +23,8 @@ pub trait StringWalk: Copy {
         requires { IsSome (places self.old bytes.now) }
         ensures value { result ≡ slice_get (unwrap_or (places self.old bytes.now) []) 0 }
         ensures within { IfSome result (λ place. place.0 + place.1 ≤ length bytes.now) }
-        ensures rest { places self.new bytes.now ≡ Some (drop 1 (unwrap_or (places self.old bytes.now) [])) };
+        ensures rest { places self.new bytes.now ≡
+            Some (drop 1 (unwrap_or (places self.old bytes.now) [])) };
 
     /// Appends the next strings as they stand, at most so many: the place behind them.
     fn take_strings<O: Offset>(

@@ -26,7 +26,8 @@ impl<O: Offset> Model for Strings<O> {
     ghost view = { λ strings. parts strings.offsets strings.values.items };
 
     ghost invariant = { λ strings.
-        AreOffsets strings.offsets × (last strings.offsets ≡ length strings.values.items) × (last strings.offsets ≤ O.greatest) };
+        AreOffsets strings.offsets × (last strings.offsets ≡ length strings.values.items) ×
+        (last strings.offsets ≤ O.greatest) };
 }
 
 impl<O: Offset> Strings<O> {

@@ -76,7 +76,8 @@ pub(crate) fn take_runs<O: Offset>(
     requires own { let is_own = AreOwnBytes O.greatest values.now.is_text decoded.old.is_text in
         is_own decoded.old.strings decoded.old.validity }
     requires enough { let entries = byte_entries values.now.is_text (option_copied dict) in
-        present_count (word_places word) ≤ length (byte_left values.now.is_text entries bytes.now place.old) }
+        present_count (word_places word) ≤
+        length (byte_left values.now.is_text entries bytes.now place.old) }
     ensures cells { let entries = byte_entries values.now.is_text (option_copied dict.entry) in
         let found = byte_left values.now.is_text entries bytes.now place.old in
         let before = marked_cells (byte_cell decoded.old.is_text) decoded.old.strings decoded.old.validity in

@@ -43,7 +43,8 @@ impl Delta {
         requires shaped { is_shaped (DataOf (data_content page.now)) ≡ true }
         ensures among { IfOk result (IsAmongStrings (value_bytes (data_content page.now))) }
         ensures strings { let bytes = value_bytes (data_content page.now) in
-            IfOk result (λ delta. string_places (data_content page.now) ≡ Some (strings_behind bytes delta)) }
+            IfOk result (λ delta. string_places (data_content page.now) ≡
+            Some (strings_behind bytes delta)) }
         ensures ok { OnOk result (joined_causes (data_content page.now) ≡ []) }
         ensures cause { IfErr result (λ e. IsOneOf (joined_causes (data_content page.now)) (cause_of e)) }
     {
@@ -54,7 +55,8 @@ impl Delta {
     /// Where the next string stands among the values of the page, which is that of `try_new`: its start and its length.
     pub fn next(&mut self, page: &DataPage<'_>) -> Option<(usize, usize)>
         requires { IsAmongStrings (value_bytes (data_content page.now)) self.old }
-        ensures place { result ≡ slice_get (strings_behind (value_bytes (data_content page.now)) self.old) 0 }
+        ensures place { result ≡
+            slice_get (strings_behind (value_bytes (data_content page.now)) self.old) 0 }
         ensures rest { let behind = strings_behind (value_bytes (data_content page.now)) in
             behind self.new ≡ drop 1 (behind self.old) }
         ensures among { IsAmongStrings (value_bytes (data_content page.now)) self.new }
@@ -68,7 +70,8 @@ impl Delta {
     /// How many strings are left.
     pub fn len(&self) -> usize
         ensures { let delta = self.now in
-            (bytes : List ℕ) → IsAmongStrings bytes delta → result ≡ length (strings_behind bytes delta) }
+            (bytes : List ℕ) → IsAmongStrings bytes delta →
+            result ≡ length (strings_behind bytes delta) }
     {
         match &self.strings {
             Some(strings) => strings.remaining(),

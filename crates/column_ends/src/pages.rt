@@ -60,7 +60,8 @@ fn values_of_pages<T: StoredEnd>(
     pages: &[PageIndex<T>],
 ) -> Result<Vec<PageIndex<Cell>>, Error>
     requires { fits_size rule ≡ true }
-    ensures pages { IfOk result (λ cells. each_by rule (map (stored_page T.stored) pages.now) ≡ cells.items) }
+    ensures pages { IfOk result (λ cells.
+        each_by rule (map (stored_page T.stored) pages.now) ≡ cells.items) }
     ensures ok { OnOk result (each_causes_by rule (map (stored_page T.stored) pages.now) ≡ []) }
     ensures cause { ComesOf result (each_causes_by rule (map (stored_page T.stored) pages.now)) }
 {

@@ -37,11 +37,13 @@ impl<O: Offset> BinaryArray<O> {
         validity: Option<Bitmap>,
     ) -> Result<Self, Error>
         ensures array { IfOk result (λ array.
-            array ≡ record { data_type = data_type; items = joined_strings offsets values.items validity }) }
+            array ≡
+            record { data_type = data_type; items = joined_strings offsets values.items validity }) }
         ensures ok { IfOk result (λ _. IsTrue (is_binary O.is_large data_type)
             × FitTogether offsets values.items validity) }
         ensures err { IfErr result (λ e. IsTrue (is_invalid_argument e)
-            × (IsTrue (is_binary O.is_large data_type) → FitTogether offsets values.items validity → ⊥)) }
+            × (IsTrue (is_binary O.is_large data_type) →
+            FitTogether offsets values.items validity → ⊥)) }
     {
         if stores::<O>(&data_type) && fit_together(&offsets, values.as_slice(), validity.as_ref()) {
             Ok(BinaryArray {

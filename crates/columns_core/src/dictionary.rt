@@ -233,7 +233,8 @@ fn masked_places<K: DictionaryKey>(
     validity: Option<Bitmap>,
 ) -> Result<PrimitiveArray<u64>, Error>
     requires { FitsMask keys.now validity }
-    ensures places { IfOk result (λ places. places.items ≡ key_places K.number (masked keys.now validity)) }
+    ensures places { IfOk result (λ places.
+        places.items ≡ key_places K.number (masked keys.now validity)) }
     ensures memory { IfErr result IsWantOfMemory }
 {
     let values = all_places_of(alloc, keys)?;

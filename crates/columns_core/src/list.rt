@@ -67,7 +67,8 @@ impl ListArray {
         values: Array,
         validity: Option<Bitmap>,
     ) -> Result<Self, Error>
-        ensures array { IfOk result (λ array. array ≡ as_column data_type (lists offsets values validity)) }
+        ensures array { IfOk result (λ array.
+            array ≡ as_column data_type (lists offsets values validity)) }
         ensures ok { IfOk result (λ _. AreLists (list_type O.is_large data_type) offsets values validity) }
         ensures err { IfErr result (λ e. IsWantOfMemory e
             ⊎ IsMisfit (AreLists (list_type O.is_large data_type) offsets values validity) e) }

@@ -25,7 +25,8 @@ pub trait Offset: Copy {
 
     /// The place so much further on, unless it passes the greatest.
     fn further(self, length: usize) -> Option<Self>
-        ensures some { IfSome result (λ sum. (value sum ≡ value self + length) × (value sum ≤ greatest)) }
+        ensures some { IfSome result (λ sum.
+            (value sum ≡ value self + length) × (value sum ≤ greatest)) }
         ensures none { IfNone result (greatest < value self + length) };
 
     fn is_large() -> bool

@@ -63,7 +63,8 @@ impl StructArray {
         values: Vec<Array>,
         validity: Option<Bitmap>,
     ) -> Result<Self, Error>
-        ensures array { IfOk result (λ array. array ≡ as_column data_type (structs values.items validity)) }
+        ensures array { IfOk result (λ array.
+            array ≡ as_column data_type (structs values.items validity)) }
         ensures ok { IfOk result (λ _. AreColumnsOf data_type values.items validity) }
         ensures err { IfErr result (IsMisfit (AreColumnsOf data_type values.items validity)) }
     {
@@ -151,7 +152,8 @@ fn have_field_types(data_type: &DataType, columns: &[Array]) -> bool
 }
 
 fn have_types_of(fields: &[Field], columns: &[Array]) -> bool
-    ensures { IsTrue result ↔ (map (λ field. field.data_type) fields.now ≡ map data_type_of columns.now) }
+    ensures { IsTrue result ↔
+        (map (λ field. field.data_type) fields.now ≡ map data_type_of columns.now) }
 {
     if fields.len() != columns.len() {
         return false;

@@ -40,12 +40,14 @@ impl<O: Offset> Utf8Array<O> {
         validity: Option<Bitmap>,
     ) -> Result<Self, Error>
         ensures array { IfOk result (λ array.
-            array ≡ record { data_type = data_type; items = joined_strings offsets values.items validity }) }
+            array ≡
+            record { data_type = data_type; items = joined_strings offsets values.items validity }) }
         ensures ok { IfOk result (λ _. IsTrue (is_sized_text O.is_large data_type)
             × FitTogether offsets values.items validity × AreTexts offsets values.items) }
         ensures err { IfErr result (λ e.
             (IsTrue (is_invalid_argument e)
-            × (IsTrue (is_sized_text O.is_large data_type) → FitTogether offsets values.items validity → ⊥))
+            × (IsTrue (is_sized_text O.is_large data_type) →
+            FitTogether offsets values.items validity → ⊥))
             ⊎ ((cause_of e ≡ Some OutOfSpec) × (AreTexts offsets values.items → ⊥))) }
     {
         match check::<O>(&data_type, &offsets, values.as_slice(), validity.as_ref()) {

@@ -64,7 +64,8 @@ pub fn next_dict<K: StoredKey, I: Pages, R: ReadDict, L: Ledger>(
     ensures cut { let shown = ⟦<DecodedKeys<K> as DecodedState>⟧.shown in
         OnNoError result (IsCut chunk_size (map shown items.new.items)) }
     ensures own { OnNoError result (All (λ item. IsMaskFor item.keys.items item.validity) items.new.items) }
-    ensures own_dict { let is_own = λ (entries : Array). data_type_of entries ≡ R.value_type read_dict.now in
+    ensures own_dict { let is_own = λ (entries : Array).
+        data_type_of entries ≡ R.value_type read_dict.now in
         OnNoError result (IfSome dict.new is_own) }
     ensures fewer { remaining.new ≤ remaining.old }
     ensures waits { let shown = ⟦<DecodedKeys<K> as DecodedState>⟧.shown in

@@ -103,7 +103,8 @@ impl<K: StoredKey, R: ReadDict + Drop, I: Pages> DictIter<K, R, I> {
         requires fits { IsDictionaryOf K.key_type (R.value_type read_dict) data_type }
         requires ordered { has_data_behind (I.to_come pages) ≡ true }
         ensures ok { IfOk result (λ _. IsChunkSize chunk_size) }
-        ensures err { IfErr result (λ e. IsTrue (is_invalid_argument e) × (IsChunkSize chunk_size → ⊥)) }
+        ensures err { IfErr result (λ e.
+            IsTrue (is_invalid_argument e) × (IsChunkSize chunk_size → ⊥)) }
         ensures iter { IfOk result (λ iter. iter ≡ record {
           data_type = data_type;
           chunks = record {

@@ -26,7 +26,8 @@ pub trait ReadDict {
     /// The entries of a dictionary page, all of them, in an array.
     fn read(&self, alloc: Global, page: &DictPage<'_>) -> Result<Array, Error>
         ensures typed { IfOk result (λ array. data_type_of array ≡ value_type self.now) }
-        ensures entries { IfOk result (λ array. entries self.now (dict_content page.now) ≡ Ok (cells array)) }
+        ensures entries { IfOk result (λ array.
+            entries self.now (dict_content page.now) ≡ Ok (cells array)) }
         ensures cause { let found = entries self.now (dict_content page.now) in
             ComesOf result (causes_in (refusal_of found)) };
 }

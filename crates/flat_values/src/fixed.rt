@@ -96,7 +96,8 @@ pub(crate) fn open_plain(
 ) -> Result<PlainFixed, Error>
     ensures values { IfOk result (λ place.
         plain_fixed size bytes.now count ≡ Some (map (bytes_in bytes.now) (fixed_values place bytes.now))) }
-    ensures among { IfOk result (λ place. IsSome (fixed_left place bytes.now) × (value_size place ≡ size)) }
+    ensures among { IfOk result (λ place.
+        IsSome (fixed_left place bytes.now) × (value_size place ≡ size)) }
     ensures counted { IfOk result (λ place. length (fixed_values place bytes.now) ≡ count) }
     ensures refused { IfErr result
         (λ e. (cause_of e ≡ Some ExternalFormat) × (plain_fixed size bytes.now count ≡ None)) }
@@ -133,7 +134,8 @@ fn take_plain(
 }
 
 fn entry_count(dict: Option<&FixedSizeBinary>) -> Option<usize>
-    ensures { result ≡ option_map (λ entries. length (map Bytes entries.items)) (option_copied dict.entry) }
+    ensures { result ≡
+        option_map (λ entries. length (map Bytes entries.items)) (option_copied dict.entry) }
 {
     Some(dict?.len())
 }
@@ -240,7 +242,8 @@ pub(crate) fn skip_values(place: FixedPlace, bytes: &[u8], count: usize) -> Fixe
     ensures rest { (rule : Conversion) (entries : Option (List Cell))
         → fixed_outcomes rule entries bytes.now result
         ≡ drop count (fixed_outcomes rule entries bytes.now place) }
-    ensures among { (size : ℕ) → IsAmongFixed size bytes.now place → IsAmongFixed size bytes.now result }
+    ensures among { (size : ℕ) →
+        IsAmongFixed size bytes.now place → IsAmongFixed size bytes.now result }
 {
     match place {
         FixedPlace::Plain(mut place) => {

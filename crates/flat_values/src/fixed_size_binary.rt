@@ -96,7 +96,8 @@ impl FixedSizeBinary {
 
     pub fn push(&mut self, value: &[u8]) -> Result<(), Error>
         requires { length value.now ≡ self.old.size }
-        ensures ok { OnOk result (self.new ≡ record self.old { items = self.old.items ++ value.now ∷ [] }) }
+        ensures ok { OnOk result (self.new ≡
+            record self.old { items = self.old.items ++ value.now ∷ [] }) }
         ensures err { IfErr result (λ e. IsWantOfMemory e × (self.new ≡ self.old)) }
     {
         self.values.extend_from_slice(value)?;
@@ -194,8 +195,8 @@ impl<'a> Pushable<&'a [u8]> for FixedSizeBinary {
     }
 
     fn push_null(&mut self) -> Result<(), Error>
-        ensures items { GrowsByBlank (λ item. item ≡ replicate self.old.size 0) self.old.items self.new.items
-            result }
+        ensures items { GrowsByBlank (λ item. item ≡ replicate self.old.size 0)
+            self.old.items self.new.items result }
         ensures shape { self.new.size ≡ self.old.size }
     {
         FixedSizeBinary::push_null(self)
@@ -214,7 +215,8 @@ impl<'a> Pushable<&'a [u8]> for FixedSizeBinary {
 
 /// The same bytes so many times, or none of them.
 fn repeat(values: &mut Vec<u8>, item: &[u8], additional: usize) -> Result<(), AllocError>
-    ensures ok { OnOk result (values.new.items ≡ values.old.items ++ concat (replicate additional item.now)) }
+    ensures ok { OnOk result (values.new.items ≡
+        values.old.items ++ concat (replicate additional item.now)) }
     ensures err { IfErr result (λ _. values.new.items ≡ values.old.items) }
 {
     let held = values.len();

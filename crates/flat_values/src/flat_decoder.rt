@@ -283,7 +283,8 @@ pub(crate) fn add_rows<V: Values>(
         (V.left values.now (option_copied dict.entry) bytes.now) place.old in
         let rows = given_along (filtered_steps walk.old (data_content page.now)) found in
         let shown = V.Decoded.shown in
-        OnOk result (map Given (shown decoded.new) ≡ map Given (shown decoded.old) ++ take additional rows) }
+        OnOk result (map Given (shown decoded.new) ≡
+        map Given (shown decoded.old) ++ take additional rows) }
     ensures left { let found = values_left (V.left values.now (option_copied dict.entry) bytes.now) in
         let before = given_along (filtered_steps walk.old (data_content page.now)) (found place.old) in
         let after = given_along (filtered_steps walk.new (data_content page.now)) (found place.new) in
@@ -342,7 +343,8 @@ pub fn extend_rows<V: Values>(
     ensures rows { let left = V.left values.now (option_copied dict.entry) in
         let rows = state_outcomes left (data_content page.now) state.old in
         let shown = V.Decoded.shown in
-        OnOk result (map Given (shown decoded.new) ≡ map Given (shown decoded.old) ++ take additional rows) }
+        OnOk result (map Given (shown decoded.new) ≡
+        map Given (shown decoded.old) ++ take additional rows) }
     ensures left { let left = V.left values.now (option_copied dict.entry) in
         let rows = state_outcomes left (data_content page.now) in
         OnOk result (rows state.new ≡ drop additional (rows state.old)) }

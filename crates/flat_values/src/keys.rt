@@ -27,7 +27,8 @@ pub struct KeyPlace {
 impl KeyPlace {
     /// Before the first of `count` keys, of which none is past the entries, where their number is told.
     pub fn open(bytes: &[u8], count: usize, entries: Option<usize>) -> Result<Self, Error>
-        ensures keys { IfOk result (λ place. dictionary_keys bytes.now count ≡ Some (keys place bytes.now)) }
+        ensures keys { IfOk result (λ place.
+            dictionary_keys bytes.now count ≡ Some (keys place bytes.now)) }
         ensures among { IfOk result (IsAmongKeys bytes.now) }
         ensures ok { OnOk result (option_map_or (key_causes None entries) (dictionary_keys bytes.now count)
             (ExternalFormat ∷ []) ≡ []) }
@@ -135,7 +136,8 @@ fn greater(one: u32, other: u32) -> u32
 
 /// The greatest of some keys, or 0.
 fn greatest(keys: &[u32]) -> u32
-    ensures { (entries : ℕ) → nat_le entries result ≡ (nat_le entries 0 || has_key_past entries keys.now) }
+    ensures { (entries : ℕ) →
+        nat_le entries result ≡ (nat_le entries 0 || has_key_past entries keys.now) }
 {
     let mut most = 0;
     for key in keys {

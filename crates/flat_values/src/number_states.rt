@@ -25,7 +25,8 @@ fn open_values<P: ParquetNativeType>(
     count: usize,
 ) -> Result<Option<PlainPlace>, Error>
     ensures values { (rule : Conversion)
-        → IfOk result (λ place. unless_none count (value_outcomes rule P.physical None Plain bytes.now count)
+        → IfOk result (λ place.
+        unless_none count (value_outcomes rule P.physical None Plain bytes.now count)
         ≡ Some (values_left (plain_outcomes rule P.physical bytes.now) place)) }
     ensures over { IfOk result (λ place.
         IfSome place (λ place. IsSome (plain_values P.physical bytes.now place.count))) }

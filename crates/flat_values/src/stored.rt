@@ -41,8 +41,8 @@ pub trait ParquetNativeType: Copy {
 
     /// Where some bytes are plain values, the bytes of each of them.
     fn plain_pieces(bytes: &[u8]) -> &[Self::Bytes]
-        ensures { (count : ℕ) (values : List Stored) → plain_values physical bytes.now count ≡ Some values
-            → map plain result.now ≡ values };
+        ensures { (count : ℕ) (values : List Stored) →
+            plain_values physical bytes.now count ≡ Some values → map plain result.now ≡ values };
 
     /// Before the first of so many values by packed deltas.
     fn open_deltas(bytes: &[u8], count: usize) -> Result<DeltaBinary, Unspelled>

@@ -93,7 +93,8 @@ pub fn unifiy_timestmap_unit(
     logical_type: Option<&PrimitiveLogicalType>,
     time_unit: TimeUnit,
 ) -> (i64, bool)
-    ensures value { (nat_abs result.0, result.1) ≡ unit_factor (option_copied logical_type.entry) time_unit }
+    ensures value { (nat_abs result.0, result.1) ≡
+        unit_factor (option_copied logical_type.entry) time_unit }
     ensures factor { IsFactor result.0 }
 {
     match logical_type {
@@ -103,7 +104,8 @@ pub fn unifiy_timestmap_unit(
 }
 
 fn factor_between(stored: ParquetTimeUnit, wanted: TimeUnit) -> (i64, bool)
-    ensures value { (nat_abs result.0, result.1) ≡ factor_of (stored_per_second stored) (per_second wanted) }
+    ensures value { (nat_abs result.0, result.1) ≡
+        factor_of (stored_per_second stored) (per_second wanted) }
     ensures factor { IsFactor result.0 }
 {
     match (stored, wanted) {

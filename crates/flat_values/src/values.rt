@@ -54,7 +54,8 @@ pub trait Values {
         requires own { is_own self.now decoded.old }
         ensures cells { let values = left self.now (option_copied dict.entry) bytes.now place.old in
             let shown = Self.Decoded.shown in
-            OnOk result (map Given (shown decoded.new) ≡ map Given (shown decoded.old) ++ take count values) }
+            OnOk result (map Given (shown decoded.new) ≡
+            map Given (shown decoded.old) ++ take count values) }
         ensures left { let values = left self.now (option_copied dict.entry) bytes.now in
             OnOk result (values place.new ≡ drop count (values place.old)) }
         ensures over { OnOk result (is_over self.now bytes.now place.new) }

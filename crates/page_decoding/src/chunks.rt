@@ -136,7 +136,8 @@ impl<I: Pages, D: Decoder + Drop> Chunks<I, D> {
     ) -> Result<Self, Error>
         requires takes { DataPagesAre (D.takes decoder) (I.to_come pages) }
         ensures ok { IfOk result (λ _. IsChunkSize chunk_size) }
-        ensures err { IfErr result (λ e. IsTrue (is_invalid_argument e) × (IsChunkSize chunk_size → ⊥)) }
+        ensures err { IfErr result (λ e.
+            IsTrue (is_invalid_argument e) × (IsChunkSize chunk_size → ⊥)) }
         ensures chunks { IfOk result (λ chunks.
             chunks ≡ record {
               pages = pages;
@@ -172,7 +173,8 @@ impl<I: Pages, D: Decoder + Drop> Chunks<I, D> {
             (still_wanted (D.entries self.new.decoder) (D.outcomes self.new.decoder) (standing_of self.new)
             (I.to_come self.new.pages) (I.causes self.new.pages)) result }
         ensures pages { ReadsChunks D.DecodedState.shown (D.entries self.old.decoder)
-            (D.outcomes self.old.decoder) (D.most_bytes self.old.decoder) self.old.size result (I.to_come self.old.pages)
+            (D.outcomes self.old.decoder) (D.most_bytes self.old.decoder) self.old.size result
+            (I.to_come self.old.pages)
             (I.to_come self.new.pages) (I.causes self.old.pages) (standing_of self.old)
             (standing_of self.new) steps.old steps.new (I.lent_count self.old.pages)
             (I.lent_count self.new.pages) }
@@ -217,7 +219,8 @@ impl<I: Pages, D: Decoder + Drop> Chunks<I, D> {
 
     /// The entries of the dictionary page, where one was lent and no error came.
     pub fn dictionary(&self) -> Option<&D::Dict>
-        ensures is { option_map (D.dict_shown self.now.decoder) (option_copied result) ≡ self.now.dictionary }
+        ensures is { option_map (D.dict_shown self.now.decoder) (option_copied result) ≡
+            self.now.dictionary }
         ensures own { IfSome (option_copied result) (D.is_own_dict self.now.decoder) }
     {
         self.dict.as_ref()

@@ -103,11 +103,13 @@ pub trait Decoder {
         ensures state { OnOk result (is_state self.now (option_copied dict.entry)
             (data_content page.now) state.new) }
         ensures left { OnOk result (left self.now (option_copied dict.entry) (data_content page.now) state.new
-            ≡ drop additional (left self.now (option_copied dict.entry) (data_content page.now) state.old)) }
+            ≡ drop additional
+            (left self.now (option_copied dict.entry) (data_content page.now) state.old)) }
         ensures own { OnOk result (is_own self.now decoded.new) }
         ensures cause { IfErr result (IsCausedByChunks (most_bytes self.now) None
             (map Given (Self.DecodedState.shown decoded.old)
-            ++ take additional (left self.now (option_copied dict.entry) (data_content page.now) state.old))) };
+            ++ take additional
+            (left self.now (option_copied dict.entry) (data_content page.now) state.old))) };
 
     fn deserialize_dict(&self, alloc: Global, page: &DictPage<'_>) -> Result<Self::Dict, Error>
         ensures entries { IfOk result (λ dict.

@@ -117,8 +117,10 @@ fn read_page<I: Pages, D: Decoder, L: Ledger>(
         (standing D.DecodedState.shown (D.dict_shown decoder.now) items.old.items remaining.old dict.old)
         (standing D.DecodedState.shown (D.dict_shown decoder.now) items.new.items remaining.new dict.new)) }
     ensures fewer { remaining.new ≤ remaining.old }
-    ensures end { IfOk result (λ more. more ≡ false → HasEnded (I.to_come iter.old) (I.causes iter.old)) }
-    ensures ended { IfOk result (λ more. more ≡ false → HasEnded (I.to_come iter.new) (I.causes iter.new)) }
+    ensures end { IfOk result (λ more.
+        more ≡ false → HasEnded (I.to_come iter.old) (I.causes iter.old)) }
+    ensures ended { IfOk result (λ more.
+        more ≡ false → HasEnded (I.to_come iter.new) (I.causes iter.new)) }
     ensures more { IfOk result (λ more. more ≡ true
         → length (I.to_come iter.new) < length (I.to_come iter.old)) }
     ensures cut { OnOk result (IsCut chunk_size (map D.DecodedState.shown items.new.items)) }

@@ -111,7 +111,8 @@ impl DeltaBinary {
 
     /// How many numbers are left.
     pub fn remaining(&self) -> usize
-        ensures { (bytes : List ℕ) → IfSome (delta_left self.now bytes) (λ values. result ≡ length values) }
+        ensures { (bytes : List ℕ) →
+            IfSome (delta_left self.now bytes) (λ values. result ≡ length values) }
     {
         match self.value {
             None => 0,

@@ -101,7 +101,8 @@ impl DeltaRun {
     /// The run of the first `n` deltas.
     pub(crate) fn front(&self, n: usize) -> DeltaRun
         requires { n ≤ self.now.count }
-        ensures deltas { (bytes : List ℕ) → run_deltas result bytes ≡ take n (run_deltas self.now bytes) }
+        ensures deltas { (bytes : List ℕ) →
+            run_deltas result bytes ≡ take n (run_deltas self.now bytes) }
         ensures lies { (bytes : List ℕ) → DeltasLieIn bytes self.now → DeltasLieIn bytes result }
         ensures count { result.count ≡ n }
     {
@@ -118,7 +119,8 @@ impl DeltaRun {
     pub(crate) fn behind(&self, n: usize) -> DeltaRun
         requires enough { n ≤ self.now.count }
         requires lies { (bytes : List ℕ) × (length bytes < 2 ^ 64) × DeltasLieIn bytes self.now }
-        ensures deltas { (bytes : List ℕ) → run_deltas result bytes ≡ drop n (run_deltas self.now bytes) }
+        ensures deltas { (bytes : List ℕ) →
+            run_deltas result bytes ≡ drop n (run_deltas self.now bytes) }
         ensures lies { (bytes : List ℕ) → DeltasLieIn bytes self.now → DeltasLieIn bytes result }
         ensures least { result.least ≡ self.now.least }
         ensures count { result.count ≡ self.now.count - n }

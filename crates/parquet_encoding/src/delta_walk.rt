@@ -149,7 +149,8 @@ impl DeltaWalk {
         ensures lies { DeltasLieIn bytes.now result }
         ensures some { 0 < result.count }
         ensures most { result.count ≤ limit }
-        ensures rest { deltas_left self.new bytes.now ≡ Some (drop result.count (deltas self.old bytes.now)) }
+        ensures rest { deltas_left self.new bytes.now ≡
+            Some (drop result.count (deltas self.old bytes.now)) }
     {
         self.open_next(bytes);
         let count = self.run.count.min(limit);

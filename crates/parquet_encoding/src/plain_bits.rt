@@ -24,7 +24,8 @@ impl PlainBits {
 
     /// Before the first of `count` truth values.
     pub fn try_new(bytes: &[u8], count: usize) -> Result<Self, Unspelled>
-        ensures values { IfOk result (λ decoder. bits_left decoder bytes.now ≡ plain_bits bytes.now count) }
+        ensures values { IfOk result (λ decoder.
+            bits_left decoder bytes.now ≡ plain_bits bytes.now count) }
         ensures exact { is_ok result ≡ is_some (plain_bits bytes.now count) }
         ensures counted { IfOk result (λ decoder. length (truths decoder bytes.now) ≡ count) }
     {
@@ -82,7 +83,8 @@ impl PlainBits {
 
     /// How many truth values are left.
     pub fn remaining(&self) -> usize
-        ensures { (bytes : List ℕ) → IfSome (bits_left self.now bytes) (λ values. result ≡ length values) }
+        ensures { (bytes : List ℕ) →
+            IfSome (bits_left self.now bytes) (λ values. result ≡ length values) }
     {
         self.left
     }

@@ -89,7 +89,8 @@ impl PlainFixed {
 
     /// How many values are left.
     pub fn remaining(&self) -> usize
-        ensures { (bytes : List ℕ) → IfSome (fixed_left self.now bytes) (λ values. result ≡ length values) }
+        ensures { (bytes : List ℕ) →
+            IfSome (fixed_left self.now bytes) (λ values. result ≡ length values) }
     {
         self.left
     }

@@ -150,7 +150,8 @@ impl HybridRun {
     #[inline(always)]
     pub(crate) fn front(&self, n: usize) -> HybridRun
         requires { n ≤ count_of self.now }
-        ensures values { (bytes : List ℕ) → run_values result bytes ≡ take n (run_values self.now bytes) }
+        ensures values { (bytes : List ℕ) →
+            run_values result bytes ≡ take n (run_values self.now bytes) }
         ensures lies { (bytes : List ℕ) → IsIn bytes self.now → IsIn bytes result }
         ensures count { count_of result ≡ n }
     {
@@ -173,7 +174,8 @@ impl HybridRun {
     pub(crate) fn behind(&self, n: usize) -> HybridRun
         requires enough { n ≤ count_of self.now }
         requires lies { (bytes : List ℕ) × (length bytes < 2 ^ 64) × IsIn bytes self.now }
-        ensures values { (bytes : List ℕ) → run_values result bytes ≡ drop n (run_values self.now bytes) }
+        ensures values { (bytes : List ℕ) →
+            run_values result bytes ≡ drop n (run_values self.now bytes) }
         ensures lies { (bytes : List ℕ) → IsIn bytes self.now → IsIn bytes result }
         ensures count { count_of result ≡ count_of self.now - n }
     {

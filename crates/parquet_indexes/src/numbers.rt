@@ -21,7 +21,8 @@ pub fn deserialize_i32(
     ensures told { IfOk result
         (AreTold (required_type PhysicalType.Int32 None) data_type (Index.Int32 indexes.now)) }
     ensures ok { OnOk result
-        (statistics_causes (required_type PhysicalType.Int32 None) data_type (Index.Int32 indexes.now) ≡ []) }
+        (statistics_causes (required_type PhysicalType.Int32 None) data_type
+        (Index.Int32 indexes.now) ≡ []) }
     ensures cause { ComesOf result
         (statistics_causes (required_type PhysicalType.Int32 None) data_type (Index.Int32 indexes.now)) }
 {
@@ -66,7 +67,8 @@ pub fn deserialize_i96(
     ensures told { IfOk result
         (AreTold (required_type PhysicalType.Int96 None) data_type (Index.Int96 indexes.now)) }
     ensures ok { OnOk result
-        (statistics_causes (required_type PhysicalType.Int96 None) data_type (Index.Int96 indexes.now) ≡ []) }
+        (statistics_causes (required_type PhysicalType.Int96 None) data_type
+        (Index.Int96 indexes.now) ≡ []) }
     ensures cause { ComesOf result
         (statistics_causes (required_type PhysicalType.Int96 None) data_type (Index.Int96 indexes.now)) }
 {

@@ -18,7 +18,8 @@ pub fn compute_page_row_intervals(
     locations: &[PageLocation],
     num_rows: usize,
 ) -> Result<Vec<Interval>, Error>
-    ensures rows { IfOk result (λ intervals. page_intervals locations.now num_rows ≡ Some intervals.items) }
+    ensures rows { IfOk result (λ intervals.
+        page_intervals locations.now num_rows ≡ Some intervals.items) }
     // Where the first page begins with row 0, the pages cover all rows, one behind another.
     ensures adjacent { IfOk result (λ intervals.
         begin_with_row_0 (Some intervals.items) ≡ true → AreAdjacent 0 intervals.items num_rows) }

@@ -202,7 +202,8 @@ pub(crate) fn decode_list_field<T: Decode<Global> + Drop>(
     kind: u8,
     compact: &mut Compact<'_>,
 ) -> Result<Seq<T>, Fault>
-    ensures { ReadsOr true (λ s. s) (by_rule in_struct (list_of T.rule) kind) compact.old result compact.new }
+    ensures { ReadsOr true (λ s. s)
+        (by_rule in_struct (list_of T.rule) kind) compact.old result compact.new }
 {
     decode_list(alloc, kind, compact)
 }

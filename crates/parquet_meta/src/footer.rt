@@ -327,7 +327,8 @@ fn decode_schema(
     kind: u8,
     compact: &mut Compact<'_>,
 ) -> Result<Seq<ColumnDescriptor>, Fault>
-    ensures { ReadsOr true (λ leaves. leaves) (by_rule in_struct schema kind) compact.old result compact.new }
+    ensures { ReadsOr true (λ leaves. leaves)
+        (by_rule in_struct schema kind) compact.old result compact.new }
 {
     let elements = decode_list_field::<SchemaElement>(alloc, kind, compact)?;
     read_leaves(alloc, elements.as_slice())

@@ -28,7 +28,8 @@ pub fn pages_are_read_from_their_own_bytes()
 /// Each page that a walk over a chunk finds is found by its place and size alone, and the dictionary page by any part that it begins.
 pub fn pages_are_found_by_their_places()
     ensures data { (chunk : List ℕ) → ArePagesReadAlone chunk }
-    ensures dictionary { (chunk : List ℕ) (page : DictionaryPage) → chunk_dictionary chunk ≡ Defined page
+    ensures dictionary { (chunk : List ℕ) (page : DictionaryPage) →
+        chunk_dictionary chunk ≡ Defined page
         → IsDictionaryReadAlone chunk page }
 {}
 

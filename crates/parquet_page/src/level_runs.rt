@@ -53,7 +53,8 @@ fn packed_front(run: &PackedRun, bytes: &[u8]) -> Stretch
     requires lies { LiesIn bytes.now run.now }
     ensures some { 0 < result.count }
     ensures within { result.count ≤ run.now.count }
-    ensures same { take result.count (packed_values run.now bytes.now) ≡ replicate result.count result.level }
+    ensures same { take result.count (packed_values run.now bytes.now) ≡
+        replicate result.count result.level }
     ensures ends { result.ends ≡ true → (result.count < run.now.count)
         × BeginsOtherwise result.level (drop result.count (packed_values run.now bytes.now)) }
 {
@@ -198,7 +199,8 @@ fn low_front(run: &HybridRun, bytes: &[u8], top: u32) -> usize
     requires some { 0 < count_of run.now }
     requires lies { IsIn bytes.now run.now }
     ensures within { result ≤ count_of run.now }
-    ensures low { list_all (λ level. nat_le level top) (take result (run_values run.now bytes.now)) ≡ true }
+    ensures low { list_all (λ level. nat_le level top)
+        (take result (run_values run.now bytes.now)) ≡ true }
     ensures high { result ≡ 0 →
         list_all (λ level. nat_le level top) (run_values run.now bytes.now) ≡ false }
 {

@@ -133,7 +133,8 @@ impl Located {
     pub(crate) fn body(&self, page: &LocatedPage) -> &[u8]
         requires { IsLocated self.now.parts self.now.entries.items page.now }
         ensures { result.now ≡ slice_range
-            (located_page_bytes self.now.parts self.now.entries.items page.now) page.now.found.body page.now.found.end }
+            (located_page_bytes self.now.parts self.now.entries.items page.now)
+            page.now.found.body page.now.found.end }
     {
         let part = match page.found.kind {
             PageKind::Data(_) => self.parts.part_of(self.entries.as_slice(), page.entry),

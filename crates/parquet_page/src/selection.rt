@@ -17,7 +17,8 @@ pub fn page_row_intervals(
     locations: &[PageLocation],
     num_rows: usize,
 ) -> Result<Vec<Interval>, Error>
-    ensures rows { IfOk result (λ intervals. page_intervals locations.now num_rows ≡ Some intervals.items) }
+    ensures rows { IfOk result (λ intervals.
+        page_intervals locations.now num_rows ≡ Some intervals.items) }
     ensures refusal { IfErr result (IsDamaged (page_intervals locations.now num_rows)) }
 {
     let mut intervals = Vec::new(alloc);

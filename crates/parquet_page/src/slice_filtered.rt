@@ -57,7 +57,8 @@ impl SliceFiltered {
 
     /// How many selected rows are still to come.
     pub fn len(&self) -> usize
-        ensures { (rows : List Rows) → IsWalkOver self.now rows → result ≡ length (rows_left self.now rows) }
+        ensures { (rows : List Rows) →
+            IsWalkOver self.now rows → result ≡ length (rows_left self.now rows) }
     {
         self.left
     }

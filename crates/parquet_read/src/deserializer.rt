@@ -54,7 +54,8 @@ fn check_request(
     chunk_size: Option<usize>,
     pages: &Option<Vec<Vec<FilteredPage>>>,
 ) -> Result<(), Error>
-    ensures ok { OnOk result (IsChunkSize chunk_size × IfSome pages.now (λ all. length all.items ≡ columns)) }
+    ensures ok { OnOk result (IsChunkSize chunk_size ×
+        IfSome pages.now (λ all. length all.items ≡ columns)) }
     ensures err { IfErr result (
         IsMisfit (IsChunkSize chunk_size × IfSome pages.now (λ all. length all.items ≡ columns))) }
 {

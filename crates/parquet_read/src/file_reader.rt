@@ -52,7 +52,8 @@ impl<S: Source + Drop> FileReader<S> {
         ensures begins { IfOk result (λ reader. (reader.group ≡ None) × (file_lent reader ≡ 0)) }
         ensures err { let fields = length schema.fields in
             IfErr result (λ e. IsTrue (is_invalid_argument e)
-            × (is_legal_file chunk_size (length row_groups.items) fields (all_lists page_indexes) ≡ false)) }
+            × (is_legal_file chunk_size (length row_groups.items) fields
+            (all_lists page_indexes) ≡ false)) }
     {
         let groups = RowGroupReader::new(
             alloc,

@@ -54,7 +54,8 @@ impl<S: Source + Drop> RowGroupReader<S> {
         ensures source { IfOk result (λ reader. reader.source ≡ source) }
         ensures err { let fields = length schema.fields in
             IfErr result (λ e. IsTrue (is_invalid_argument e)
-            × (is_legal_file chunk_size (length row_groups.items) fields (all_lists page_indexes) ≡ false)) }
+            × (is_legal_file chunk_size (length row_groups.items) fields
+            (all_lists page_indexes) ≡ false)) }
     {
         let fields = schema.fields.as_slice().len();
         let groups = row_groups.as_slice().len();

@@ -41,7 +41,8 @@ pub(crate) fn open_nulls(
     ensures ordered { IfOk result (λ nulls. has_data_behind (column_pages nulls) ≡ true) }
     ensures rows { IfOk result (λ nulls. rows_to_lend nulls ≡ selected_count pages.items) }
     ensures shaped { OnOk result (are_well_shaped pages.items ≡ true) }
-    ensures err { IfErr result (λ e. IsWantOfMemory e ⊎ IsMisfit (are_well_shaped pages.items ≡ true) e) }
+    ensures err { IfErr result (λ e.
+        IsWantOfMemory e ⊎ IsMisfit (are_well_shaped pages.items ≡ true) e) }
 {
     let bodies = no_bodies(alloc, &pages)?;
     let reader = IndexedPageReader::from_ranges(alloc, None, bodies, column, pages)?;

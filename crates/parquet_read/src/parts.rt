@@ -38,7 +38,8 @@ pub(crate) fn open_parts<S: Source>(
     requires shaped { are_well_shaped pages.items ≡ true }
     requires carried { type_causes data_type column.now ≡ [] }
     requires range { spec.are_in_range column.now pages.items ≡ true }
-    requires there { IfSome (S.told source.old) (λ file. place_end (chunk_range column.now) ≤ length file) }
+    requires there { IfSome (S.told source.old) (λ file.
+        place_end (chunk_range column.now) ≤ length file) }
     ensures keeps { Keeps S.Source source.old source.new }
     ensures quiet { OnOk result (S.faults source.new ≡ S.faults source.old) }
     ensures found { Finds iter_left

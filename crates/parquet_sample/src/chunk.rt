@@ -57,7 +57,8 @@ fn write_pages(
     requires few { rows < 2 ^ 31 }
     requires fits { first + rows < 2 ^ 63 }
     ensures written { Writes (chunk_bytes (sample_chunk column first rows)) out.old result out.new }
-    ensures told { IfOk result (λ told. told.items ≡ pages_facts column first rows (length out.old.items)) }
+    ensures told { IfOk result (λ told.
+        told.items ≡ pages_facts column first rows (length out.old.items)) }
 {
     let mut pages = Vec::new(alloc);
     let mut row = 0;
@@ -80,7 +81,8 @@ pub(crate) fn write_chunk(
 ) -> Result<ChunkFacts, AllocError>
     requires few { rows < 2 ^ 31 }
     requires fits { first + rows < 2 ^ 63 }
-    ensures adds { IfOk result (λ _. AddsChunks parts.old parts.new (sample_chunk column first rows ∷ [])) }
+    ensures adds { IfOk result (λ _.
+        AddsChunks parts.old parts.new (sample_chunk column first rows ∷ [])) }
     ensures told { IfOk result (λ told. told ≡ chunk_facts parts.old column first rows) }
 {
     let start = parts.chunks.len();

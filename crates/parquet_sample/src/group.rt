@@ -24,7 +24,8 @@ fn write_group(
     requires few { rows < 2 ^ 31 }
     requires fits { first + rows < 2 ^ 63 }
     ensures adds { IfOk result (λ _. AddsChunks parts.old parts.new (sample_group first rows).chunks) }
-    ensures told { IfOk result (λ told. told ≡ group_facts (starts_of parts.old) (sample_group first rows)) }
+    ensures told { IfOk result (λ told.
+        told ≡ group_facts (starts_of parts.old) (sample_group first rows)) }
 {
     let id = write_chunk(alloc, parts, SampleColumn::Id, first, rows)?;
     let qty = write_chunk(alloc, parts, SampleColumn::Qty, first, rows)?;

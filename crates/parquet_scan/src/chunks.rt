@@ -61,7 +61,8 @@ fn take_fronts(alloc: Global, columns: &mut [VecDeque<Array>]) -> Result<Vec<Arr
     ensures fronts { IfOk result (λ fronts.
         fronts.items ≡ flat_map (take 1) (map (λ column. column.items) columns.old)) }
     ensures rests { OnOk result (
-        map (λ column. column.items) columns.new ≡ map (drop 1) (map (λ column. column.items) columns.old)) }
+        map (λ column. column.items) columns.new ≡
+        map (drop 1) (map (λ column. column.items) columns.old)) }
     ensures memory { IfErr result IsWantOfMemory }
 {
     let mut fronts = Vec::new(alloc);
@@ -87,7 +88,8 @@ fn take_front(column: &mut VecDeque<Array>, fronts: &mut Vec<Array>) -> Result<(
 fn add_chunk(read: &mut RowsRead, arrays: Vec<Array>) -> Result<(), Error>
     requires { AreEqualLengths arrays.items }
     ensures chunks { OnOk result (read.new.chunks.items ≡ read.old.chunks.items ++ arrays.items ∷ []) }
-    ensures rows { OnOk result (read.new.rows ≡ min (read.old.rows + chunk_rows arrays.items) (2 ^ 64 - 1)) }
+    ensures rows { OnOk result (read.new.rows ≡
+        min (read.old.rows + chunk_rows arrays.items) (2 ^ 64 - 1)) }
     ensures own_rows { read.old.rows ≡ rows_in read.old.chunks.items →
         OnOk result (read.new.rows ≡ rows_in read.new.chunks.items) }
     ensures even { OnOk result (All AreEqualLengths read.old.chunks.items

@@ -37,7 +37,8 @@ pub(crate) fn decode_column<I: Pages, L: Ledger>(
     requires ordered { has_data_behind (I.to_come pages) ≡ true }
     requires size { IsChunkSize chunk_size }
     requires fresh { I.lent_count pages ≡ 0 }
-    ensures typed { IfOk result (λ found. All (λ array. data_type_of array ≡ data_type.now) found.0.items) }
+    ensures typed { IfOk result (λ found.
+        All (λ array. data_type_of array ≡ data_type.now) found.0.items) }
     ensures chunks { IfOk result (λ found.
         let rows = column_rows stored.now data_type.now (I.to_come pages) (I.causes pages) in
         map (λ array. map Given (cells array)) found.0.items ≡ cut chunk_size (take num_rows rows)) }

@@ -54,9 +54,11 @@ pub(crate) fn read_column<S: Source, L: Ledger>(
     ensures fails { IfErr result (
         IsReadFailure (S.told source.old) (S.faults source.old) (S.faults source.new) (λ bytes.
         causes_of_read by_pages chunk_size bytes group.now (rows_of runs.now) data_type.now column.now)) }
-    ensures typed { IfOk result (λ found. All (λ array. data_type_of array ≡ data_type.now) found.0.items) }
+    ensures typed { IfOk result (λ found.
+        All (λ array. data_type_of array ≡ data_type.now) found.0.items) }
     ensures counts { IfOk result (λ found.
-        map (λ array. length (cells array)) found.0.items ≡ map length (cut chunk_size (rows_of runs.now))) }
+        map (λ array. length (cells array)) found.0.items ≡
+        map length (cut chunk_size (rows_of runs.now))) }
     ensures cells { IfOk result (λ found. IfSome (S.told source.old) (λ bytes.
         map (λ array. map Some (cells array)) found.0.items
         ≡ map (map (column_cell by_pages bytes group.now data_type.now column.now))
@@ -104,13 +106,16 @@ fn read_first<S: Source, L: Ledger>(
     ensures keeps { Keeps S.Source source.old source.new }
     ensures quiet { OnOk result (S.faults source.new ≡ S.faults source.old) }
     ensures ok { OnOk result (IfSome (S.told source.old) (λ bytes.
-        causes_of_chunk false chunk_size bytes group.now (rows_of runs.now) data_type.now column.now ≡ [])) }
+        causes_of_chunk false chunk_size bytes group.now (rows_of runs.now)
+        data_type.now column.now ≡ [])) }
     ensures fails { IfErr result (
         IsReadFailure (S.told source.old) (S.faults source.old) (S.faults source.new) (λ bytes.
         causes_of_chunk false chunk_size bytes group.now (rows_of runs.now) data_type.now column.now)) }
-    ensures typed { IfOk result (λ found. All (λ array. data_type_of array ≡ data_type.now) found.0.items) }
+    ensures typed { IfOk result (λ found.
+        All (λ array. data_type_of array ≡ data_type.now) found.0.items) }
     ensures counts { IfOk result (λ found.
-        map (λ array. length (cells array)) found.0.items ≡ map length (cut chunk_size (rows_of runs.now))) }
+        map (λ array. length (cells array)) found.0.items ≡
+        map length (cut chunk_size (rows_of runs.now))) }
     ensures cells { IfOk result (λ found. IfSome (S.told source.old) (λ bytes.
         map (λ array. map (λ cell. Some (Value cell)) (cells array)) found.0.items
         ≡ map (map (walked_item bytes group.now data_type.now column.now))
@@ -119,7 +124,8 @@ fn read_first<S: Source, L: Ledger>(
     ensures pages { IfOk result (λ found. found.1 ≡ min (steps.new - steps.old) (2 ^ 64 - 1)) }
     ensures lent { OnOk result (RisesJustBy (S.told source.old) steps.old steps.new (λ bytes.
         lent_of_chunk false bytes group.now (rows_of runs.now) column.now)) }
-    ensures taken { OnOk result (S.taken source.new ≤ S.taken source.old + (chunk_range column.now).length) }
+    ensures taken { OnOk result (S.taken source.new ≤
+        S.taken source.old + (chunk_range column.now).length) }
 {
     let rows = count_of_rows(group, runs);
     let bytes = read_chunk(alloc, source, group, column)?;
@@ -147,7 +153,8 @@ fn read_nulls<S: Source>(
         IsReadFailure (S.told source.old) (S.faults source.old) (S.faults source.new) (λ bytes.
         chunk_read_causes bytes group.now column.now)) }
     ensures nulls { IfOk result (λ found. map column_of found.0.items
-        ≡ map (λ nulls. (type.Null, nulls)) (cut chunk_size (replicate (length (rows_of runs.now)) Null))) }
+        ≡ map (λ nulls. (type.Null, nulls))
+        (cut chunk_size (replicate (length (rows_of runs.now)) Null))) }
     ensures pages { IfOk result (λ found. found.1 ≡ 0) }
     ensures taken { S.taken source.new ≡ S.taken source.old }
 {

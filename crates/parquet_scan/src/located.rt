@@ -54,7 +54,8 @@ pub(crate) fn read_located<S: Source, L: Ledger>(
     ensures fails { IfErr result (
         IsReadFailure (S.told source.old) (S.faults source.old) (S.faults source.new) (λ bytes.
         causes_of_chunk true chunk_size bytes group.now (rows_of intervals.now) data_type.now column.now)) }
-    ensures typed { IfOk result (λ found. All (λ array. data_type_of array ≡ data_type.now) found.0.items) }
+    ensures typed { IfOk result (λ found.
+        All (λ array. data_type_of array ≡ data_type.now) found.0.items) }
     ensures counts { IfOk result (λ found.
         map (λ array. length (cells array)) found.0.items
         ≡ map length (cut chunk_size (rows_of intervals.now))) }
@@ -229,7 +230,8 @@ fn decode_located<L: Ledger>(
     requires size { IsChunkSize chunk_size }
     requires pair { pair_causes column.now.descriptor.primitive_type data_type.now ≡ [] }
     requires not_null { is_null_type data_type.now ≡ false }
-    ensures typed { IfOk result (λ found. All (λ array. data_type_of array ≡ data_type.now) found.0.items) }
+    ensures typed { IfOk result (λ found.
+        All (λ array. data_type_of array ≡ data_type.now) found.0.items) }
     ensures chunks { IfOk result (λ found.
         let stored = column.now.descriptor.primitive_type in
         let lent = located_parts stored (Some before.items) pages.items

@@ -66,7 +66,8 @@ fn read_field_locations<S: Source>(
         IsReadFailure (S.told source.old) (S.faults source.old) (S.faults source.new)
         (λ bytes. offset_causes_of_field bytes group.now field.now)) }
     ensures locations { IfOk result (λ list.
-        IfSome (S.told source.old) (λ bytes. field_locations bytes group.now field.now.name ≡ list.items)) }
+        IfSome (S.told source.old) (λ bytes. field_locations bytes group.now field.now.name ≡
+        list.items)) }
     ensures shaped { IfOk result (λ list. has_shape list.items group.now.num_rows ≡ true) }
     ensures taken { S.taken source.new ≤ S.taken source.old + location_bytes_of group.now field.now }
 {

@@ -50,7 +50,8 @@ pub(crate) fn read_groups<S: Source, L: Ledger>(
     ensures chunks { OnOk result (IfSome (S.told source.old) (λ bytes. shown read.new.chunks.items
         ≡ shown read.old.chunks.items ++ chunks_of_groups by_pages chunk_size fields.now bytes groups.now
         given.now)) }
-    ensures rows { OnOk result (read.new.rows ≡ min (read.old.rows + rows_of_groups given.now) (2 ^ 64 - 1)) }
+    ensures rows { OnOk result (read.new.rows ≡
+        min (read.old.rows + rows_of_groups given.now) (2 ^ 64 - 1)) }
     ensures own_rows { read.old.rows ≡ rows_in read.old.chunks.items →
         OnOk result (read.new.rows ≡ rows_in read.new.chunks.items) }
     ensures even { OnOk result (All AreEqualLengths read.old.chunks.items
@@ -244,9 +245,11 @@ fn read_field<S: Source, L: Ledger>(
         IsReadFailure (S.told source.old) (S.faults source.old) (S.faults source.new) (λ bytes.
         causes_of_column by_pages chunk_size bytes group.now (rows_of runs.now) field.now)) }
     ensures counts { IfOk result (λ found.
-        map (λ array. length (cells array)) found.0.items ≡ map length (cut chunk_size (rows_of runs.now))) }
+        map (λ array. length (cells array)) found.0.items ≡
+        map length (cut chunk_size (rows_of runs.now))) }
     ensures columns { IfOk result (λ found. IfSome (S.told source.old) (λ bytes.
-        map (λ rows. given_column by_pages bytes group.now rows field.now) (cut chunk_size (rows_of runs.now))
+        map (λ rows. given_column by_pages bytes group.now rows field.now)
+        (cut chunk_size (rows_of runs.now))
         ≡ map (λ array. Some (column_of array)) found.0.items)) }
     ensures ticks { steps.old ≤ steps.new }
     ensures pages { IfOk result (λ found. found.1 ≡ min (steps.new - steps.old) (2 ^ 64 - 1)) }

@@ -21,7 +21,8 @@ pub(crate) fn is_legal(
     chunk_size: Option<usize>,
     limit: Option<usize>,
 ) -> bool
-    ensures { result ≡ spec.is_legal (request_of schema.now bounds.now chunk_size limit) (Some metadata.now) }
+    ensures { result ≡
+        spec.is_legal (request_of schema.now bounds.now chunk_size limit) (Some metadata.now) }
 {
     let fields = schema.fields.as_slice();
     !fields.is_empty()

@@ -223,7 +223,8 @@ fn push_quoted_byte(text: &mut Vec<u8>, byte: u8) -> Result<(), AllocError>
 
 /// Writes bytes in hexadecimal digits at the end.
 fn push_bytes(text: &mut Vec<u8>, bytes: &[u8]) -> Result<(), AllocError>
-    ensures { OnOk result (text.new.items ≡ text.old.items ++ codes "0x" ++ flat_map hexadecimal bytes.now) }
+    ensures { OnOk result (text.new.items ≡
+        text.old.items ++ codes "0x" ++ flat_map hexadecimal bytes.now) }
 {
     text.extend_from_slice(b"0x")?;
     push_digits(text, bytes)

@@ -37,7 +37,8 @@ fn write_lines(block: &mut [u8], array: &PrimitiveArray<i32>, from: usize, to: u
     requires room { 12 * (to - from) ≤ length block.old }
     requires within { (from ≤ to) × (to ≤ length array.now.items) }
     ensures start { result ≤ length block.old }
-    ensures written { drop result block.new ≡ lines_of (column_of (Array.Int32 array.now)) from (to - from) }
+    ensures written { drop result block.new ≡
+        lines_of (column_of (Array.Int32 array.now)) from (to - from) }
 {
     let mut start = block.len();
     for row in (from..to).rev() {

@@ -47,5 +47,6 @@ pub fn sample_has_its_cells(_bytes: &[u8], _rows: u32, _seed: u32, _field: &Fiel
 /// source tells. So `run` answers them with the report, unless memory runs out or the sink fails.
 pub fn sample_commands_are_valid(_words: &[String])
     ensures { IfSome (command_in _words.now) (λ command. IfSome (sample_in _words.now) (λ asked.
-        AsksOfSample command.request → asked.0 ≤ most_rows → IsAlwaysGoodFor command.request _words.now)) }
+        AsksOfSample command.request → asked.0 ≤ most_rows →
+        IsAlwaysGoodFor command.request _words.now)) }
 {}

@@ -42,7 +42,8 @@ pub fn run<S: Source, K: Sink, L: Ledger>(
 
     // The words are refused exactly where they spell no command; only memory may run out before that.
     ensures words { result ≡ Status.Words → command_in words.now ≡ None }
-    ensures no_words { IfNone (command_in words.now) ((result ≡ Status.Words) ⊎ (result ≡ Status.Memory)) }
+    ensures no_words { IfNone (command_in words.now)
+        ((result ≡ Status.Words) ⊎ (result ≡ Status.Memory)) }
 
     // At the end the report on a scan that answers the request stands in the sink, and behind a failed write a front of it.
     ensures done { result ≡ Status.Done → IfSome (command_in words.now) (λ command.
@@ -78,7 +79,8 @@ pub fn run<S: Source, K: Sink, L: Ledger>(
         → (MayFail (K.faults out.old) (K.faults out.new) → ⊥)
         → (result ≡ Status.Done) ⊎ (result ≡ Status.Memory)) }
     ensures too_great { IfSome (sample_in words.now) (λ sample. IsTrue (is_too_great sample)
-        → IfSome (command_in words.now) (λ _. (result ≡ Status.Argument) ⊎ (result ≡ Status.Memory))) }
+        → IfSome (command_in words.now) (λ _.
+        (result ≡ Status.Argument) ⊎ (result ≡ Status.Memory))) }
 
     // Nothing is written but where all is read without a failure, and writing fails only where the sink may fail.
     ensures read { IsTrue (has_scanned result) → S.faults source.new ≡ S.faults source.old }
@@ -122,7 +124,8 @@ fn text_for<S: Source, L: Ledger>(
         (λ command file. steps.new ≤ steps.old + most_pages command.request file)) }
     ensures taken { let told = told_by words.now (S.told source.old) in
         IfOk result (λ _. OnFileOf (command_in words.now) told
-        (λ command file. S.taken source.new ≤ S.taken source.old + most_bytes_taken command.request file)) }
+        (λ command file. S.taken source.new ≤
+        S.taken source.old + most_bytes_taken command.request file)) }
     ensures refused { let told = told_by words.now (S.told source.old) in
         let before = faults_by words.now (S.faults source.old) in
         let now = faults_by words.now (S.faults source.new) in

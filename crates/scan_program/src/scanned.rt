@@ -101,7 +101,8 @@ fn scan_source<S: Source, L: Ledger>(
         + most_bytes_taken (command_of asked.now).request file)) }
     ensures refuses { let faults = S.faults in
         IfErr result
-        (RefusesScan (command_of asked.now).request (S.told source.old) (faults source.old) (faults source.new)) }
+        (RefusesScan (command_of asked.now).request (S.told source.old)
+        (faults source.old) (faults source.new)) }
 {
     scan_where(
         alloc,

@@ -83,7 +83,8 @@ fn push_cells(alloc: Global, text: &mut Vec<u8>, arrays: &[Array], row: usize) -
 
 /// Writes the line of a row at the end.
 fn push_row(alloc: Global, text: &mut Vec<u8>, arrays: &[Array], row: usize) -> Result<(), Error>
-    ensures line { OnOk result (text.new.items ≡ text.old.items ++ row_line (map column_of arrays.now) row) }
+    ensures line { OnOk result (text.new.items ≡
+        text.old.items ++ row_line (map column_of arrays.now) row) }
     ensures memory { IfErr result IsWantOfMemory }
 {
     push_cells(alloc, text, arrays, row)?;
@@ -163,8 +164,8 @@ fn push_summary(text: &mut Vec<u8>, rows: usize, pages: usize) -> Result<(), All
 }
 
 fn push_chunks(alloc: Global, text: &mut Vec<u8>, chunks: &[Chunk]) -> Result<(), Error>
-    ensures lines { OnOk result (text.new.items ≡ text.old.items ++ flat_map chunk_lines (map columns_of_chunk
-        chunks.now)) }
+    ensures lines { OnOk result (text.new.items ≡
+        text.old.items ++ flat_map chunk_lines (map columns_of_chunk chunks.now)) }
     ensures memory { IfErr result IsWantOfMemory }
 {
     for chunk in chunks {
