@@ -86,7 +86,7 @@ module _ {A : Type 0} (f : A → List ℕ) (old now : List (List ℕ)) (count le
 
 -- ---- lengths that were written, and joined bytes
 
-same-sum : {A : Type 0} (f : A → List ℕ) (numbers : List ℤ) (items : List A) → map nat_abs numbers ≡ map (λ item. length (f item)) items → sum_by nat_abs numbers ≡ sum_by length (map f items)
+pub same-sum : {A : Type 0} (f : A → List ℕ) (numbers : List ℤ) (items : List A) → map nat_abs numbers ≡ map (λ item. length (f item)) items → sum_by nat_abs numbers ≡ sum_by length (map f items)
 same-sum f [] [] e = refl
 same-sum f [] (item ∷ items) e = absurd cc
 same-sum f (number ∷ numbers) [] e = absurd cc

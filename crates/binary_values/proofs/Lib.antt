@@ -1,10 +1,11 @@
-pub mod StringLemmas
+pub mod DictLemmas
 pub mod EndLemmas
 pub mod JoinedLemmas
-pub mod RowLemmas
-pub mod WalkLemmas
-pub mod StoredLemmas
 pub mod NamedLemmas
-pub mod PlaceLemmas
 pub mod OwnLemmas
-pub mod DictLemmas
+pub mod PlaceLemmas
+pub mod RowLemmas
+pub mod ShortLemmas
+pub mod StoredLemmas
+pub mod StringLemmas
+pub mod WalkLemmas

@@ -5,3 +5,4 @@ pub mod ByteLeft
 pub mod OwnBytes
 pub mod ByteColumns
 pub mod Iterated
+pub mod ByteDecoder

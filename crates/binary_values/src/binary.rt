@@ -9,15 +9,24 @@ ghost use Rattle.flat_values.specs.ColumnLeft.{GivesArray};
 ghost use Rattle.parquet_meta.specs.declared.metadata.PhysicalType.TheVariants.{ByteArray};
 
 use crate::ByteValues;
+pub use crate::binary_decoder::BinaryDecoder;
 use crate::into_array::is_text_type;
 use columns_core::{Array, DataType, Error, Offset};
-use flat_values::{ColumnArrays, FlatIter};
+use flat_values::{ColumnArrays, FlatIter, FlatState};
 use parquet_base::Steps;
+use parquet_encoding::PlainBytes;
 use parquet_page::Pages;
 use std::alloc::Global;
 use std::iter::Iterator;
 use std::marker::Brand;
 use std::sync::ledger::{Blank, Ledger};
+
+/// A place among the selected rows of a page of plain byte strings, of a required column or an optional one; where none are selected, among all
+/// rows.
+pub type Required = FlatState<PlainBytes>;
+
+/// The same: a place heeds selected rows wherever a page has them.
+pub type FilteredRequired = Required;
 
 /// Arrays of texts or of byte strings.
 #[derive(Drop)]

@@ -2,10 +2,12 @@
 #![tactic(auto)]
 
 pub mod binary;
+mod binary_decoder;
 mod byte_place;
 mod byte_values;
 mod into_array;
 mod named;
+mod short_strings;
 mod string_rows;
 mod string_walk;
 mod strings;

@@ -8,12 +8,53 @@ ghost use Rattle.flat_values.specs.Decoded.{spread_over};
 ghost use Rattle.binary_values.specs.ByteStrings.{AreJudged, IsCausedByBytes, stored_outcomes};
 
 use crate::Strings;
+use crate::short_strings::{SHORT_BYTES, join_short, spread_items};
 use crate::string_walk::{StringWalk, are_judged, are_judged_from};
 use columns_core::{Error, Offset, Part};
 use parquet_page::ValidityWord;
 
+/// The most rows of a word.
+const WORD_ROWS: usize = 32;
+
+/// Room for as many short strings, the last of which is copied with what is behind it.
+const WORD_BYTES: usize = WORD_ROWS * SHORT_BYTES;
+
 /// Appends the next strings as they stand for the rows of a word that have one, and empty ones for the others.
 fn take_rows<W: StringWalk, O: Offset>(
+    walk: W,
+    bytes: &[u8],
+    strings: &mut Strings<O>,
+    word: ValidityWord,
+) -> Result<W, Error>
+    requires spelled { IsSome (W.places walk bytes.now) }
+    requires enough { present_count (word_places word) ≤ length (unwrap_or (W.places walk bytes.now) []) }
+    requires fits { sum_by length strings.old ≤ O.greatest }
+    ensures added { let places = unwrap_or (W.places walk bytes.now) [] in
+        let stored = map (bytes_in bytes.now) (take (present_count (word_places word)) places) in
+        OnOk result (strings.new ≡ strings.old ++ spread_over [] (word_places word) stored) }
+    ensures rest { let places = unwrap_or (W.places walk bytes.now) [] in
+        let count = present_count (word_places word) in
+        IfOk result (λ new. W.places new bytes.now ≡ Some (drop count places)) }
+    ensures fits { OnOk result (sum_by length strings.new ≤ O.greatest) }
+    ensures err { let places = unwrap_or (W.places walk bytes.now) [] in
+        let stored = map (bytes_in bytes.now) (take (present_count (word_places word)) places) in
+        let sum = sum_by length strings.old + sum_by length stored in
+        IfErr result (λ e. IsWantOfMemory e ⊎ ((e ≡ Error.Overflow) × (O.greatest < sum))) }
+{
+    let mut block = [0; WORD_BYTES];
+    let mut lengths = [0; WORD_ROWS];
+    match join_short(walk, bytes, &mut block, &mut lengths[..word.present()]) {
+        None => take_each_row(walk, bytes, strings, word),
+        Some((behind, end)) => {
+            spread_items(&mut lengths[..word.rows], word, 0);
+            strings.push_joined(&block[..end], &lengths[..word.rows])?;
+            Ok(behind)
+        }
+    }
+}
+
+/// The same row by row.
+fn take_each_row<W: StringWalk, O: Offset>(
     walk: W,
     bytes: &[u8],
     strings: &mut Strings<O>,

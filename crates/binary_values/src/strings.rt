@@ -10,6 +10,9 @@ use columns_core::{Error, Offset, Offsets};
 use std::alloc::Global;
 use std::marker::Model;
 
+/// Where texts have so many bytes, to test where each begins takes less than to test whether all bytes are ASCII.
+const LONG_TEXT: usize = 32;
+
 /// Byte strings that are appended one by one. Contracts see their list.
 #[derive(Drop)]
 pub struct Strings<O: Offset> {
@@ -69,6 +72,7 @@ impl<O: Offset> Strings<O> {
     }
 
     /// One string more, unless the bytes of all pass the offset type.
+    #[inline(always)]
     pub fn push(&mut self, value: &[u8]) -> Result<(), Error>
         ensures ok { OnOk result (self.new ≡ self.old ++ value.now ∷ []) }
         ensures fits { OnOk result (sum_by length self.old + length value.now ≤ O.greatest) }
@@ -117,6 +121,7 @@ impl<O: Offset> Strings<O> {
     }
 
     /// One empty string more.
+    #[inline(always)]
     pub(crate) fn push_end(&mut self) -> Result<(), Error>
         ensures ok { OnOk result (self.new ≡ self.old ++ [] ∷ []) }
         ensures memory { IfErr result IsWantOfMemory }
@@ -192,7 +197,7 @@ fn begin_at_characters<O: Offset>(
     ensures { IsTrue result ↔ BeginAtCharacters (rebased from offsets.now) text.now }
 {
     let count = offsets.len_proxy();
-    if text.is_ascii() {
+    if text.len() / LONG_TEXT <= count - from && text.is_ascii() {
         return true;
     }
     for i in from..count {

@@ -5,3 +5,5 @@
 mod columns;
 #[cfg(test)]
 mod keys;
+#[cfg(test)]
+mod places;

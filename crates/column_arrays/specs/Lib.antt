@@ -3,3 +3,4 @@ pub mod Layers
 pub mod Begun
 pub mod Cuts
 pub mod JoinedStrings
+pub mod LowBits

@@ -1,12 +1,9 @@
-//! Columns of byte strings that tell their own lengths: iterators, the decoder of their pages, and places in them.
+//! Columns of byte strings: iterators, the decoder of their pages, and places in them.
 pub use crate::delta::{Delta, FilteredDelta};
-pub use binary_values::binary::Iter;
-use binary_values::{BytePlace, ByteValues};
+use binary_values::BytePlace;
+pub use binary_values::binary::{BinaryDecoder, FilteredRequired, Iter, Required};
 pub use dictionary_values::binary::DictIter;
-use flat_values::{FlatDecoder, FlatState, KeyPlace};
-
-/// Decodes pages of byte strings whose places are told by an offset type.
-pub type BinaryDecoder<O> = FlatDecoder<ByteValues<O>>;
+use flat_values::{FlatState, KeyPlace};
 
 /// A place in a page of byte strings, whatever their encoding is.
 pub type State = FlatState<BytePlace>;

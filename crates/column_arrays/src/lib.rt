@@ -20,6 +20,7 @@ mod string_iter;
 mod strings;
 
 pub use array_iter::ArrayIter;
+pub use dictionary_values::dictionary;
 pub use entry_reader::EntryReader;
 pub use entry_rule::{EntryRule, Int32Entry, Int64Entry};
 pub use flat_binary::{ColumnArrays, carries};

@@ -1,5 +1,5 @@
 //! Columns of truth values and of numbers, by the type that is asked for.
-ghost use Rattle.std.specs.Prelude.{◌≡◌, IfSome, None};
+ghost use Rattle.std.specs.Prelude.{◌≡◌, true, IfSome, None, Some, option_map};
 ghost use Rattle.std.specs.Option.{option_copied};
 ghost use Rattle.columns_core.specs.declared.data_type.DataType.{out-DataType};
 ghost use Rattle.page_decoding.specs.Queue.{IsChunkSize};
@@ -10,6 +10,7 @@ ghost use Rattle.flat_values.specs.Units.{unit_factor};
 ghost use Rattle.flat_binary.specs.Left.{converted_left, supply_of};
 ghost use Rattle.column_arrays.specs.Begun.{BeginsColumn, IsRefusedPair};
 ghost use Rattle.column_arrays.specs.Layers.{array_left};
+ghost use Rattle.column_arrays.specs.LowBits.{takes_low_bits};
 
 use crate::array_iter::ArrayIter;
 use crate::begin::values_iter;
@@ -48,7 +49,8 @@ pub(crate) fn boolean_iter<I: Pages>(
     }
 }
 
-pub(crate) fn int32_iter<I: Pages>(
+/// The low bits of numbers of 32 bits.
+fn low_int32_iter<I: Pages>(
     alloc: Global,
     pages: I,
     data_type: DataType,
@@ -57,18 +59,13 @@ pub(crate) fn int32_iter<I: Pages>(
 ) -> Result<ArrayIter<I>, Error>
     requires typed { DataPagesAre (λ page. page.type.physical_type ≡ Int32) (I.to_come pages) }
     requires size { IsChunkSize chunk_size }
+    requires low { option_map takes_low_bits (from_int32 (out-DataType data_type)) ≡ Some true }
     ensures begins { IfSome (from_int32 (out-DataType data_type)) (λ rule.
         let supply = supply_of I.to_come I.causes I.row_count I.lent_count pages in
         let left = array_left I.to_come I.causes I.row_count I.lent_count in
         BeginsColumn left (converted_left Int32 data_type chunk_size num_rows supply rule) result) }
-    ensures refused { from_int32 (out-DataType data_type) ≡ None → IsRefusedPair result }
 {
     match &data_type {
-        DataType::Int32 | DataType::Date32 | DataType::Time32(_) => {
-            let values = NumberValues::<i32, i32, Keep>::new(Keep);
-            let arrays = values_iter(alloc, pages, values, data_type, chunk_size, num_rows)?;
-            Ok(ArrayIter::Int32(Int32Iter::Int32(arrays)))
-        }
         DataType::UInt8 => {
             let values = NumberValues::<i32, u8, Narrow>::new(Narrow);
             let arrays = values_iter(alloc, pages, values, data_type, chunk_size, num_rows)?;
@@ -94,6 +91,33 @@ pub(crate) fn int32_iter<I: Pages>(
             let arrays = values_iter(alloc, pages, values, data_type, chunk_size, num_rows)?;
             Ok(ArrayIter::Int32(Int32Iter::Int16(arrays)))
         }
+        _ => unreachable!(),
+    }
+}
+
+pub(crate) fn int32_iter<I: Pages>(
+    alloc: Global,
+    pages: I,
+    data_type: DataType,
+    chunk_size: Option<usize>,
+    num_rows: usize,
+) -> Result<ArrayIter<I>, Error>
+    requires typed { DataPagesAre (λ page. page.type.physical_type ≡ Int32) (I.to_come pages) }
+    requires size { IsChunkSize chunk_size }
+    ensures begins { IfSome (from_int32 (out-DataType data_type)) (λ rule.
+        let supply = supply_of I.to_come I.causes I.row_count I.lent_count pages in
+        let left = array_left I.to_come I.causes I.row_count I.lent_count in
+        BeginsColumn left (converted_left Int32 data_type chunk_size num_rows supply rule) result) }
+    ensures refused { from_int32 (out-DataType data_type) ≡ None → IsRefusedPair result }
+{
+    match &data_type {
+        DataType::Int32 | DataType::Date32 | DataType::Time32(_) => {
+            let values = NumberValues::<i32, i32, Keep>::new(Keep);
+            let arrays = values_iter(alloc, pages, values, data_type, chunk_size, num_rows)?;
+            Ok(ArrayIter::Int32(Int32Iter::Int32(arrays)))
+        }
+        DataType::UInt8 | DataType::UInt16 | DataType::UInt32 | DataType::Int8 | DataType::Int16 =>
+            low_int32_iter(alloc, pages, data_type, chunk_size, num_rows),
         DataType::Date64 => {
             let values = NumberValues::<i32, i64, DaysToMillis>::new(DaysToMillis);
             let arrays = values_iter(alloc, pages, values, data_type, chunk_size, num_rows)?;
@@ -105,6 +129,37 @@ pub(crate) fn int32_iter<I: Pages>(
             Ok(ArrayIter::Int32(Int32Iter::Decimal(arrays)))
         }
         _ => Err(Error::NotYetImplemented(Part::Schema)),
+    }
+}
+
+/// The low bits of numbers of 64 bits.
+fn low_int64_iter<I: Pages>(
+    alloc: Global,
+    pages: I,
+    data_type: DataType,
+    chunk_size: Option<usize>,
+    num_rows: usize,
+) -> Result<ArrayIter<I>, Error>
+    requires typed { DataPagesAre (λ page. page.type.physical_type ≡ Int64) (I.to_come pages) }
+    requires size { IsChunkSize chunk_size }
+    requires low { option_map takes_low_bits (from_int64 None (out-DataType data_type)) ≡ Some true }
+    ensures begins { IfSome (from_int64 None (out-DataType data_type)) (λ rule.
+        let supply = supply_of I.to_come I.causes I.row_count I.lent_count pages in
+        let left = array_left I.to_come I.causes I.row_count I.lent_count in
+        BeginsColumn left (converted_left Int64 data_type chunk_size num_rows supply rule) result) }
+{
+    match &data_type {
+        DataType::UInt32 => {
+            let values = NumberValues::<i64, u32, Narrow>::new(Narrow);
+            let arrays = values_iter(alloc, pages, values, data_type, chunk_size, num_rows)?;
+            Ok(ArrayIter::Int64(Int64Iter::UInt32(arrays)))
+        }
+        DataType::UInt64 => {
+            let values = NumberValues::<i64, u64, Narrow>::new(Narrow);
+            let arrays = values_iter(alloc, pages, values, data_type, chunk_size, num_rows)?;
+            Ok(ArrayIter::Int64(Int64Iter::UInt64(arrays)))
+        }
+        _ => unreachable!(),
     }
 }
 
@@ -137,15 +192,8 @@ pub(crate) fn int64_iter<I: Pages>(
             let arrays = values_iter(alloc, pages, values, data_type, chunk_size, num_rows)?;
             Ok(ArrayIter::Int64(Int64Iter::Timestamp(arrays)))
         }
-        DataType::UInt32 => {
-            let values = NumberValues::<i64, u32, Narrow>::new(Narrow);
-            let arrays = values_iter(alloc, pages, values, data_type, chunk_size, num_rows)?;
-            Ok(ArrayIter::Int64(Int64Iter::UInt32(arrays)))
-        }
-        DataType::UInt64 => {
-            let values = NumberValues::<i64, u64, Narrow>::new(Narrow);
-            let arrays = values_iter(alloc, pages, values, data_type, chunk_size, num_rows)?;
-            Ok(ArrayIter::Int64(Int64Iter::UInt64(arrays)))
+        DataType::UInt32 | DataType::UInt64 => {
+            low_int64_iter(alloc, pages, data_type, chunk_size, num_rows)
         }
         DataType::Decimal(_, _) => {
             let values = NumberValues::<i64, i128, Widen>::new(Widen);

@@ -82,7 +82,7 @@ alone-typed most entries page o read wrong = go (has_readable_levels page.type.r
 
 -- ---- the same page as one of another stored type
 
-are-keys : (o : Option Encoding) → is_keys o ≡ true → o ≡ Some Keys
+pub are-keys : (o : Option Encoding) → is_keys o ≡ true → o ≡ Some Keys
 are-keys None e = absurd cc
 are-keys (Some Plain) e = absurd cc
 are-keys (Some Keys) e = refl

@@ -10,3 +10,4 @@ pub mod IterLemmas
 pub mod NextLemmas
 pub mod EntryLemmas
 pub mod ByteLemmas
+pub mod KeyStateLemmas

@@ -2,3 +2,4 @@ pub mod Keys
 pub mod KeysGiven
 pub mod DictLeft
 pub mod EntryTypes
+pub mod KeyStates

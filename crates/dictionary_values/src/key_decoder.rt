@@ -25,7 +25,7 @@ use std::alloc::Global;
 use std::marker::PhantomData;
 
 /// Whether the values of a page are keys.
-fn has_keys(header: &DataPageHeader) -> bool
+pub(crate) fn has_keys(header: &DataPageHeader) -> bool
     ensures { result ≡ is_keys (encoding_of (header_encoding header.now)) }
 {
     match header {
@@ -35,7 +35,7 @@ fn has_keys(header: &DataPageHeader) -> bool
 }
 
 /// The same column of another stored type.
-fn type_as(column: &PrimitiveType, physical: PhysicalType) -> PrimitiveType
+pub(crate) fn type_as(column: &PrimitiveType, physical: PhysicalType) -> PrimitiveType
     ensures { result ≡ record column.now { physical_type = physical } }
 {
     PrimitiveType {
@@ -46,7 +46,7 @@ fn type_as(column: &PrimitiveType, physical: PhysicalType) -> PrimitiveType
 }
 
 /// The same page of another column.
-fn page_as<'a>(page: &'a DataPage<'_>, column: &'a PrimitiveType) -> DataPage<'a>
+pub(crate) fn page_as<'a>(page: &'a DataPage<'_>, column: &'a PrimitiveType) -> DataPage<'a>
     ensures { data_content result ≡ record (data_content page.now) { type = column.now } }
 {
     DataPage {

@@ -4,6 +4,7 @@
 pub mod binary;
 mod dict_chunk;
 mod dict_iter;
+pub mod dictionary;
 mod entries;
 pub mod fixed_size_binary;
 mod key_array;

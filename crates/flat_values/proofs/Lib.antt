@@ -30,3 +30,4 @@ pub mod PairLemmas
 pub mod StateLemmas
 pub mod CauseLemmas
 pub mod NullColumn
+pub mod StringPlaces

@@ -18,6 +18,7 @@ pub mod NullChunks
 pub mod FlatLeft
 pub mod FlatState
 pub mod OneEncoding
+pub mod PlainStrings
 pub mod Ends
 pub mod Sound
 pub mod Order

@@ -26,6 +26,7 @@ pub mod primitive;
 mod scale;
 mod spread;
 mod stored;
+mod string_states;
 mod time;
 mod truths;
 mod validity;

@@ -3,7 +3,7 @@ use Rattle.std.specs.Prelude.{IsSome, sum_by, unwrap_or}
 use Rattle.parquet_encoding.specs.Places.{bytes_in}
 use Rattle.parquet_page.specs.ValidityParts.{word_places}
 use Rattle.binary_values.proofs.RowLemmas.{RowsLeft}
-use Rattle.binary_values.proofs.string_rows.take_rows.Given as goal
+use Rattle.binary_values.proofs.string_rows.take_each_row.Given as goal
 
 -- the rows so far were appended
 abbrev pub invariant-loop-row : goal.invariant-loop-row
