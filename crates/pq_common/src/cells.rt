@@ -17,7 +17,9 @@ use std::alloc::{AllocError, Global};
 const DIGITS: [u8; 16] = *b"0123456789abcdef";
 
 /// How many bytes of a text are compared side by side: in long stretches, and in what is left of one.
-const LONG_BLOCK: usize = 16;
+const LONG_BLOCK: usize = 64;
+
+const BLOCK: usize = 16;
 
 const SHORT_BLOCK: usize = 8;
 
@@ -102,7 +104,7 @@ fn push_days(text: &mut Vec<u8>, days: i32, milliseconds: i32) -> Result<(), All
 }
 
 /// Writes the text or null of a row at the end.
-fn push_text<O: Offset>(
+pub(crate) fn push_text<O: Offset>(
     text: &mut Vec<u8>,
     array: &Utf8Array<O>,
     row: usize,
@@ -164,13 +166,21 @@ fn push_escaped(text: &mut Vec<u8>, bytes: &[u8]) -> Result<(), AllocError>
     Ok(())
 }
 
+/// Whether a text stands for itself.
+pub(crate) fn is_plain(bytes: &[u8]) -> bool
+    ensures { result ≡ true → flat_map quoted_byte bytes.now ≡ bytes.now }
+{
+    plain_length(bytes) == bytes.len()
+}
+
 /// How many bytes from the first on stand for themselves.
 fn plain_length(bytes: &[u8]) -> usize
     ensures within { result ≤ length bytes.now }
     ensures plain { flat_map quoted_byte (take result bytes.now) ≡ take result bytes.now }
 {
     let long = plain_blocks(bytes, 0, LONG_BLOCK);
-    let mut count = plain_blocks(bytes, long, SHORT_BLOCK);
+    let most = plain_blocks(bytes, long, BLOCK);
+    let mut count = plain_blocks(bytes, most, SHORT_BLOCK);
     while count < bytes.len() && !is_escaped(bytes[count]) {
         count += 1;
     }

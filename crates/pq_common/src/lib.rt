@@ -7,6 +7,7 @@ mod digits;
 mod numbers;
 mod sink;
 mod status;
+mod text_column;
 mod types;
 mod values;
 
@@ -16,5 +17,6 @@ pub use digits::push_unsigned;
 pub use numbers::{count, signed_number};
 pub use sink::{FailingSink, MemorySink, Sink, StdSink, write_all};
 pub use status::{Status, status_text};
+pub use text_column::push_text_lines;
 pub use types::data_type;
 pub use values::value;

@@ -11,7 +11,7 @@ ghost use Rattle.scan_program.specs.Report.{chunk_lines, group_line, interval_te
 use columns_core::{Array, Chunk, Error};
 use parquet_base::Interval;
 use parquet_scan::{GroupKept, Scan};
-use pq_common::{push_cell, push_lines, push_unsigned};
+use pq_common::{push_cell, push_lines, push_text_lines, push_unsigned};
 use std::alloc::{AllocError, Global};
 
 /// Writes a run of rows at the end.
@@ -103,6 +103,14 @@ fn push_chunk(alloc: Global, text: &mut Vec<u8>, chunk: &Chunk) -> Result<(), Er
     match chunk.arrays() {
         [Array::Int32(numbers)] => {
             push_lines(text, numbers)?;
+            Ok(())
+        }
+        [Array::Utf8(texts)] => {
+            push_text_lines(text, texts)?;
+            Ok(())
+        }
+        [Array::LargeUtf8(texts)] => {
+            push_text_lines(text, texts)?;
             Ok(())
         }
         arrays => push_rows(alloc, text, arrays, chunk.len()),
