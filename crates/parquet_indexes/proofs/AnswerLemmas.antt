@@ -1,8 +1,8 @@
 -- What a closure is asked on, why a call refuses, and what it gives.
-use Rattle.std.proofs.Common.{◌≡◌, refl, sym, ◌∙◌, ap, subst, ℕ, ◌≤◌, true, false, List, [], ◌∷◌, ◌++◌, Option, Some, None, Ok, Err, Vec, Global, inl, inr, arith}
+use Rattle.std.proofs.Common.{◌≡◌, sym, ◌∙◌, ap, subst, ℕ, ◌≤◌, true, false, List, [], ◌++◌, Option, Some, None, Ok, Err, Vec, Global, inl, inr, arith}
 use Rattle.std.specs.Fn.{Shared}
-use Rattle.std.specs.Prelude.{◌⊎◌, IfSome, is_some}
-use Rattle.columns_core.specs.Causes.{Cause, ExternalFormat, IsOneOf, cause_of, is_invalid_argument, unless}
+use Rattle.std.specs.Prelude.{IfSome, is_some}
+use Rattle.columns_core.specs.Causes.{Cause, ExternalFormat, IsOneOf, is_invalid_argument, unless}
 use Rattle.columns_core.specs.Refusals.{IsDamaged}
 use Rattle.columns_core.specs.declared.data_type.Field.{Field}
 use Rattle.columns_core.specs.declared.error.Error.{Error}
@@ -14,13 +14,13 @@ use Rattle.parquet_meta.specs.Source.{Finds, IsReadFailure}
 use Rattle.parquet_meta.specs.declared.metadata.PageLocation.{PageLocation}
 use Rattle.parquet_meta.specs.declared.metadata.RowGroupMetaData.{RowGroupMetaData}
 use Rattle.parquet_page.specs.declared.page.FilteredPage.{FilteredPage}
-use Rattle.parquet_indexes.specs.Answered.{AnswersAt, AreChosen, AreShown, ChosenRows, IsAnswer, Question, RefusesToChoose, RowsOfPages, SelectNothing, causes_of_question}
+use Rattle.parquet_indexes.specs.Answered.{AnswersAt, AreChosen, AreShown, ChosenRows, IsAnswer, Question, RefusesToChoose, RowsOfPages, causes_of_question}
 use Rattle.parquet_indexes.specs.FieldStatistics.{AreOfFields, causes_of_fields}
 use Rattle.parquet_indexes.specs.PageMaps.{InFields, field_maps, in_fields, locations_of_fields, pages_at_places, rows_at_places, rows_of_fields}
 use Rattle.parquet_indexes.specs.declared.page_statistics.FieldPageStatistics.{FieldPageStatistics}
 use Rattle.parquet_indexes.proofs.ErrorLemmas.{first_of, one_left, one_right}
 use Rattle.parquet_indexes.proofs.MadeLemmas.{some_next}
-use Rattle.parquet_indexes.proofs.TellingLemmas.{fails_by, fails_more}
+use Rattle.parquet_indexes.proofs.TellingLemmas.{fails_more}
 
 module _ (group : RowGroupMetaData) (fields : List Field) where
   abbrev Found : List ℕ → Option (InFields PageLocation)

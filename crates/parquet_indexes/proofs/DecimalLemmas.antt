@@ -1,10 +1,10 @@
 -- Decimals in fixed bytes are values of their type.
-use Rattle.std.proofs.Common.{◌≡◌, refl, sym, ◌∙◌, ap, subst, ℕ, Bool, true, false, List, [], ◌∷◌, ◌++◌, length, map}
-use Rattle.std.specs.Prelude.{Option, Some, None, flat_map, is_some, nat_lt, nat_le, ◌==◌, ◌&&◌, option_map, if◌then◌else◌}
+use Rattle.std.proofs.Common.{◌≡◌, refl, ◌∙◌, ap, ℕ, Bool, true, false, List, [], ◌∷◌, ◌++◌, length, map}
+use Rattle.std.specs.Prelude.{Option, Some, None, flat_map, is_some, ◌==◌, option_map, if◌then◌else◌}
 use Rattle.std.specs.List.{AllByRecursion}
 use Rattle.std.proofs.lemmas.Bool.{eq-eqb}
 use Rattle.parquet_base.specs.Reading.{given}
-use Rattle.columns_core.specs.Causes.{Cause, ExternalFormat, unless}
+use Rattle.columns_core.specs.Causes.{ExternalFormat, unless}
 use Rattle.columns_core.specs.Types.{Layer}
 use Rattle.columns_core.specs.declared.data_type.DataType.{DataType, Decimal, out-DataType, out-roll-DataType}
 use Rattle.columns_core.specs.declared.data_type.DataType.TheOpen.{DataType-F}
@@ -15,9 +15,9 @@ use Rattle.parquet_meta.specs.TypedStatistics.{known_count}
 use Rattle.parquet_meta.specs.declared.metadata.PageIndex.{PageIndex}
 use Rattle.parquet_meta.specs.declared.metadata.PhysicalType.TheVariants as physical
 use Rattle.parquet_page.specs.Stored.{Octets}
-use Rattle.flat_values.specs.Conversion.{BigEndian, Conversion}
-use Rattle.flat_values.specs.Pairs.{page_from_fixed, page_from_physical}
-use Rattle.column_ends.specs.Converted.{cell_page, end_causes, end_cell}
+use Rattle.flat_values.specs.Conversion.{BigEndian}
+use Rattle.flat_values.specs.Pairs.{page_from_physical}
+use Rattle.column_ends.specs.Converted.{cell_page, end_cell}
 use Rattle.column_ends.specs.Laws.{AreEndsOf, IsEndOf}
 use Rattle.column_ends.specs.Rules.{takes_size}
 use Rattle.column_ends.specs.Told.{stored_page}

@@ -4,7 +4,7 @@ use Rattle.std.specs.Prelude.{◌==◌, IfSome, flat_map, zip}
 use Rattle.std.specs.List.{AllZip}
 use Rattle.std.proofs.lemmas.Bool.{eq-eqb, eqb-true}
 use Rattle.std.proofs.lemmas.List.{length-map}
-use Rattle.columns_core.specs.Causes.{Cause, IsOneOf, IsWantOfMemory, NotYetImplemented, and_then, unless}
+use Rattle.columns_core.specs.Causes.{Cause, IsOneOf, NotYetImplemented, and_then, unless}
 use Rattle.columns_core.specs.declared.data_type.DataType.{DataType}
 use Rattle.columns_core.specs.declared.data_type.Field.{Field}
 use Rattle.columns_core.specs.declared.error.Error.{Error}
@@ -14,7 +14,8 @@ use Rattle.parquet_meta.specs.Indexes.{column_index_length, field_columns}
 use Rattle.parquet_meta.specs.declared.metadata.ColumnChunkMetaData.{ColumnChunkMetaData}
 use Rattle.parquet_meta.specs.Source.{IsReadFailure}
 use Rattle.parquet_indexes.specs.FieldStatistics.{IsOfColumn, IsOfField, causes_of_field, causes_of_typed, column_indexes_length, typed_columns}
-use Rattle.parquet_indexes.specs.FieldTypes.{arranged, leaf_types}
+use Rattle.parquet_statistics.specs.LeafTypes.{leaf_types}
+use Rattle.parquet_indexes.specs.FieldTypes.{arranged}
 use Rattle.parquet_indexes.specs.declared.page_statistics.ColumnPageStatistics.{ColumnPageStatistics}
 use Rattle.parquet_indexes.specs.declared.page_statistics.FieldPageStatistics.{FieldPageStatistics}
 use Rattle.parquet_indexes.proofs.ErrorLemmas.{first_of}

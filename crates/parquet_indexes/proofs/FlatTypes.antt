@@ -1,5 +1,5 @@
 -- Types that the ends of pages are read as are flat, and ends are values of them.
-use Rattle.std.proofs.Common.{◌≡◌, refl, sym, ◌∙◌, ap, subst, ℕ, zero, suc, ◌/◌, ℤ, Bool, true, false, List, [], ◌∷◌, ◌++◌, map, arith}
+use Rattle.std.proofs.Common.{◌≡◌, refl, sym, ◌∙◌, ap, subst, ℕ, ◌/◌, ℤ, Bool, true, false, List, [], ◌∷◌, ◌++◌, map, arith}
 use Rattle.std.specs.Prelude.{Option, Some, None, IfSome, option_map, flat_map, nat_lt, is_some, ◌==◌, ◌&&◌, if◌then◌else◌}
 use Rattle.std.specs.List.{AllByRecursion}
 use Rattle.std.specs.Option.{option_map_or}
@@ -12,7 +12,6 @@ use Rattle.columns_core.specs.Types.{Layer, signed_range, unsigned_range, value_
 use Rattle.columns_core.specs.declared.cell.Cell.{Cell, Int}
 use Rattle.columns_core.specs.declared.data_type.DataType.{DataType, out-DataType}
 use Rattle.columns_core.specs.declared.data_type.DataType.TheOpen.{DataType-F}
-use Rattle.columns_core.specs.declared.data_type.Field.{Field}
 use Rattle.parquet_meta.specs.TypedStatistics.{known_count}
 use Rattle.parquet_meta.specs.declared.metadata.Index.{Index}
 use Rattle.parquet_meta.specs.declared.metadata.PageIndex.{PageIndex}
@@ -24,13 +23,13 @@ use Rattle.parquet_encoding.proofs.StepLemmas.{some_is}
 use Rattle.parquet_page.specs.Stored.{Stored, Number, Truth, Words, Octets}
 use Rattle.flat_values.specs.CellTypes.{is_cell_at, is_in}
 use Rattle.flat_values.specs.Conversion.{Conversion, Item, Value, NotInRange, NotText, Keep, LowNanoseconds, convert, modulo_bits}
-use Rattle.flat_values.specs.Pairs.{from_boolean, from_int32, from_int64, from_byte_array, page_conversion, page_from_fixed, page_from_int96, page_from_physical}
+use Rattle.flat_values.specs.Pairs.{from_boolean, from_int32, from_int64, from_byte_array, page_from_fixed, page_from_int96, page_from_physical}
 use Rattle.flat_values.specs.Sound.{is_stored_as}
 use Rattle.flat_values.specs.Units.{nanoseconds_of, per_second}
 use Rattle.flat_values.proofs.ConversionLemmas.{Gives, IsItemAt, Within, from_boolean-gives, from_int32-gives, from_int64-gives, from_byte_array-gives, from_fixed-gives, has_unit, low_bits_in, since, to_item}
 use Rattle.flat_values.proofs.PairLemmas.{page_here, page_out}
 use Rattle.flat_builders.specs.Flat.{Flat, Sizeless, flatness, flatness_at}
-use Rattle.column_ends.specs.Converted.{as_cell, causes_of_index, causes_of_page, cell_page, end_causes, end_cell, index_cells, index_rule, page_array_causes, stored_causes}
+use Rattle.column_ends.specs.Converted.{as_cell, causes_of_index, causes_of_page, cell_page, end_causes, end_cell, index_cells, index_rule, page_array_causes}
 use Rattle.column_ends.specs.Laws.{AreEndsOf, IsEndOf}
 use Rattle.column_ends.specs.Told.{stored_pages}
 

@@ -1,5 +1,5 @@
 -- What is made of each of a list that vectors show, and what is made next of what was found.
-use Rattle.std.proofs.Common.{◌≡◌, ◌∙◌, sym, ap, refl, inl, inr, ℕ, ◌+◌, ◌<◌, List, [], ◌∷◌, ◌++◌, length, map, drop, get_or, Option, Some, None, Ok, Err}
+use Rattle.std.proofs.Common.{◌≡◌, ◌∙◌, ap, refl, inl, inr, ℕ, ◌+◌, ◌<◌, List, [], ◌∷◌, ◌++◌, length, map, drop, get_or, Option, Some, None, Ok, Err}
 use Rattle.std.specs.Prelude.{IfOk, IfErr, IfSome, Result}
 use Rattle.columns_core.specs.Refusals.{IsDamaged}
 use Rattle.columns_core.specs.declared.error.Error.{Error}

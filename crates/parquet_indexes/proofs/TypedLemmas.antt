@@ -11,7 +11,7 @@ use Rattle.columns_core.specs.declared.error.Error.{Error}
 use Rattle.columns_core.specs.declared.error.Part.{Part}
 use Rattle.columns_core.specs.declared.error.Error.TheVariants as error
 use Rattle.parquet_base.specs.Reading.{◌>>=◌}
-use Rattle.parquet_meta.specs.Indexes.{FindsIndexes, begins_with, column_index_length, field_columns, has_index, is_broken, is_read, raw_index}
+use Rattle.parquet_meta.specs.Indexes.{FindsIndexes, begins_with, field_columns, has_index, is_broken, is_read, raw_index}
 use Rattle.parquet_meta.specs.Lists.{all_of}
 use Rattle.parquet_meta.specs.declared.metadata.ColumnChunkMetaData.{ColumnChunkMetaData}
 use Rattle.parquet_meta.specs.declared.metadata.Index.{Index}

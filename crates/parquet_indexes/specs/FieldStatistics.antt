@@ -1,5 +1,5 @@
 -- What the column indexes of a file tell of the pages of fields, and what is wrong with them.
-use Rattle.std.specs.Prelude.{◌≡◌, ℕ, ◌==◌, List, [], ◌∷◌, length, flat_map, sum_by, zip, IsSomeAnd, Option, Some}
+use Rattle.std.specs.Prelude.{◌≡◌, ℕ, ◌==◌, List, [], ◌∷◌, length, flat_map, sum_by, zip, IsSomeAnd, Some}
 use Rattle.std.specs.List.{AllZip}
 use Rattle.std.specs.Option.{option_map_or}
 use Rattle.columns_core.specs.Causes.{Cause, ExternalFormat, NotYetImplemented, and_then, unless}
@@ -7,7 +7,8 @@ use Rattle.columns_core.specs.declared.data_type.DataType.{DataType}
 use Rattle.columns_core.specs.declared.data_type.Field.{Field}
 use Rattle.parquet_meta.specs.Indexes.{column_index_length, field_columns, is_read, raw_index}
 use Rattle.parquet_meta.specs.declared.metadata.ColumnChunkMetaData.{ColumnChunkMetaData}
-use Rattle.parquet_indexes.specs.FieldTypes.{arranged, leaf_types}
+use Rattle.parquet_statistics.specs.LeafTypes.{leaf_types}
+use Rattle.parquet_indexes.specs.FieldTypes.{arranged}
 use Rattle.parquet_indexes.specs.Told.{AreTold, statistics_causes}
 use Rattle.parquet_indexes.specs.declared.page_statistics.ColumnPageStatistics.{ColumnPageStatistics}
 use Rattle.parquet_indexes.specs.declared.page_statistics.FieldPageStatistics.{FieldPageStatistics}

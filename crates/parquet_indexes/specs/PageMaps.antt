@@ -13,7 +13,7 @@ use Rattle.parquet_meta.specs.declared.metadata.PageLocation.{PageLocation}
 use Rattle.parquet_meta.specs.declared.metadata.RowGroupMetaData.{RowGroupMetaData}
 use Rattle.parquet_page.specs.Locations.{page_intervals, selected_pages}
 use Rattle.parquet_page.specs.declared.page.FilteredPage.{FilteredPage}
-use Rattle.parquet_indexes.specs.FieldTypes.{has_column}
+use Rattle.parquet_statistics.specs.LeafTypes.{has_column}
 
 -- each column says where its column index begins
 abbrev pub has_column_indexes : RowGroupMetaData → Bool

@@ -1,5 +1,5 @@
 -- What the index of a column tells of its pages in a type, as arrays, and what is wrong with it.
-use Rattle.std.specs.Prelude.{◌≡◌, ℕ, List, [], ◌∷◌, ◌++◌, length, flat_map, map, is_some, IsSomeAnd, Option, Some, None, if◌then◌else◌}
+use Rattle.std.specs.Prelude.{ℕ, List, [], ◌∷◌, ◌++◌, length, flat_map, map, is_some, IsSomeAnd, Option, Some, None, if◌then◌else◌}
 use Rattle.std.specs.Option.{option_map_or}
 use Rattle.columns_core.specs.Causes.{Cause, ExternalFormat, NotYetImplemented, unless}
 use Rattle.columns_core.specs.DictionaryType.{entry_type}

@@ -6,14 +6,15 @@ ghost use Rattle.parquet_meta.specs.Indexes.{begins_with, column_index_length};
 ghost use Rattle.parquet_meta.specs.Keeps.{Keeps};
 ghost use Rattle.parquet_meta.specs.Source.{IsReadFailure};
 ghost use Rattle.parquet_indexes.specs.FieldStatistics as spec;
-ghost use Rattle.parquet_indexes.specs.FieldTypes.{has_column};
+ghost use Rattle.parquet_statistics.specs.LeafTypes.{has_column};
 
-use crate::field_types::{arrange, leaf_types};
+use crate::field_types::arrange;
 use crate::fields::have_columns;
 use crate::told::told_statistics;
 use crate::{ColumnPageStatistics, FieldPageStatistics};
 use columns_core::{DataType, Error, Field, Name, Part};
 use parquet_meta::{ColumnChunkMetaData, Source, get_field_columns, read_raw_indexes};
+use parquet_statistics::leaf_types;
 use std::alloc::Global;
 use std::collections::VecDeque;
 use std::slice;

@@ -1,56 +1,13 @@
-//! The columns inside the type of a field, and what is told of them put together in its shape.
-ghost use Rattle.std.specs.Prelude.{◌≡◌, ◌+◌, ◌≤◌, ◌++◌, Some, length, map, flat_map, IfOk, IfErr, OnOk};
+//! What is told of the columns of a field, put together in the shape of its type.
+ghost use Rattle.std.specs.Prelude.{◌≡◌, ◌+◌, ◌≤◌, Some, length, map, flat_map, IfOk, IfErr, OnOk};
 ghost use Rattle.columns_core.specs.Causes.{IsWantOfMemory};
-ghost use Rattle.columns_core.specs.declared.data_type.Field.{Field};
+ghost use Rattle.parquet_statistics.specs.LeafTypes.{leaf_types};
 ghost use Rattle.parquet_indexes.specs.FieldTypes as spec;
 
 use crate::{ColumnPageStatistics, FieldPageStatistics};
 use columns_core::{DataType, Error, Field, Part, Seq};
 use std::alloc::Global;
 use std::collections::VecDeque;
-
-/// The types that the columns of a field of this type are read as, in turn.
-pub(crate) fn leaf_types<'a>(
-    alloc: Global,
-    data_type: &'a DataType,
-) -> Result<Vec<&'a DataType>, Error>
-    ensures types { IfOk result (λ types.
-        map (λ data_type. data_type.now) types.items ≡ spec.leaf_types data_type.now) }
-    ensures memory { IfErr result IsWantOfMemory }
-{
-    let mut types = Vec::new(alloc);
-    push_types(&mut types, data_type)?;
-    Ok(types)
-}
-
-#[cycle(push_types)]
-fn push_types<'a>(types: &mut Vec<&'a DataType>, data_type: &'a DataType) -> Result<(), Error>
-    ensures pushed { OnOk result (map (λ data_type. data_type.now) types.new.items
-        ≡ map (λ data_type. data_type.now) types.old.items ++ spec.leaf_types data_type.now) }
-    ensures memory { IfErr result IsWantOfMemory }
-{
-    match data_type {
-        DataType::Dictionary(_, value, _) => push_types(types, value.get()),
-        DataType::List(field) => push_types(types, &field.get().data_type),
-        DataType::LargeList(field) => push_types(types, &field.get().data_type),
-        DataType::Map(field, _) => push_types(types, &field.get().data_type),
-        DataType::Struct(fields) => push_types_of_fields(types, fields.as_slice()),
-        _ => Ok(types.push(data_type)?),
-    }
-}
-
-#[cycle(push_types)]
-fn push_types_of_fields<'a>(types: &mut Vec<&'a DataType>, fields: &'a [Field]) -> Result<(), Error>
-    ensures pushed { OnOk result (map (λ data_type. data_type.now) types.new.items
-        ≡ map (λ data_type. data_type.now) types.old.items
-        ++ flat_map (λ field. spec.leaf_types field.data_type) fields.now) }
-    ensures memory { IfErr result IsWantOfMemory }
-{
-    for field in fields {
-        push_types(types, &field.data_type)?;
-    }
-    Ok(())
-}
 
 /// The statistics of a field of this type, from those of the first of these columns, which are taken away. Without enough of them it is refused.
 #[cycle(arrange)]
@@ -61,9 +18,9 @@ pub(crate) fn arrange(
 ) -> Result<FieldPageStatistics, Error>
     ensures arranged { IfOk result (λ statistics.
         spec.arranged data_type.now columns.old.items ≡ Some (statistics, columns.new.items)) }
-    ensures rest { OnOk result (length columns.new.items + length (spec.leaf_types data_type.now)
+    ensures rest { OnOk result (length columns.new.items + length (leaf_types data_type.now)
         ≡ length columns.old.items) }
-    ensures memory { length (spec.leaf_types data_type.now) ≤ length columns.old.items
+    ensures memory { length (leaf_types data_type.now) ≤ length columns.old.items
         → IfErr result IsWantOfMemory }
 {
     match data_type {
@@ -90,9 +47,9 @@ fn arrange_fields(
         spec.arranged_in_turn (map (λ field. spec.arranged field.data_type) fields.now) columns.old.items
         ≡ Some (statistics, columns.new.items)) }
     ensures rest { OnOk result (length columns.new.items
-        + length (flat_map (λ field. spec.leaf_types field.data_type) fields.now)
+        + length (flat_map (λ field. leaf_types field.data_type) fields.now)
         ≡ length columns.old.items) }
-    ensures memory { length (flat_map (λ field. spec.leaf_types field.data_type) fields.now)
+    ensures memory { length (flat_map (λ field. leaf_types field.data_type) fields.now)
         ≤ length columns.old.items → IfErr result IsWantOfMemory }
 {
     let mut statistics = Vec::new(alloc);

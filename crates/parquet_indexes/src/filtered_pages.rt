@@ -5,7 +5,7 @@ ghost use Rattle.columns_core.specs.Causes.{is_invalid_argument};
 ghost use Rattle.parquet_meta.specs.Keeps.{Keeps};
 ghost use Rattle.parquet_indexes.specs.Answered as spec;
 ghost use Rattle.parquet_indexes.specs.FieldStatistics.{column_indexes_length};
-ghost use Rattle.parquet_indexes.specs.FieldTypes.{has_column};
+ghost use Rattle.parquet_statistics.specs.LeafTypes.{has_column};
 ghost use Rattle.parquet_indexes.specs.PageMaps.{in_fields, offset_indexes_length};
 
 use crate::FieldPageStatistics;

@@ -5,9 +5,9 @@ ghost use Rattle.parquet_meta.specs.Keeps.{Keeps};
 ghost use Rattle.parquet_meta.specs.Source.{Finds};
 ghost use Rattle.parquet_indexes.specs.PageMaps as spec;
 
-use crate::fields::begins_with;
 use columns_core::{Error, Field, Part};
 use parquet_meta::{ColumnChunkMetaData, PageLocation, Source, read_pages_locations};
+use parquet_statistics::begins_with;
 use std::alloc::Global;
 use std::slice;
 

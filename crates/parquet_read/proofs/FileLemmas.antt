@@ -22,7 +22,7 @@ use Rattle.flat_values.specs.Pairs.{conversion}
 use Rattle.flat_binary.specs.Left.{Supply, converted_left}
 use Rattle.flat_binary.specs.Paged.{is_null_type}
 use Rattle.column_arrays.specs.Begun.{column_left}
-use Rattle.parquet_read.specs.Asked.{AskedField, GroupReading, PageLists, asked_column, asked_fields, asked_left, fields_left, left_in_file, rows_asked}
+use Rattle.parquet_read.specs.Asked.{AskedField, GroupReading, PageLists, asked_column, asked_fields, asked_left, left_in_file, rows_asked}
 use Rattle.parquet_read.specs.FileReader.{AnswersHere, GivesFileRows, GivesRowsAtHand, OpensInTurn, OpensNext, ReplacesGroup, answers_left, answers_to_come, file_lent, is_group_over, length_of_next, most_answers, opened_group, pages_at_hand, rows_at_hand}
 use Rattle.parquet_read.specs.GroupReader.{NextGroup, groups_left}
 use Rattle.parquet_read.specs.Groups.{GroupsLeft, OpensGroup, front_lists, front_reading, length_of_front, rows_of_group}
@@ -32,7 +32,7 @@ use Rattle.parquet_read.specs.Rows.{GivesNextRows, limited}
 use Rattle.parquet_read.specs.declared.file_reader.FileReader.{FileReader}
 use Rattle.parquet_read.specs.declared.row_group.RowGroupDeserializer.{RowGroupDeserializer}
 use Rattle.parquet_read.proofs.GroupLemmas.{nearer}
-use Rattle.parquet_read.proofs.LentLemmas.{IsFresh, all_lent, chunk_steps, none_lent}
+use Rattle.parquet_read.proofs.LentLemmas.{IsFresh, chunk_steps, none_lent}
 
 -- ---- columns that are opened
 

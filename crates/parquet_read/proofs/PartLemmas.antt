@@ -3,7 +3,7 @@ use Rattle.std.proofs.Common.{◌≡◌, ◌∙◌, ℕ, ◌+◌, ◌-◌, ◌�
 use Rattle.std.specs.Prelude.{◌&&◌, ◌==◌, nat_le, filter, sum_by, zip, slice_range, if◌then◌else◌}
 use Rattle.std.specs.List.{list_all}
 use Rattle.std.proofs.lemmas.Bool.{and_parts, eq-eqb, eqb-true, le-leb, leb-true, true≢false}
-use Rattle.std.proofs.lemmas.List.{drop-take, take-take, drop-drop, length-map, length-take-le, length-drop}
+use Rattle.std.proofs.lemmas.List.{take-take, length-map, length-take-le, length-drop}
 use Rattle.parquet_base.specs.Reading.{◌>>=◌}
 use Rattle.parquet_encoding.proofs.StepLemmas.{bind_some, some_is}
 use Rattle.parquet_meta.specs.Lists.{all_of}

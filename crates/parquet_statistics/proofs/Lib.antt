@@ -4,3 +4,21 @@ mod TypeRefusals
 mod BuilderLemmas
 mod EmptyLemmas
 mod ShapeLemmas
+pub mod LayerLemmas
+mod CountLemmas
+mod SlotCounts
+mod ColumnCounts
+mod ShapedLemmas
+mod WellShaped
+mod ShapeSteps
+mod TakenLemmas
+mod PushedLemmas
+mod ToldLemmas
+mod FitLemmas
+mod InsideLemmas
+mod CountedLemmas
+mod SingleLemmas
+mod ColumnLemmas
+mod MadeLemmas
+mod CountedTypes
+mod FieldLemmas

@@ -4,3 +4,7 @@ pub mod Refusal
 pub mod BuiltTypes
 pub mod Made
 pub mod Flats
+pub mod LeafTypes
+pub mod Shaped
+pub mod Deserialized
+pub mod Parts

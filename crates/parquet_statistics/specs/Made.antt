@@ -1,13 +1,17 @@
 -- What builders make: the type and the cells of an array, or why there is none.
-use Rattle.std.specs.Prelude.{ℕ, ◌-◌, ◌^◌, ◌==◌, ◌&&◌, nat_le, nat_lt, Bool, true, false, List, [], ◌∷◌, ◌++◌, length, map, flat_map, Option}
+use Rattle.std.specs.Prelude.{ℕ, ◌-◌, ◌^◌, ◌==◌, ◌&&◌, nat_le, nat_lt, Bool, true, false, List, [], ◌∷◌, ◌++◌, length, map, flat_map, Option, Some, None}
 use Rattle.std.specs.Coded.{coded_list}
-use Rattle.std.specs.List.{list_all}
+use Rattle.std.specs.List.{list_all, range_with_len}
 use Rattle.std.specs.Option.{option_map_or}
+use Rattle.columns_core.specs.Array.{cells, data_type_of}
 use Rattle.columns_core.specs.Causes.{Overflow}
 use Rattle.columns_core.specs.DictionaryType.{entry_type, key_type}
 use Rattle.columns_core.specs.Equal.{is_same}
 use Rattle.columns_core.specs.Nested.{map_type, field_types, first_length, rows}
+use Rattle.columns_core.specs.Shown.{Shown}
 use Rattle.columns_core.specs.contracts.data_type.DataType.{the_row as data_type_row}
+use Rattle.columns_core.specs.declared.array.Array.{Array}
+use Rattle.columns_core.specs.declared.array.Array.TheVariants as array
 use Rattle.columns_core.specs.declared.cell.Cell.{Cell, Cells}
 use Rattle.columns_core.specs.declared.data_type.DataType.{DataType}
 use Rattle.columns_core.specs.declared.data_type.IntegerType.{IntegerType}
@@ -32,9 +36,17 @@ made_type all = all.data_type
 abbrev pub made_refusals : Made → List Refusal
 made_refusals all = all.refusals
 
+-- what a contract sees of the array
+abbrev pub made_shown : Made → Shown
+made_shown all = (all.data_type, all.cells)
+
 -- nothing is refused
 abbrev pub freely_made : DataType → List Cell → Made
 freely_made data_type cells = record { data_type = data_type; cells = cells; refusals = [] }
+
+-- an array that is made already
+abbrev pub made_array : Array → Made
+made_array own = freely_made (data_type_of own) (cells own)
 
 -- a type is the one that is named
 abbrev pub is_type_named : Option DataType → DataType → Bool
@@ -56,6 +68,15 @@ most_keys key.UInt8 = 2 ^ 8 - 1
 most_keys key.UInt16 = 2 ^ 16 - 1
 most_keys key.UInt32 = 2 ^ 32 - 1
 most_keys key.UInt64 = 2 ^ 64 - 1
+
+-- the keys of a dictionary array, as places of entries
+abbrev pub keys_in : Array → Option (List (Option ℕ))
+keys_in (array.Dictionary column) = Some column.keys
+keys_in _ = None
+
+-- the keys 0, 1, 2 and on, one for each cell
+abbrev pub keys_of_all : List Cell → List (Option ℕ)
+keys_of_all cells = map Some (range_with_len 0 (length cells))
 
 -- Keys name all entries, in turn, and their number has to be one of the type of keys.
 abbrev pub dictionary_made : DataType → Made → Made

@@ -1,7 +1,6 @@
-use Rattle.std.proofs.Common.{List, [], ◌∷◌, subst, arith, Vec, Global, ℕ, Option}
-use Rattle.std.specs.Prelude.{◌≡◌, true, IfSome, Result, Ok, Err}
+use Rattle.std.proofs.Common.{List, subst, arith, Vec, Global}
+use Rattle.std.specs.Prelude.{Ok, Err}
 use Rattle.std.proofs.lemmas.Result.{IfErr-weaker, IfOk-weaker, err_from_is_err_and}
-use Rattle.columns_core.specs.declared.error.Error.{Error}
 use Rattle.columns_core.specs.declared.error.Part.TheVariants as part
 use Rattle.parquet_meta.specs.Indexes.{FindsIndexes, field_columns}
 use Rattle.parquet_meta.specs.declared.metadata.Index.{Index}

@@ -1,5 +1,5 @@
-use Rattle.std.proofs.Common.{◌≡◌, ◌∙◌, ◌+◌, ◌<◌, Bor, List, [], ◌∷◌, ◌++◌, drop, length, length-append, map, rules, subst, sym, ap, arith, ℕ}
-use Rattle.std.specs.Prelude.{IfSome, Option, zip}
+use Rattle.std.proofs.Common.{◌∙◌, ◌+◌, Bor, List, [], ◌∷◌, drop, length, length-append, map, rules, ap, arith, ℕ}
+use Rattle.std.specs.Prelude.{zip}
 use Rattle.std.proofs.lemmas.List.{drop_all}
 use Rattle.std.proofs.lemmas.Result.{err_from_is_err_and}
 use Rattle.columns_core.specs.declared.data_type.DataType.{DataType}

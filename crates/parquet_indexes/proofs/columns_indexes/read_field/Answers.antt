@@ -1,14 +1,13 @@
-use Rattle.std.proofs.Common.{◌≡◌, ◌∙◌, ◌≤◌, ◌+◌, Bor, List, [], length, map, sum_by, subst, sym, ap, arith}
-use Rattle.std.specs.Prelude.{IfErr, IfOk, IfSome, Result, Ok, Err, flat_map, zip}
-use Rattle.std.specs.List.{AllZip, list_all}
+use Rattle.std.proofs.Common.{◌≡◌, ◌∙◌, Bor, List, length, map, subst, sym, ap, arith}
+use Rattle.std.specs.Prelude.{IfOk, Result, Ok, Err}
+use Rattle.std.specs.List.{list_all}
 use Rattle.std.proofs.lemmas.Result.{IfErr-weaker, IfOk-weaker, err_from_is_err_and}
 use Rattle.columns_core.specs.declared.data_type.DataType.{DataType}
 use Rattle.columns_core.specs.declared.error.Part.TheVariants as part
-use Rattle.parquet_meta.specs.Indexes.{begins_with, column_index_length, field_columns}
+use Rattle.parquet_meta.specs.Indexes.{begins_with, field_columns}
 use Rattle.parquet_meta.specs.declared.metadata.ColumnChunkMetaData.{ColumnChunkMetaData}
 use Rattle.parquet_meta.specs.Source.{IsReadFailure}
-use Rattle.parquet_indexes.specs.FieldStatistics.{IsOfColumn, causes_of_field, causes_of_typed}
-use Rattle.parquet_indexes.specs.FieldTypes.{leaf_types}
+use Rattle.parquet_indexes.specs.FieldStatistics.{causes_of_field}
 use Rattle.parquet_indexes.proofs.FieldLemmas.{at_most, both_lengths, columns_fail, no_causes, of_field, uneven}
 use Rattle.parquet_indexes.proofs.TypedLemmas.{all_named}
 use Rattle.parquet_indexes.proofs.columns_indexes.read_field.Goals as goal

@@ -1,12 +1,9 @@
-use Rattle.std.proofs.Common.{◌≡◌, ◌∙◌, ◌+◌, List, [], ◌∷◌, ◌++◌, drop, rules, subst, sym, arith, ℕ}
-use Rattle.std.specs.Prelude.{IfSome, Option}
+use Rattle.std.proofs.Common.{◌∙◌, ◌+◌, drop, rules}
 use Rattle.std.proofs.lemmas.List.{drop_all}
 use Rattle.std.proofs.lemmas.Result.{err_from_is_err_and}
-use Rattle.columns_core.specs.declared.data_type.Field.{Field}
 use Rattle.parquet_meta.proofs.ListLemmas.{item_and_others}
 use Rattle.parquet_indexes.specs.FieldStatistics.{IsOfField, causes_of_field, column_indexes_length}
-use Rattle.parquet_indexes.specs.declared.page_statistics.FieldPageStatistics.{FieldPageStatistics}
-use Rattle.parquet_indexes.proofs.TellingLemmas.{IsTelling, telling_begins, telling_ends, telling_goes_on, telling_refused}
+use Rattle.parquet_indexes.proofs.TellingLemmas.{telling_begins, telling_ends, telling_goes_on, telling_refused}
 use Rattle.parquet_indexes.proofs.columns_indexes.read_fields.Goals as goal
 
 pub loop-field-init : goal.loop-field-init

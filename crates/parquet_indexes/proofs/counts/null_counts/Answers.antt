@@ -1,5 +1,5 @@
-use Rattle.std.proofs.Common.{rules, arith, ◌∙◌, ap, []}
-use Rattle.std.specs.Prelude.{◌++◌, ◌∷◌, length}
+use Rattle.std.proofs.Common.{arith, ◌∙◌, ap, []}
+use Rattle.std.specs.Prelude.{◌++◌, ◌∷◌}
 use Rattle.std.proofs.lemmas.Grind.{common_steps}
 use Rattle.parquet_indexes.proofs.CountLemmas.{counts-more}
 use Rattle.parquet_indexes.proofs.counts.null_counts.Goals as goal

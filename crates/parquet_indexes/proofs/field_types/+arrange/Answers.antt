@@ -1,13 +1,15 @@
-use Rattle.std.proofs.Common.{◌≡◌, ◌∙◌, ◌≤◌, ◌+◌, List, [], ◌∷◌, Option, Some, ap, length, map, drop, option_map, sym, subst, arith, rules}
-use Rattle.std.specs.Prelude.{IfErr, IfOk, OnOk, flat_map}
+use Rattle.std.proofs.Common.{◌≡◌, ◌∙◌, ◌≤◌, ◌+◌, List, Some, ap, length, map, drop, option_map, sym, subst, arith}
+use Rattle.std.specs.Prelude.{IfErr, IfOk, OnOk}
 use Rattle.std.proofs.lemmas.List.{drop_all}
 use Rattle.std.proofs.lemmas.Result.{err_from_is_err_and}
 use Rattle.columns_core.specs.Causes.{IsWantOfMemory}
 use Rattle.columns_core.specs.declared.data_type.DataType.{DataType}
 use Rattle.columns_core.specs.declared.data_type.Field.{Field}
 use Rattle.parquet_meta.proofs.ListLemmas.{item_and_others}
-use Rattle.parquet_indexes.specs.FieldTypes.{Arranged, arranged, arranged_in_turn, leaf_types, of_fields, one_column}
-use Rattle.parquet_indexes.proofs.FieldTypeLemmas.{and_then_these, arranged_dictionary, arranged_large, arranged_list, arranged_map, arranged_one, arranged_struct, count_next, these_none, turn_next, turned_all, types_inside, types_of_dictionary, types_of_large, types_of_list, types_of_map, types_of_one, types_of_struct}
+use Rattle.parquet_statistics.specs.LeafTypes.{leaf_types}
+use Rattle.parquet_statistics.proofs.LayerLemmas.{inside_values, types_inside, types_of_dictionary, types_of_large, types_of_list, types_of_map, types_of_struct, types_of_values}
+use Rattle.parquet_indexes.specs.FieldTypes.{Arranged, arranged, arranged_in_turn, of_fields}
+use Rattle.parquet_indexes.proofs.FieldTypeLemmas.{and_then_these, arranged_dictionary, arranged_large, arranged_list, arranged_map, arranged_struct, arranged_values, count_next, these_none, turn_next, turned_all}
 use Rattle.parquet_indexes.proofs.field_types.+arrange.Goals as goal
 
 pub arrange-returns-in-Dictionary-clause-arranged : goal.arrange-returns-in-Dictionary-clause-arranged
@@ -84,8 +86,9 @@ arrange-returns-in_ok-arrange_fields-in-Struct-clause-rest t c =
 
 pub arrange-returns-in_default : goal.arrange-returns-in_default
 arrange-returns-in_default t c =
-    let one = types_of_one c.args.data_type.now c.in_default.not-Dictionary c.in_default.not-List c.in_default.not-LargeList c.in_default.not-Struct c.in_default.not-Map in
-    let whole = arranged_one c.args.data_type.now c.in_default.not-Dictionary c.in_default.not-List c.in_default.not-LargeList c.in_default.not-Struct c.in_default.not-Map in
+    let values = inside_values c.args.data_type.now c.in_default.not-Dictionary c.in_default.not-List c.in_default.not-LargeList c.in_default.not-Struct c.in_default.not-Map in
+    let one = types_of_values c.args.data_type.now values in
+    let whole = arranged_values c.args.data_type.now values in
     record {
       arranged = subst (λ (whole : Arranged). IfOk c.first_column.result (λ statistics. whole c.args.columns.now.items ≡ Some (statistics, c.first_column.new.columns.items))) (sym whole) c.first_column.ensures.arranged;
       rest = subst (λ types. OnOk c.first_column.result (length c.first_column.new.columns.items + length types ≡ length c.args.columns.now.items)) (sym one) c.first_column.ensures.rest;

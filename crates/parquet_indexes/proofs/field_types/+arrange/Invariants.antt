@@ -1,6 +1,7 @@
 use Rattle.std.proofs.Common.{◌≡◌, ◌+◌, drop, length, map}
 use Rattle.std.specs.Prelude.{flat_map}
-use Rattle.parquet_indexes.specs.FieldTypes.{arranged, arranged_in_turn, leaf_types}
+use Rattle.parquet_statistics.specs.LeafTypes.{leaf_types}
+use Rattle.parquet_indexes.specs.FieldTypes.{arranged, arranged_in_turn}
 use Rattle.parquet_indexes.proofs.FieldTypeLemmas.{and_then_these}
 use Rattle.parquet_indexes.proofs.field_types.+arrange.Given as goal
 

@@ -1,5 +1,5 @@
-use Rattle.std.proofs.Common.{◌≡◌, ◌∙◌, refl, true, false, inl, ℕ, List, [], Option, Some, Vec, Global, subst, sym, ap}
-use Rattle.std.specs.Prelude.{IfErr, IfOk, IfSome, Ok, Err}
+use Rattle.std.proofs.Common.{◌≡◌, ◌∙◌, refl, true, inl, ℕ, List, [], Option, Some, Vec, Global, subst, sym, ap}
+use Rattle.std.specs.Prelude.{IfSome, Ok, Err}
 use Rattle.std.specs.List.{list_all}
 use Rattle.std.proofs.lemmas.Result.{IfErr-weaker, IfOk-weaker, err_from_is_err_and}
 use Rattle.columns_core.specs.Refusals.{IsDamaged}
@@ -9,7 +9,7 @@ use Rattle.parquet_meta.specs.Source.{Finds, IsReadFailure}
 use Rattle.parquet_meta.specs.declared.metadata.PageLocation.{PageLocation}
 use Rattle.parquet_indexes.specs.Answered.{AnswersAt, RowsOfPages}
 use Rattle.parquet_indexes.specs.FieldStatistics.{AreOfFields, causes_of_fields}
-use Rattle.parquet_indexes.specs.FieldTypes.{has_column}
+use Rattle.parquet_statistics.specs.LeafTypes.{has_column}
 use Rattle.parquet_indexes.specs.PageMaps.{InFields, in_fields, locations_of_fields, pages_at_places, rows_at_places}
 use Rattle.parquet_indexes.specs.declared.page_statistics.FieldPageStatistics.{FieldPageStatistics}
 use Rattle.parquet_indexes.proofs.AnswerLemmas.{chosen, ill_shaped, locations_fail, none_wrong, not_selected, passed_on, rows_fail, statistics_fail}

@@ -1,4 +1,4 @@
-use Rattle.std.proofs.Common.{◌≡◌, ◌∙◌, sym, subst}
+use Rattle.std.proofs.Common.{◌∙◌, sym, subst}
 use Rattle.std.specs.List.{AllByRecursion}
 use Rattle.columns_core.specs.declared.data_type.DataType.{Decimal}
 use Rattle.column_ends.specs.Laws.{AreEndsOf}

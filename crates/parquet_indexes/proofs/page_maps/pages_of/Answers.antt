@@ -1,4 +1,4 @@
-use Rattle.std.proofs.Common.{◌≡◌, ◌∙◌, true, List, Option, Some, Vec, Global, map, subst, sym}
+use Rattle.std.proofs.Common.{◌≡◌, ◌∙◌, List, Some, Vec, Global, subst, sym}
 use Rattle.std.specs.Prelude.{IfErr, IfOk, IfSome, Err}
 use Rattle.std.specs.List.{list_all}
 use Rattle.std.proofs.lemmas.Bool.{and_parts}
@@ -8,7 +8,7 @@ use Rattle.parquet_base.specs.Intervals.{is_well_shaped}
 use Rattle.parquet_meta.specs.Source.{Finds}
 use Rattle.parquet_meta.specs.declared.metadata.PageLocation.{PageLocation}
 use Rattle.parquet_page.specs.declared.page.FilteredPage.{FilteredPage}
-use Rattle.parquet_indexes.specs.FieldTypes.{has_column}
+use Rattle.parquet_statistics.specs.LeafTypes.{has_column}
 use Rattle.parquet_indexes.specs.PageMaps.{InFields, in_fields, locations_of_fields, pages_at_places}
 use Rattle.parquet_indexes.proofs.MadeLemmas.{next_found, not_found}
 use Rattle.parquet_indexes.proofs.page_maps.pages_of.Goals as goal

@@ -1,4 +1,4 @@
-use Rattle.std.proofs.Common.{◌≡◌, ◌+◌, List, Option, Some, Vec, Global, drop, map, subst, sym}
+use Rattle.std.proofs.Common.{◌≡◌, List, Some, Vec, Global, map, subst}
 use Rattle.std.proofs.lemmas.List.{drop_all, map_push}
 use Rattle.std.proofs.lemmas.Result.{err_from_is_err_and}
 use Rattle.columns_core.specs.Refusals.{IsDamaged}
