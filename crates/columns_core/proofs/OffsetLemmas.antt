@@ -1,10 +1,11 @@
 -- Places in joined items.
-use Rattle.std.proofs.Common.{◌≡◌, ◌⊎◌, inl, inr, ℕ, zero, suc, ◌+◌, ◌-◌, ◌<◌, ◌≤◌, List, [], ◌∷◌, ◌++◌, length, get_or, refl, sym, ap, ◌∙◌, arith, length-append}
-use Rattle.std.specs.Prelude.{slice_get, slice_range, Some}
+use Rattle.std.proofs.Common.{◌≡◌, ◌⊎◌, inl, inr, ℕ, ℤ, zero, suc, ◌+◌, ◌-◌, ◌<◌, ◌≤◌, List, [], ◌∷◌, ◌++◌, length, get_or, map, refl, sym, subst, ap, ap₂, ◌∙◌, arith, length-append, append_assoc, append-nil}
+use Rattle.std.specs.Prelude.{nat_abs, slice_get, slice_range, sum_by, Some}
+use Rattle.std.proofs.lemmas.List.Sums.{sum_by-append, sum_by-cons}
 use Rattle.std.proofs.lemmas.Bool.{cases_lt}
 use Rattle.std.proofs.Math.ListN.{get_or-append}
 use Rattle.std.proofs.lemmas.List.{get_or-append_right}
-use Rattle.columns_core.specs.Offsets.{AreOffsets, last, parts}
+use Rattle.columns_core.specs.Offsets.{AreOffsets, ends_behind, last, parts}
 
 first-some : (offsets : List ℕ) → slice_get offsets 0 ≡ Some 0 → 0 < length offsets
 first-some [] h = absurd (grind arith)
@@ -34,6 +35,9 @@ rises offsets place i were behind within (inr past) =
 pub more_offsets : (offsets : List ℕ) (place : ℕ) → AreOffsets offsets → last offsets ≤ place → AreOffsets (offsets ++ place ∷ [])
 more_offsets offsets place were behind = record { begins = begins-more offsets place were.begins; rise = λ i within. rises offsets place i were behind within (cases_lt (suc i) (length offsets)) }
 
+pub last-pushed : (offsets : List ℕ) (place : ℕ) → last (offsets ++ place ∷ []) ≡ place
+last-pushed offsets place = at-end offsets place (length (offsets ++ place ∷ []) - 1) (omega (arith, length-append offsets (place ∷ [])))
+
 -- from any place on to any later one
 pub risen : (offsets : List ℕ) (i more : ℕ) → AreOffsets offsets → i + more < length offsets → get_or offsets i 0 ≤ get_or offsets (i + more) 0
 risen offsets i zero shape within = let e : i + 0 ≡ i = omega arith in omega (arith, ap (λ k. get_or offsets k 0) e)
@@ -54,3 +58,42 @@ get-parts [] joined i h = absurd (omega arith)
 get-parts (start ∷ []) joined i h = absurd (omega arith)
 get-parts (start ∷ end ∷ offsets) joined zero h = refl
 get-parts (start ∷ end ∷ offsets) joined (suc i) h = get-parts (end ∷ offsets) joined i (omega arith)
+
+-- ---- items of some lengths more
+
+-- What is there and the ends of the lengths that are left are the ends of all.
+pub record EndsLeft (base : List ℕ) (start : ℕ) (whole : List ℤ) (now : List ℕ) (end : ℕ) (left : List ℤ) : Type 0 where
+  pub added : now ++ ends_behind end (map nat_abs left) ≡ base ++ ends_behind start (map nat_abs whole)
+  pub sum : end + sum_by nat_abs left ≡ start + sum_by nat_abs whole
+
+ends-append : (place : ℕ) (front rest : List ℤ) → ends_behind place (map nat_abs (front ++ rest)) ≡ ends_behind place (map nat_abs front) ++ ends_behind (place + sum_by nat_abs front) (map nat_abs rest)
+ends-append place [] rest = let none : place ≡ place + 0 = omega arith in ap (λ n. ends_behind n (map nat_abs rest)) none
+ends-append place (long ∷ front) rest =
+    let end = place + nat_abs long in
+    let sum : end + sum_by nat_abs front ≡ place + sum_by nat_abs (long ∷ front) = omega (arith, sum_by-cons nat_abs long front) in
+    ap (λ ends. end ∷ ends) (ends-append end front rest ∙ ap (λ n. ends_behind end (map nat_abs front) ++ ends_behind n (map nat_abs rest)) sum)
+
+module _ (base : List ℕ) (start : ℕ) (whole : List ℤ) where
+  pub ends-more : (now new : List ℕ) (end behind : ℕ) (front rest left : List ℤ) → EndsLeft base start whole now end left → left ≡ front ++ rest → new ≡ now ++ ends_behind end (map nat_abs front) → behind ≡ end + sum_by nat_abs front
+      → EndsLeft base start whole new behind rest
+  ends-more now new end behind front rest left were cut is at = record {
+    added = ap₂ (λ ends n. ends ++ ends_behind n (map nat_abs rest)) is at ∙ append_assoc now (ends_behind end (map nat_abs front)) (ends_behind (end + sum_by nat_abs front) (map nat_abs rest))
+        ∙ ap (λ ends. now ++ ends) (sym (ends-append end front rest)) ∙ ap (λ all. now ++ ends_behind end (map nat_abs all)) (sym cut) ∙ were.added;
+    sum = omega (arith, at, were.sum, sum_by-append nat_abs front rest, ap (sum_by nat_abs) cut);
+  }
+
+  pub no-ends-left : (now : List ℕ) (end : ℕ) (left : List ℤ) → EndsLeft base start whole now end left → left ≡ [] → (now ≡ base ++ ends_behind start (map nat_abs whole)) × (end ≡ start + sum_by nat_abs whole)
+  no-ends-left now end left were none =
+      (sym (append-nil now) ∙ ap (λ all. now ++ ends_behind end (map nat_abs all)) (sym none) ∙ were.added, omega (arith, were.sum, ap (sum_by nat_abs) none))
+
+pub more_ends : (offsets : List ℕ) (lengths : List ℤ) → AreOffsets offsets
+    → AreOffsets (offsets ++ ends_behind (last offsets) (map nat_abs lengths)) × (last (offsets ++ ends_behind (last offsets) (map nat_abs lengths)) ≡ last offsets + sum_by nat_abs lengths)
+more_ends offsets [] were = let none = sym (append-nil offsets) in (subst AreOffsets none were, omega (arith, ap last none))
+more_ends offsets (long ∷ lengths) were =
+    let end = last offsets + nat_abs long in
+    let more = offsets ++ end ∷ [] in
+    let at : last more ≡ end = last-pushed offsets end in
+    let rest = more_ends more lengths (more_offsets offsets end were (omega arith)) in
+    let whole : more ++ ends_behind (last more) (map nat_abs lengths) ≡ offsets ++ ends_behind (last offsets) (map nat_abs (long ∷ lengths)) =
+    ap (λ n. more ++ ends_behind n (map nat_abs lengths)) at ∙ append_assoc offsets (end ∷ []) (ends_behind end (map nat_abs lengths)) in
+    (subst AreOffsets whole rest.0, omega (arith, rest.1, at, ap last whole, sum_by-cons nat_abs long lengths))

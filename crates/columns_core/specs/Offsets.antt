@@ -1,5 +1,5 @@
 -- The places in joined items at which each begins and the last ends, the first of them 0.
-use Rattle.std.specs.Prelude.{◌≡◌, ◌<◌, ◌≤◌, ℕ, suc, ◌-◌, List, [], ◌∷◌, length, get_or, slice_get, slice_range, Some}
+use Rattle.std.specs.Prelude.{◌≡◌, ◌<◌, ◌≤◌, ℕ, suc, ◌+◌, ◌-◌, List, [], ◌∷◌, length, get_or, slice_get, slice_range, Some}
 
 -- The first is 0, and none is below the one before it.
 pub record AreOffsets (offsets : List ℕ) : Type 0 where
@@ -15,3 +15,8 @@ abbrev pub parts : {X : Type 0} → List ℕ → List X → List (List X)
 parts [] joined = []
 parts (start ∷ []) joined = []
 parts (start ∷ end ∷ offsets) joined = slice_range joined start end ∷ parts (end ∷ offsets) joined
+
+-- where items of these lengths end behind a place
+abbrev pub ends_behind : ℕ → List ℕ → List ℕ
+ends_behind place [] = []
+ends_behind place (long ∷ lengths) = (place + long) ∷ ends_behind (place + long) lengths

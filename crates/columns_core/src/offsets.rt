@@ -1,7 +1,7 @@
 //! Where the items of joined bytes begin and end.
-ghost use Rattle.std.specs.Prelude.{◌≡◌, ◌⊎◌, ◌<◌, ◌≤◌, ℕ, ◌+◌, ◌-◌, Bool, List, [], ◌∷◌, ◌++◌, length, slice_index, IfSome, IfNone, IfOk, IfErr, OnOk};
+ghost use Rattle.std.specs.Prelude.{◌≡◌, ◌⊎◌, ◌<◌, ◌≤◌, ℕ, ◌+◌, ◌-◌, Bool, List, [], ◌∷◌, ◌++◌, length, map, nat_abs, sum_by, slice_index, IsTrue, IsFalse, IfSome, IfNone, IfOk, IfErr, OnOk};
 ghost use Rattle.columns_core.specs.Causes.{IsWantOfMemory};
-ghost use Rattle.columns_core.specs.Offsets.{AreOffsets, last};
+ghost use Rattle.columns_core.specs.Offsets.{AreOffsets, ends_behind, last};
 
 use crate::Error;
 use std::alloc::{AllocError, Global};
@@ -127,6 +127,21 @@ impl<O: Offset> Offsets<O> {
         Ok(())
     }
 
+    /// Items of these lengths more.
+    #[inline]
+    pub fn try_extend_from_lengths(&mut self, lengths: &[i64]) -> Result<(), Error>
+        ensures ok { OnOk result (self.new ≡ self.old ++ ends_behind (last self.old) (map nat_abs lengths.now)) }
+        ensures last { OnOk result (last self.new ≡ last self.old + sum_by nat_abs lengths.now) }
+        ensures fits { OnOk result (last self.old ≤ O.greatest → last self.new ≤ O.greatest) }
+        ensures err { let end = last self.old + sum_by nat_abs lengths.now in
+            IfErr result (λ e. (self.new ≡ self.old)
+            × (IsWantOfMemory e ⊎ ((e ≡ Error.Overflow) × (O.greatest < end)))) }
+    {
+        let end = self.places[self.places.len() - 1];
+        push_ends(&mut self.places, end, lengths)?;
+        Ok(())
+    }
+
     /// Takes memory for so many items more.
     pub fn reserve(&mut self, additional: usize) -> Result<(), Error>
         ensures same { self.new ≡ self.old }
@@ -198,5 +213,49 @@ impl<O: Offset> Offsets<O> {
         Ok(Offsets {
             places: Vec::from_slice(alloc, self.places.as_slice())?,
         })
+    }
+}
+
+/// Writes where items of these lengths end behind a place, if no end passes the greatest.
+fn write_ends<O: Offset>(start: O, lengths: &[i64], ends: &mut [O]) -> bool
+    requires { length ends.old ≡ length lengths.now }
+    ensures written { IsTrue result → map O.value ends.new
+        ≡ ends_behind (O.value start) (map nat_abs lengths.now) }
+    ensures fits { let end = O.value start + sum_by nat_abs lengths.now in
+        IsTrue result → O.value start ≤ O.greatest → end ≤ O.greatest }
+    ensures none { IsFalse result → O.greatest < O.value start + sum_by nat_abs lengths.now }
+    ensures same { length ends.new ≡ length ends.old }
+{
+    let mut end = start;
+    for i in 0..lengths.len() {
+        let Some(next) = end.further(lengths[i].unsigned_abs() as usize) else {
+            return false;
+        };
+        end = next;
+        ends[i] = end;
+    }
+    true
+}
+
+/// Appends where items of these lengths end behind a place.
+fn push_ends<O: Offset>(places: &mut Vec<O>, start: O, lengths: &[i64]) -> Result<(), Error>
+    ensures ok { let ends = ends_behind (O.value start) (map nat_abs lengths.now) in
+        OnOk result (map O.value places.new.items ≡ map O.value places.old.items ++ ends) }
+    ensures fits { let end = O.value start + sum_by nat_abs lengths.now in
+        OnOk result (O.value start ≤ O.greatest → end ≤ O.greatest) }
+    ensures err { let end = O.value start + sum_by nat_abs lengths.now in
+        IfErr result (λ e. (places.new.items ≡ places.old.items)
+        × (IsWantOfMemory e ⊎ ((e ≡ Error.Overflow) × (O.greatest < end)))) }
+{
+    let held = places.len();
+    let Some(all) = held.checked_add(lengths.len()) else {
+        return Err(Error::from(AllocError));
+    };
+    places.resize(all, start)?;
+    if write_ends(start, lengths, &mut places[held..]) {
+        Ok(())
+    } else {
+        places.truncate(held);
+        Err(Error::Overflow)
     }
 }
