@@ -1,11 +1,11 @@
 -- Nulls are given as the arrays of a column, whose rows wait.
-use Rattle.std.proofs.Common.{◌≡◌, ℕ, zero, suc, ◌+◌, ◌-◌, ◌<◌, ◌≤◌, List, [], ◌∷◌, ◌++◌, length, map, take, drop, replicate, refl, sym, ap, ◌∙◌, subst, inl, arith, append-nil}
-use Rattle.std.specs.Prelude.{min, Option, Some, None, Result, Ok, option_map}
+use Rattle.std.proofs.Common.{◌≡◌, ℕ, zero, suc, ◌+◌, ◌-◌, ◌<◌, ◌≤◌, List, [], ◌∷◌, ◌++◌, length, map, take, replicate, refl, sym, ap, ◌∙◌, subst, inl, arith, append-nil}
+use Rattle.std.specs.Prelude.{min, Option, Some, None, Result, Ok}
 use Rattle.std.proofs.lemmas.List.{drop-replicate, length-replicate, replicate-append-replicate, take-replicate}
 use Rattle.columns_core.specs.Array.{cells, data_type_of}
 use Rattle.columns_core.specs.declared.array.Array.{Array}
 use Rattle.columns_core.specs.declared.array.Array.TheVariants as array
-use Rattle.columns_core.specs.declared.cell.Cell.{Cell, Null}
+use Rattle.columns_core.specs.declared.cell.Cell.{Null}
 use Rattle.columns_core.specs.declared.error.Error.{Error}
 use Rattle.page_decoding.specs.NextChunk.{IsFirstChunk}
 use Rattle.page_decoding.specs.Outcome.{Outcome, Given}

@@ -71,8 +71,8 @@ impl FlatState<PlainPlace> {
         ensures read { OnOk result (read_encoding false (data_content page.now) ≡ Some Plain) }
         ensures refused { let causes = page_causes None false None (data_content page.now) in
             let is_read = read_encoding false (data_content page.now) ≡ Some Plain in
-            IfErr result (λ e. IsOneOf causes (cause_of e)
-            ⊎ ((cause_of e ≡ Some NotYetImplemented) × (is_read → ⊥))) }
+            IfErr result (λ e. (is_read × IsOneOf causes (cause_of e))
+            ⊎ ((is_read → ⊥) × (cause_of e ≡ Some NotYetImplemented))) }
     {
         if page_encoding(page, false) != Some(ValueEncoding::Plain) {
             return Err(Error::NotYetImplemented(Part::Header));
@@ -93,8 +93,8 @@ impl FlatState<KeyPlace> {
         ensures read { OnOk result (read_encoding true (data_content page.now) ≡ Some Keys) }
         ensures refused { let causes = page_causes None true None (data_content page.now) in
             let is_read = read_encoding true (data_content page.now) ≡ Some Keys in
-            IfErr result (λ e. IsOneOf causes (cause_of e)
-            ⊎ ((cause_of e ≡ Some NotYetImplemented) × (is_read → ⊥))) }
+            IfErr result (λ e. (is_read × IsOneOf causes (cause_of e))
+            ⊎ ((is_read → ⊥) × (cause_of e ≡ Some NotYetImplemented))) }
     {
         if page_encoding(page, true) != Some(ValueEncoding::Keys) {
             return Err(Error::NotYetImplemented(Part::Header));

@@ -20,7 +20,7 @@ returns-in_err-walk-clause-refused c =
     let p = err_from_is_err_and c.from_residual.result c.from_residual.ensures.1 in
     let page = data_content c.args.page.now in
     let read : read_encoding true page ≡ Some Keys = first_of (search rules, grind (arith, common_steps)) in
-    rw (p.1, p.2) (inl (levels-told true None page Keys (cause_of c.in_err-walk.field-0.0) (is_read true page Keys read) c.in_err-walk.ensures.refusal))
+    rw (p.1, p.2) (inl (read, levels-told true None page Keys (cause_of c.in_err-walk.field-0.0) (is_read true page Keys read) c.in_err-walk.ensures.refusal))
 
 pub returns-in_err-values-clause-refused : goal.returns-in_err-values-clause-refused
 returns-in_err-values-clause-refused c =
@@ -32,7 +32,7 @@ returns-in_err-values-clause-refused c =
     let read : read_encoding true page ≡ Some Keys = first_of (search rules, grind (arith, common_steps)) in
     let whole = opened-causes true None page Keys body.values count steps (is_read true page Keys read) (opened page body count steps c.in_ok-walk.ensures.ok c.in_ok-bytes.ensures.parts c.in_ok-walk.ensures.steps c.stored_count.ensures) in
     let P : List Cause → Type 0 = λ causes. IsOneOf causes (cause_of c.in_err-values.field-0.0) in
-    rw (p.1, p.2) (inl (subst P (sym whole) (c.in_err-values.ensures.cause page.type.physical_type)))
+    rw (p.1, p.2) (inl (read, subst P (sym whole) (c.in_err-values.ensures.cause page.type.physical_type)))
 
 pub returns-clause-ok : goal.returns-clause-ok
 returns-clause-ok c =

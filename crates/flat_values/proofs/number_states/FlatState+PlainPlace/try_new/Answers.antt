@@ -20,7 +20,7 @@ returns-in_err-walk-clause-refused g c =
     let p = err_from_is_err_and c.from_residual.result c.from_residual.ensures.1 in
     let page = data_content c.args.page.now in
     let read : read_encoding false page ≡ Some Plain = first_of (search rules, grind (arith, common_steps)) in
-    rw (p.1, p.2) (inl (levels-told false None page Plain (cause_of c.in_err-walk.field-0.0) (is_read false page Plain read) c.in_err-walk.ensures.refusal))
+    rw (p.1, p.2) (inl (read, levels-told false None page Plain (cause_of c.in_err-walk.field-0.0) (is_read false page Plain read) c.in_err-walk.ensures.refusal))
 
 pub returns-in_err-values-clause-refused : goal.returns-in_err-values-clause-refused
 returns-in_err-values-clause-refused g c =
@@ -32,7 +32,7 @@ returns-in_err-values-clause-refused g c =
     let read : read_encoding false page ≡ Some Plain = first_of (search rules, grind (arith, common_steps)) in
     let whole = opened-causes false None page Plain body.values count steps (is_read false page Plain read) (opened page body count steps c.in_ok-walk.ensures.ok c.in_ok-bytes.ensures.parts c.in_ok-walk.ensures.steps c.stored_count.ensures) in
     let P : List Cause → Type 0 = λ causes. IsOneOf causes (cause_of c.in_err-values.field-0.0) in
-    rw (p.1, p.2) (inl (subst P (sym (whole ∙ ap (λ t. causes_unless_none count (value_causes t None Plain body.values count)) c.requires.takes)) c.in_err-values.ensures.cause))
+    rw (p.1, p.2) (inl (read, subst P (sym (whole ∙ ap (λ t. causes_unless_none count (value_causes t None Plain body.values count)) c.requires.takes)) c.in_err-values.ensures.cause))
 
 pub returns-clause-ok : goal.returns-clause-ok
 returns-clause-ok g c =
