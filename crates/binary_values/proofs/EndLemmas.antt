@@ -1,38 +1,14 @@
 -- Strings that are appended together, by their lengths.
-use Rattle.std.proofs.Common.{◌≡◌, ℕ, ℤ, pos, ◌+◌, ◌<◌, List, [], ◌∷◌, ◌++◌, length, get_or, take, drop, map, refl, sym, ap, ap₂, ◌∙◌, subst, arith, append_assoc, append-nil}
+use Rattle.std.proofs.Common.{◌≡◌, ℕ, ℤ, ◌+◌, List, [], ◌∷◌, ◌++◌, length, take, drop, map, refl, sym, ap, ap₂, ◌∙◌, arith, append_assoc, append-nil}
 use Rattle.std.specs.Prelude.{nat_abs, sum_by}
 use Rattle.std.specs.List.{flat_map}
-use Rattle.std.proofs.lemmas.List.{drop_more, length-append, length-drop, length-take-le, take-append-drop, take_at}
+use Rattle.std.proofs.lemmas.List.{length-append, length-drop, length-take-le, take-append-drop, take_at}
 use Rattle.std.proofs.lemmas.List.Sums.{sum_by-cons}
 use Rattle.std.proofs.Math.Seq.{drop-append_seam}
-use Rattle.columns_core.specs.Offsets.{AreOffsets, last, parts}
-use Rattle.columns_core.proofs.OffsetLemmas.{more_offsets}
-use Rattle.binary_values.specs.JoinedStrings.{cut_into, ends_behind}
-use Rattle.binary_values.proofs.StringLemmas.{last-pushed, parts-push}
-
--- ---- where they end
-
--- What was pushed and the ends of the lengths that are left are the ends of all.
-pub record EndsLeft (old now : List ℕ) (whole left : List ℤ) : Type 0 where
-  pub added : now ++ ends_behind (last now) (map nat_abs left) ≡ old ++ ends_behind (last old) (map nat_abs whole)
-  pub bytes : last now + sum_by nat_abs left ≡ last old + sum_by nat_abs whole
-
-end-pushed : (old now new : List ℕ) (whole left : List ℤ) (long : ℤ) → EndsLeft old now whole (long ∷ left) → new ≡ now ++ (last now + nat_abs long) ∷ [] → EndsLeft old new whole left
-end-pushed old now new whole left long ends is =
-    let end : last new ≡ last now + nat_abs long = ap last is ∙ last-pushed now (last now + nat_abs long) in
-    let rest = ends_behind (last now + nat_abs long) (map nat_abs left) in
-    record {
-      added = ap₂ (λ xs e. xs ++ ends_behind e (map nat_abs left)) is end ∙ append_assoc now ((last now + nat_abs long) ∷ []) rest ∙ ends.added;
-      bytes = omega (arith, ends.bytes, end, sum_by-cons nat_abs long left);
-    }
-
-pub ends-more : (old now new : List ℕ) (whole : List ℤ) (i : ℕ) → i < length whole → EndsLeft old now whole (drop i whole) → new ≡ now ++ (last now + nat_abs (get_or whole i (pos 0))) ∷ []
-    → EndsLeft old new whole (drop (i + 1) whole)
-ends-more old now new whole i lt ends is =
-    let P : List ℤ → Type 0 = λ left. EndsLeft old now whole left in
-    end-pushed old now new whole (drop (i + 1) whole) (get_or whole i (pos 0)) (subst P (drop_more whole i (pos 0) lt) ends) is
-
--- ---- the strings
+use Rattle.columns_core.specs.Offsets.{AreOffsets, ends_behind, last, parts}
+use Rattle.columns_core.proofs.OffsetLemmas.{last-pushed, more_offsets}
+use Rattle.binary_values.specs.JoinedStrings.{cut_into}
+use Rattle.binary_values.proofs.StringLemmas.{parts-push}
 
 pub parts-joined : (lengths : List ℤ) (offsets bytes joined : List ℕ) → AreOffsets offsets → last offsets ≡ length bytes → sum_by nat_abs lengths ≡ length joined
     → parts (offsets ++ ends_behind (last offsets) (map nat_abs lengths)) (bytes ++ joined) ≡ parts offsets bytes ++ cut_into (map nat_abs lengths) joined

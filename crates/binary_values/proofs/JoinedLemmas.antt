@@ -105,21 +105,24 @@ pub record Cut {A : Type 0} (f : A → List ℕ) (items : List A) (lengths : Lis
   pub strings : cut_into (map nat_abs lengths) joined ≡ map f items
   pub bytes : length joined ≡ sum_by length (map f items)
 
+-- strings that have these lengths, joined
+pub cut-of : {A : Type 0} (f : A → List ℕ) (items : List A) (lengths : List ℤ) (joined : List ℕ) → map nat_abs lengths ≡ map (λ item. length (f item)) items → joined ≡ flat_map f items → Cut f items lengths joined
+cut-of f items lengths joined own is =
+    let all = joined-bytes f items in
+    record {
+      sum = same-sum f lengths items own ∙ sym all ∙ ap length (sym is);
+      strings = ap₂ cut_into own is ∙ cut-strings f items;
+      bytes = ap length is ∙ all;
+    }
+
 pub chunk-cut : (walk : DeltaLength) (bytes : List ℕ) (found many : ℕ) (new old : List ℤ) (joined : List ℕ) → IsSome (joined_left walk bytes) → found ≡ min many (length (joined_values walk bytes))
     → new ≡ map (λ place. pos place.1) (take found (joined_values walk bytes)) ++ drop found old → joined ≡ flat_map (bytes_in bytes) (take found (joined_values walk bytes))
     → Cut (bytes_in bytes) (take found (joined_values walk bytes)) (take found new) joined
 chunk-cut walk bytes found many new old joined spelled counted written is =
     let values = joined_values walk bytes in
-    let f = bytes_in bytes in
     let number : ℕ × ℕ → ℤ = λ place. pos place.1 in
-    let long : ℕ × ℕ → ℕ = λ place. length (f place) in
+    let long : ℕ × ℕ → ℕ = λ place. length (bytes_in bytes place) in
     let size : length (map number (take found values)) ≡ found = omega (arith, length-map (take found values) number, length-take found values, counted) in
     let own : take found new ≡ map number (take found values) = ap (take found) written ∙ take_at (map number (take found values)) (drop found old) found size in
-    let lengths : map nat_abs (take found new) ≡ map long (take found values) =
-    ap (map nat_abs) own ∙ whole-lengths (take found values) ∙ sym (take-map (λ place. place.1) found values) ∙ ap (take found) (sym (joined-lengths walk bytes spelled)) ∙ take-map long found values in
-    let all = joined-bytes f (take found values) in
-    record {
-      sum = same-sum f (take found new) (take found values) lengths ∙ sym all ∙ ap length (sym is);
-      strings = ap₂ cut_into lengths is ∙ cut-strings f (take found values);
-      bytes = ap length is ∙ all;
-    }
+    cut-of (bytes_in bytes) (take found values) (take found new) joined
+    (ap (map nat_abs) own ∙ whole-lengths (take found values) ∙ sym (take-map (λ place. place.1) found values) ∙ ap (take found) (sym (joined-lengths walk bytes spelled)) ∙ take-map long found values) is

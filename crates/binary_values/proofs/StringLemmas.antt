@@ -37,12 +37,6 @@ last-more place next offsets =
     let b : suc (suc (length offsets)) - 1 ≡ suc (length offsets) = omega arith in
     ap (λ n. get_or (place ∷ next ∷ offsets) n 0) b ∙ sym (ap (λ n. get_or (next ∷ offsets) n 0) a)
 
--- the last of some offsets and one more
-pub last-pushed : (offsets : List ℕ) (place : ℕ) → last (offsets ++ place ∷ []) ≡ place
-last-pushed [] place = refl
-last-pushed (first ∷ []) place = last-more first place []
-last-pushed (first ∷ next ∷ offsets) place = last-more first next (offsets ++ place ∷ []) ∙ last-pushed (next ∷ offsets) place
-
 rise-from : (offsets : List ℕ) (end : ℕ) → ((i : ℕ) → suc i < length offsets → get_or offsets i 0 ≤ get_or offsets (suc i) 0) → ((i : ℕ) → i < length offsets → get_or offsets i 0 ≤ end) → last offsets ≡ end → Rise offsets end
 rise-from [] end rise below at = tt
 rise-from (place ∷ []) end rise below at = at

@@ -1,10 +1,5 @@
--- Strings of some lengths, one behind the other: where each ends, and the strings themselves.
-use Rattle.std.specs.Prelude.{ℕ, ◌+◌, List, [], ◌∷◌, take, drop}
-
--- where items of these lengths end behind a place
-abbrev pub ends_behind : ℕ → List ℕ → List ℕ
-ends_behind place [] = []
-ends_behind place (long ∷ lengths) = (place + long) ∷ ends_behind (place + long) lengths
+-- Joined bytes, and the strings in them.
+use Rattle.std.specs.Prelude.{ℕ, List, [], ◌∷◌, take, drop}
 
 -- joined bytes, cut into strings of these lengths
 abbrev pub cut_into : List ℕ → List ℕ → List (List ℕ)

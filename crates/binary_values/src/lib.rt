@@ -16,5 +16,5 @@ mod word_rows;
 pub use byte_place::BytePlace;
 pub use byte_values::{ByteValues, DecodedBytes};
 pub use into_array::ByteColumn;
-pub use string_walk::StringWalk;
+pub use string_walk::{StringWalk, TakeStrings};
 pub use strings::Strings;

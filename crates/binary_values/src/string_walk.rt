@@ -7,11 +7,15 @@ ghost use Rattle.flat_values.specs.Added.{Adds};
 ghost use Rattle.binary_values.specs.ByteStrings.{AreJudged, IsCausedByBytes, byte_cell, stored_outcomes};
 
 use crate::Strings;
+use crate::short_strings::{SHORT_BYTES, join_short};
 use columns_core::{Error, Offset, Part};
 use parquet_encoding::{DeltaLength, PlainBytes};
 
-/// How many lengths are looked at together.
+/// How many strings are looked at together.
 const CHUNK: usize = 64;
+
+/// Room for as many short strings.
+const CHUNK_BYTES: usize = CHUNK * SHORT_BYTES;
 
 /// Walks byte strings that stand in the bytes which are handed to each call.
 pub trait StringWalk: Copy {
@@ -25,7 +29,10 @@ pub trait StringWalk: Copy {
         ensures within { IfSome result (λ place. place.0 + place.1 ≤ length bytes.now) }
         ensures rest { places self.new bytes.now ≡
             Some (drop 1 (unwrap_or (places self.old bytes.now) [])) };
+}
 
+/// Takes byte strings out of the bytes that it walks over.
+pub trait TakeStrings: StringWalk {
     /// Appends the next strings as they stand, at most so many: the place behind them.
     fn take_strings<O: Offset>(
         self,
@@ -33,15 +40,15 @@ pub trait StringWalk: Copy {
         strings: &mut Strings<O>,
         count: usize,
     ) -> Result<Self, Error>
-        requires spelled { IsSome (places self bytes.now) }
+        requires spelled { IsSome (Self.places self bytes.now) }
         requires fits { sum_by length strings.old ≤ O.greatest }
-        ensures added { let left = unwrap_or (places self bytes.now) [] in
+        ensures added { let left = unwrap_or (Self.places self bytes.now) [] in
             let items = map (bytes_in bytes.now) (take count left) in
             OnOk result (strings.new ≡ strings.old ++ items) }
-        ensures rest { let left = unwrap_or (places self bytes.now) [] in
-            IfOk result (λ new. places new bytes.now ≡ Some (drop count left)) }
+        ensures rest { let left = unwrap_or (Self.places self bytes.now) [] in
+            IfOk result (λ new. Self.places new bytes.now ≡ Some (drop count left)) }
         ensures fits { OnOk result (sum_by length strings.new ≤ O.greatest) }
-        ensures err { let left = unwrap_or (places self bytes.now) [] in
+        ensures err { let left = unwrap_or (Self.places self bytes.now) [] in
             let items = map (bytes_in bytes.now) (take count left) in
             let sum = sum_by length strings.old + sum_by length items in
             IfErr result (λ e. IsWantOfMemory e ⊎ ((e ≡ Error.Overflow) × (O.greatest < sum))) };
@@ -55,7 +62,9 @@ impl StringWalk for PlainBytes {
     fn next_string(&mut self, bytes: &[u8]) -> Option<(usize, usize)> {
         self.next(bytes)
     }
+}
 
+impl TakeStrings for PlainBytes {
     fn take_strings<O: Offset>(
         self,
         bytes: &[u8],
@@ -63,11 +72,17 @@ impl StringWalk for PlainBytes {
         count: usize,
     ) -> Result<PlainBytes, Error> {
         let mut walk = self;
-        for _ in 0..count {
-            let Some((start, length)) = walk.next(bytes) else {
+        let mut left = count;
+        let mut block = [0; CHUNK_BYTES];
+        let mut lengths = [0; CHUNK];
+        while left > 0 {
+            let many = left.min(CHUNK);
+            let held = strings.len();
+            walk = take_chunk(walk, bytes, strings, &mut block, &mut lengths[..many])?;
+            if strings.len() - held < many {
                 return Ok(walk);
-            };
-            strings.push(&bytes[start..start + length])?;
+            }
+            left -= many;
         }
         Ok(walk)
     }
@@ -81,7 +96,9 @@ impl StringWalk for DeltaLength {
     fn next_string(&mut self, bytes: &[u8]) -> Option<(usize, usize)> {
         self.next(bytes)
     }
+}
 
+impl TakeStrings for DeltaLength {
     fn take_strings<O: Offset>(
         self,
         bytes: &[u8],
@@ -101,6 +118,66 @@ impl StringWalk for DeltaLength {
             left -= found;
         }
         Ok(walk)
+    }
+}
+
+/// Appends the next strings one by one, at most so many.
+fn take_each<W: StringWalk, O: Offset>(
+    walk: W,
+    bytes: &[u8],
+    strings: &mut Strings<O>,
+    count: usize,
+) -> Result<W, Error>
+    requires spelled { IsSome (W.places walk bytes.now) }
+    requires fits { sum_by length strings.old ≤ O.greatest }
+    ensures added { let left = unwrap_or (W.places walk bytes.now) [] in
+        let items = map (bytes_in bytes.now) (take count left) in
+        OnOk result (strings.new ≡ strings.old ++ items) }
+    ensures rest { let left = unwrap_or (W.places walk bytes.now) [] in
+        IfOk result (λ new. W.places new bytes.now ≡ Some (drop count left)) }
+    ensures fits { OnOk result (sum_by length strings.new ≤ O.greatest) }
+    ensures err { let left = unwrap_or (W.places walk bytes.now) [] in
+        let items = map (bytes_in bytes.now) (take count left) in
+        let sum = sum_by length strings.old + sum_by length items in
+        IfErr result (λ e. IsWantOfMemory e ⊎ ((e ≡ Error.Overflow) × (O.greatest < sum))) }
+{
+    let mut walk = walk;
+    for _ in 0..count {
+        let Some((start, length)) = walk.next_string(bytes) else {
+            return Ok(walk);
+        };
+        strings.push(&bytes[start..start + length])?;
+    }
+    Ok(walk)
+}
+
+/// Appends the next strings, at most as many as there is room for lengths: together where all of them are short.
+fn take_chunk<W: StringWalk, O: Offset>(
+    walk: W,
+    bytes: &[u8],
+    strings: &mut Strings<O>,
+    block: &mut [u8],
+    lengths: &mut [i64],
+) -> Result<W, Error>
+    requires spelled { IsSome (W.places walk bytes.now) }
+    requires fits { sum_by length strings.old ≤ O.greatest }
+    ensures added { let left = unwrap_or (W.places walk bytes.now) [] in
+        let items = map (bytes_in bytes.now) (take (length lengths.old) left) in
+        OnOk result (strings.new ≡ strings.old ++ items) }
+    ensures rest { let left = unwrap_or (W.places walk bytes.now) [] in
+        IfOk result (λ new. W.places new bytes.now ≡ Some (drop (length lengths.old) left)) }
+    ensures fits { OnOk result (sum_by length strings.new ≤ O.greatest) }
+    ensures err { let left = unwrap_or (W.places walk bytes.now) [] in
+        let items = map (bytes_in bytes.now) (take (length lengths.old) left) in
+        let sum = sum_by length strings.old + sum_by length items in
+        IfErr result (λ e. IsWantOfMemory e ⊎ ((e ≡ Error.Overflow) × (O.greatest < sum))) }
+{
+    match join_short(walk, bytes, block, lengths) {
+        None => take_each(walk, bytes, strings, lengths.len()),
+        Some((behind, end)) => {
+            strings.push_joined(&block[..end], lengths)?;
+            Ok(behind)
+        }
     }
 }
 
@@ -149,7 +226,7 @@ pub(crate) fn are_judged_from<O: Offset>(strings: &Strings<O>, is_text: bool, fr
 }
 
 /// Appends the next strings, at most so many, of which texts are judged.
-pub(crate) fn take_stored<W: StringWalk, O: Offset>(
+pub(crate) fn take_stored<W: TakeStrings, O: Offset>(
     walk: W,
     bytes: &[u8],
     is_text: bool,

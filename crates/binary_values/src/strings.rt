@@ -3,7 +3,7 @@ ghost use Rattle.std.specs.Prelude.{◌≡◌, ◌⊎◌, ◌↔◌, ◌≤◌, 
 ghost use Rattle.columns_core.specs.Causes.{IsWantOfMemory};
 ghost use Rattle.columns_core.specs.Joined.{BeginAtCharacters};
 ghost use Rattle.columns_core.specs.Offsets.{AreOffsets, last, parts};
-ghost use Rattle.binary_values.specs.JoinedStrings.{cut_into, ends_behind};
+ghost use Rattle.binary_values.specs.JoinedStrings.{cut_into};
 ghost use Rattle.binary_values.specs.Rebased.{rebased};
 
 use columns_core::{Error, Offset, Offsets};
@@ -91,19 +91,21 @@ impl<O: Offset> Strings<O> {
         }
     }
 
-    /// Strings of these lengths more, whose bytes are joined. After a refusal some of them may be there.
+    /// Strings of these lengths more, whose bytes are joined.
     pub(crate) fn push_joined(&mut self, joined: &[u8], lengths: &[i64]) -> Result<(), Error>
         requires { sum_by nat_abs lengths.now ≡ length joined.now }
         ensures ok { OnOk result (self.new ≡ self.old ++ cut_into (map nat_abs lengths.now) joined.now) }
         ensures fits { OnOk result (sum_by length self.old + length joined.now ≤ O.greatest) }
         ensures err { let sum = sum_by length self.old + length joined.now in
-            IfErr result (λ e. IsWantOfMemory e ⊎ ((e ≡ Error.Overflow) × (O.greatest < sum))) }
+            IfErr result (λ e. (self.new ≡ self.old)
+            × (IsWantOfMemory e ⊎ ((e ≡ Error.Overflow) × (O.greatest < sum)))) }
     {
+        let before = self.values.len();
         self.values.extend_from_slice(joined)?;
-        match push_lengths(&mut self.offsets, lengths) {
+        match self.offsets.try_extend_from_lengths(lengths) {
             Ok(()) => Ok(()),
             Err(error) => {
-                self.values.truncate(self.offsets.last());
+                self.values.truncate(before);
                 Err(error)
             }
         }
@@ -151,25 +153,6 @@ impl<O: Offset> Strings<O> {
         let Strings { offsets, values } = self;
         (offsets, values)
     }
-}
-
-/// Items of these lengths more.
-fn push_lengths<O: Offset>(offsets: &mut Offsets<O>, lengths: &[i64]) -> Result<(), Error>
-    requires shape { AreOffsets offsets.old }
-    requires fits { last offsets.old ≤ O.greatest }
-    ensures ok { let ends = ends_behind (last offsets.old) (map nat_abs lengths.now) in
-        OnOk result (offsets.new ≡ offsets.old ++ ends) }
-    ensures last { OnOk result (last offsets.new ≡ last offsets.old + sum_by nat_abs lengths.now) }
-    ensures shape { AreOffsets offsets.new }
-    ensures most { last offsets.new ≤ last offsets.old + sum_by nat_abs lengths.now }
-    ensures fits { last offsets.new ≤ O.greatest }
-    ensures err { let sum = last offsets.old + sum_by nat_abs lengths.now in
-        IfErr result (λ e. IsWantOfMemory e ⊎ ((e ≡ Error.Overflow) × (O.greatest < sum))) }
-{
-    for long in lengths {
-        offsets.try_push(long.unsigned_abs() as usize)?;
-    }
-    Ok(())
 }
 
 /// Where an item begins, or the last ends.

@@ -3,9 +3,8 @@ use Rattle.std.proofs.Common.{◌≡◌, ◌∙◌, ℕ, zero, suc, ◌<◌, ◌
 use Rattle.std.proofs.lemmas.List.{append-nil, length-drop, map-append, take-append-drop}
 use Rattle.columns_core.specs.Array.{cells}
 use Rattle.columns_core.specs.declared.array.Array.{Array}
-use Rattle.columns_core.specs.declared.cell.Cell.{Cell}
 use Rattle.parquet_base.specs.Pieces.{cut, pieces}
-use Rattle.page_decoding.specs.Outcome.{Outcome, Given, cells_in}
+use Rattle.page_decoding.specs.Outcome.{Given, cells_in}
 use Rattle.page_decoding.specs.Queue.{IsChunkSize, joined}
 use Rattle.flat_values.specs.ColumnLeft.{ColumnLeft, wanted}
 use Rattle.flat_values.proofs.OutcomeLemmas.{cells_in-given}

@@ -1,5 +1,5 @@
 -- What is left of a column that one of some iterators reads: what is left by that one.
-use Rattle.std.specs.Prelude.{ℕ, true, List, Option, Some, None, Result}
+use Rattle.std.specs.Prelude.{ℕ, true, List, Option, None, Result}
 use Rattle.std.specs.Int.{w8, w16}
 use Rattle.std.specs.Iterator.{Count}
 use Rattle.columns_core.specs.Array.{cells, data_type_of}
@@ -11,7 +11,6 @@ use Rattle.parquet_meta.specs.declared.metadata.PhysicalType.TheVariants as stor
 use Rattle.parquet_page.specs.Content.{Content}
 use Rattle.flat_values.specs.declared.fixed.FixedValues.{FixedValues}
 use Rattle.flat_values.specs.declared.fixed_bytes.Decimals.{Decimals}
-use Rattle.flat_values.specs.declared.fixed_numbers.FixedNumbers.{FixedNumbers}
 use Rattle.flat_values.specs.declared.number_values.NumberValues.{NumberValues}
 use Rattle.flat_values.specs.declared.time.Int96Time.{Int96Time}
 use Rattle.flat_values.specs.Arrays.{ArraysLeft, flat_left}

@@ -120,13 +120,6 @@ module _ (is_over : List ℕ → KeyPlace → Type 0) (left : List ℕ → KeyPl
     enough = is.enough;
   }
 
-  pub state-as : IsFlatState is_over left page state → IsFlatState is_over left (stored_as physical page) state
-  state-as is = record {
-    page_is = record { levels = is.page_is.levels; intervals = is.page_is.intervals; place = is.page_is.place; row = is.page_is.row; fits = is.page_is.fits; rows = is.page_is.rows };
-    over = is.over;
-    enough = is.enough;
-  }
-
 -- ---- a state is built
 
 module _ (most : ℕ) (entries : Array) (page : DataContent) (state : FlatState KeyPlace) (named : encoding_of (header_encoding page.header) ≡ Some Keys)

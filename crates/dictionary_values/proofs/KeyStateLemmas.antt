@@ -82,9 +82,9 @@ module _ (page here : DataContent) (same : here ≡ stored_as ByteArray page) (k
   pub keys-fine : page_causes None true None here ≡ [] → uncompared_causes page ≡ []
   keys-fine none = sym causes-here ∙ none
 
-  pub keys-told : (o : Option Cause) → IsOneOf (page_causes None true None here) o ⊎ ((o ≡ Some NotYetImplemented) × (read_encoding true here ≡ Some Keys → ⊥)) → IsOneOf (uncompared_causes page) o
-  keys-told o (inl wrong) = let P : List Cause → Type 0 = λ causes. IsOneOf causes o in subst P causes-here wrong
-  keys-told o (inr other) = absurd (other.1 (ap (read_encoding true) same ∙ read-here page named))
+  pub keys-told : (o : Option Cause) → ((read_encoding true here ≡ Some Keys) × IsOneOf (page_causes None true None here) o) ⊎ ((read_encoding true here ≡ Some Keys → ⊥) × (o ≡ Some NotYetImplemented)) → IsOneOf (uncompared_causes page) o
+  keys-told o (inl wrong) = let P : List Cause → Type 0 = λ causes. IsOneOf causes o in subst P causes-here wrong.1
+  keys-told o (inr other) = absurd (other.0 (ap (read_encoding true) same ∙ read-here page named))
 
   pub keys-state : (state : FlatState KeyPlace) → IsKeyState here state → IsStateOfKeys page state
   keys-state state built =

@@ -9,7 +9,7 @@ use Rattle.parquet_page.specs.Opened.{key_causes, page_causes}
 use Rattle.parquet_page.specs.Selected.{selected_of}
 use Rattle.parquet_page.specs.Spelling.{page_encoding, placed_keys}
 use Rattle.parquet_page.specs.Values.{Keys, goes_with}
-use Rattle.page_decoding.specs.Outcome.{Outcome, page_outcomes}
+use Rattle.page_decoding.specs.Outcome.{page_outcomes}
 use Rattle.flat_values.specs.Conversion.{Conversion}
 use Rattle.flat_values.specs.Outcomes.{place_outcomes, selected_outcomes}
 use Rattle.dictionary_values.specs.Keys.{placed_entry, selected_by, selected_entries}

@@ -1,7 +1,7 @@
 -- The column index of one column, and columns with their types.
 use Rattle.std.proofs.Common.{◌≡◌, refl, sym, ◌∙◌, ap, subst, ℕ, zero, suc, ◌+◌, ◌<◌, ◌≤◌, Bool, true, false, cond, List, [], ◌∷◌, ◌++◌, length, map, drop, get_or, Option, Some, None, Err, arith, sum_by}
 use Rattle.std.specs.Prelude.{◌&&◌, ◌||◌, IfSome, IsSomeAnd, Result, filter, is_none, zip, if◌then◌else◌}
-use Rattle.std.specs.List.{AllZip, list_all}
+use Rattle.std.specs.List.{list_all}
 use Rattle.std.specs.Option.{option_map_or}
 use Rattle.std.proofs.lemmas.Bool.{and_parts}
 use Rattle.std.proofs.lemmas.List.Sums.{sum_by-cons}
@@ -125,13 +125,6 @@ pub sum_beside : {X Y : Type 0} (cost : Y → ℕ) (xs : List X) (ys : List Y) �
 sum_beside cost [] ys = omega arith
 sum_beside cost (x ∷ xs) [] = omega arith
 sum_beside {X} {Y} cost (x ∷ xs) (y ∷ ys) = omega (arith, sum_by-cons (λ (beside : X × Y). cost beside.1) (x, y) (zip xs ys), sum_by-cons cost y ys, sum_beside cost xs ys)
-
-pub beside_length : {X Y C : Type 0} (R : X × Y → C → Type 0) (xs : List X) (ys : List Y) (cs : List C) → length xs ≡ length ys → AllZip R (zip xs ys) cs → length cs ≡ length xs
-beside_length R [] ys [] same are = refl
-beside_length R [] ys (c ∷ cs) same are = absurd are
-beside_length R (x ∷ xs) [] cs same are = absurd (omega (arith, same))
-beside_length R (x ∷ xs) (y ∷ ys) [] same are = absurd are
-beside_length R (x ∷ xs) (y ∷ ys) (c ∷ cs) same are = ap suc (beside_length R xs ys cs (omega (arith, same)) are.1)
 
 -- ---- columns of a field
 

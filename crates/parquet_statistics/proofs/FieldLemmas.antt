@@ -63,16 +63,6 @@ module _ (field : Field) (groups : List RowGroupMetaData) where
       ap (λ lengths. and_then first_causes (byte_causes field groups ++ lengths))
       (sym (append_assoc _ _ (end_array_causes field.data_type (told_of_field field groups))))
 
-  pub type_part : IsPartOf (field_type_causes field.data_type) (deserialize_causes field groups)
-  type_part cause told =
-      subst (λ causes. Contains causes cause) (sym in_turn)
-      (first_of_then first_causes next_causes cause (left_part (field_type_causes field.data_type) (flat_map (group_causes_of_field field) groups) cause told))
-
-  pub group_part : IsPartOf (flat_map (group_causes_of_field field) groups) (deserialize_causes field groups)
-  group_part cause told =
-      subst (λ causes. Contains causes cause) (sym in_turn)
-      (first_of_then first_causes next_causes cause (right_part (field_type_causes field.data_type) (flat_map (group_causes_of_field field) groups) cause told))
-
   module _ (carried : field_type_causes field.data_type ≡ []) (well : flat_map (group_causes_of_field field) groups ≡ []) where
     all_next : deserialize_causes field groups ≡ next_causes
     all_next = in_turn ∙ then_after first_causes next_causes (none_of_both _ _ carried well)

@@ -21,7 +21,7 @@ use std::alloc::Global;
 /// fields of one come to different numbers of slots, as beside a map they may; `NotYetImplemented` where the field has not as many columns as its type,
 /// the type of one is not carried, a dictionary in the type has several columns, or bytes of a fixed size have no size; `ExternalFormat` where a count
 /// is negative or a value has not the width of its type; `OutOfSpec` where a text is not UTF-8; `Overflow` where a value does not fit its type, and,
-/// where all else is well, where the bytes of values pass the greatest place of theirs, or there are more groups than a dictionary has keys or a map or
+/// where all else is well, where the bytes of values pass the greatest place of theirs, or there are more slots than a dictionary has keys or a map or
 /// list has places.
 pub fn deserialize(
     alloc: Global,

@@ -58,7 +58,7 @@ returns-in_err-push_joined-in-Some-clause-err g c =
     let left = unwrap_or (g.W.StringWalk.places c.args.walk c.args.bytes.now) [] in
     let facts = rows-facts c.args.word c.present.result _ c.args.bytes.now left c.join_short.new.lengths c.spread_items.new.items [] _ c.present.ensures (many c.args.word c.present.result c.present.ensures) c.join_short.ensures.same c.in-Some.ensures.lengths c.in-Some.ensures.joined c.spread_items.ensures in
     passed_on c.from_residual.result _ _ c.from_residual.ensures.1 (
-    elim c.in_err-push_joined-in-Some.ensures.err [
+    elim c.in_err-push_joined-in-Some.ensures.err.1 [
       | inl memory ↦ inl memory
       | inr past ↦ inr (past.0, omega (arith, past.1, facts.2))
     ])

@@ -12,6 +12,6 @@ returns-in_err-state-clause-cause g c =
     let page = data_content c.args.page.now in
     passed_on c.from_residual.result _ _ c.from_residual.ensures.1 (
     elim c.in_err-state.ensures.refused [
-      | inl wrong ↦ alone-typed g.K.StoredKey.key_count c.args.entries page (cause_of c.in_err-state.field-0.0) (is_read true page Keys c.requires.read) wrong
-      | inr other ↦ absurd (other.1 c.requires.read)
+      | inl wrong ↦ alone-typed g.K.StoredKey.key_count c.args.entries page (cause_of c.in_err-state.field-0.0) (is_read true page Keys c.requires.read) wrong.1
+      | inr other ↦ absurd (other.0 c.requires.read)
     ])

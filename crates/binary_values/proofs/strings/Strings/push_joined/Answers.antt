@@ -1,7 +1,8 @@
-use Rattle.std.proofs.Common.{◌∙◌, ◌++◌, ap, ap₂, arith, inl, inr, length, map}
+use Rattle.std.proofs.Common.{◌≡◌, ◌∙◌, ◌++◌, ap, ap₂, arith, inl, inr, length, map, subst, sym, take}
 use Rattle.std.specs.Prelude.{nat_abs, sum_by}
-use Rattle.std.proofs.lemmas.List.{length-append}
-use Rattle.columns_core.specs.Offsets.{parts}
+use Rattle.std.proofs.lemmas.List.{length-append, take_all, take-append-le}
+use Rattle.columns_core.specs.Offsets.{AreOffsets, last, parts}
+use Rattle.columns_core.proofs.OffsetLemmas.{more_ends}
 use Rattle.binary_values.specs.JoinedStrings.{cut_into}
 use Rattle.binary_values.proofs.EndLemmas.{parts-joined}
 use Rattle.binary_values.proofs.StringLemmas.{sum-parts}
@@ -11,7 +12,11 @@ pub invariant_of-self-in-Ok : goal.invariant_of-self-in-Ok
 invariant_of-self-in-Ok g c =
     let values = c.self.inside.values.items in
     let joined = c.args.joined.now in
-    (c.push_lengths.ensures.shape, omega (arith, c.in-Ok.ensures.last, c.self.invariant.1, c.requires, ap length c.in_ok-extend_from_slice.ensures.items, length-append values joined), c.push_lengths.ensures.fits)
+    let ends = c.in-Ok.ensures in (
+      subst AreOffsets (sym ends.ok) (more_ends c.self.inside.offsets c.args.lengths.now c.self.invariant.0).0,
+      omega (arith, ends.last, c.self.invariant.1, c.requires, ap length c.in_ok-extend_from_slice.ensures.items, length-append values joined),
+      ends.fits c.self.invariant.2,
+    )
 
 pub returns-in-Ok-clause-ok : goal.returns-in-Ok-clause-ok
 returns-in-Ok-clause-ok g c =
@@ -24,14 +29,21 @@ returns-in-Ok-clause-ok g c =
 pub returns-in-Ok-clause-fits : goal.returns-in-Ok-clause-fits
 returns-in-Ok-clause-fits g c =
     let sum = sum-parts c.self.inside.offsets c.self.inside.values.items c.self.invariant.0 c.self.invariant.1 in
-    omega (arith, c.in-Ok.ensures.last, c.push_lengths.ensures.fits, c.requires, sum, c.self.invariant.1, ap (sum_by length) c.self.view_is)
+    omega (arith, c.in-Ok.ensures.last, c.in-Ok.ensures.fits c.self.invariant.2, c.requires, sum, c.self.invariant.1, ap (sum_by length) c.self.view_is)
 
 pub returns-in-Err-clause-err : goal.returns-in-Err-clause-err
 returns-in-Err-clause-err g c =
     let offsets = c.self.inside.offsets in
     let values = c.self.inside.values.items in
-    let sum = sum-parts offsets values c.self.invariant.0 c.self.invariant.1 in
-    elim c.in-Err.ensures.err [
-      | inl memory ↦ inl memory
-      | inr past ↦ inr (past.0, omega (arith, past.1, c.requires, sum, c.self.invariant.1, ap (sum_by length) c.self.view_is))
-    ]
+    let joined = c.args.joined.now in
+    let held : c.len-before.result ≡ length values = omega (arith, c.len-before.ensures) in
+    let kept : take (length values) (values ++ joined) ≡ values = take-append-le (length values) values joined (omega arith) ∙ take_all (length values) values (omega arith) in
+    let sum = sum-parts offsets values c.self.invariant.0 c.self.invariant.1 in (
+      ap (λ o. parts o c.truncate.new.self.items) c.in-Err.ensures.err.0
+          ∙ ap (parts offsets) (c.truncate.ensures.items ∙ ap (λ n. take n c.extend_from_slice.new.self.items) held ∙ ap (take (length values)) c.in_ok-extend_from_slice.ensures.items ∙ kept)
+          ∙ c.self.view_is,
+      elim c.in-Err.ensures.err.1 [
+        | inl memory ↦ inl memory
+        | inr past ↦ inr (past.0, omega (arith, past.1, c.requires, sum, c.self.invariant.1, ap (sum_by length) c.self.view_is))
+      ],
+    )

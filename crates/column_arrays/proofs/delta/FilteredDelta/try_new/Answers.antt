@@ -1,10 +1,8 @@
-use Rattle.std.proofs.Common.{◌≡◌, ◌∙◌, ℕ, List, Some, true, ap, rules, sym, subst}
+use Rattle.std.proofs.Common.{◌≡◌, ◌∙◌, Some, true, ap, rules, sym}
 use Rattle.std.proofs.lemmas.Result.{err_from_is_err_and}
-use Rattle.columns_core.specs.Causes.{Cause, IsOneOf, cause_of}
 use Rattle.parquet_page.specs.Content.{data_content}
-use Rattle.parquet_page.specs.Levels.{Body, body_of, body_parts}
+use Rattle.parquet_page.specs.Levels.{body_of}
 use Rattle.page_decoding.specs.FilteredLeft.{filtered_steps}
-use Rattle.flat_values.specs.FlatLeft.{value_bytes}
 use Rattle.column_arrays.specs.JoinedStrings.{is_joined, strings_behind}
 use Rattle.column_arrays.proofs.JoinedLemmas.{damaged-told, joined-right, joined-wrong, strings-at, value-bytes}
 use Rattle.column_arrays.proofs.delta.FilteredDelta.try_new.Goals as goal

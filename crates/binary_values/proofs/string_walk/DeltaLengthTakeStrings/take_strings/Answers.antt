@@ -6,7 +6,7 @@ use Rattle.parquet_encoding.specs.JoinedLeft.{joined_values}
 use Rattle.parquet_encoding.specs.Places.{bytes_in}
 use Rattle.parquet_page.proofs.RefusalLemmas.{passed_on}
 use Rattle.binary_values.proofs.JoinedLemmas.{StringsLeft, chunk-cut, strings-more, strings-past}
-use Rattle.binary_values.proofs.string_walk.DeltaLengthStringWalk.take_strings.Goals as goal
+use Rattle.binary_values.proofs.string_walk.DeltaLengthTakeStrings.take_strings.Goals as goal
 
 pub push_joined-requires : goal.push_joined-requires
 push_joined-requires g c =
@@ -22,7 +22,7 @@ returns-in_err-push_joined-clause-err g c =
     let cut = chunk-cut c.loop-left.walk c.args.bytes.now found _ c.take-found.new.lengths _ c.take-found.result.1.now c.loop-left.invariant.spelled c.take-found.ensures.count c.take-found.ensures.lengths c.take-found.ensures.joined in
     let few : found ≤ c.loop-left.left = omega (arith, c.take-found.ensures.count, length-take c.min.result c.loop-left.lengths, c.min.ensures) in
     passed_on c.from_residual.result _ _ c.from_residual.ensures.1 (
-    elim c.in_err-push_joined.ensures.err [
+    elim c.in_err-push_joined.ensures.err.1 [
       | inl memory ↦ inl memory
       | inr past ↦ inr (past.0, strings-past f c.args.strings.now c.loop-left.strings c.args.count c.loop-left.left found whole rest c.loop-left.invariant.strings few g.O.Offset.greatest (omega (arith, past.1, cut.bytes)))
     ])

@@ -1,15 +1,15 @@
 use Rattle.std.proofs.Common.{◌≤◌, length}
 use Rattle.std.specs.Prelude.{IsSome, sum_by}
-use Rattle.parquet_encoding.specs.JoinedLeft.{joined_left, joined_values}
 use Rattle.parquet_encoding.specs.Places.{bytes_in}
+use Rattle.parquet_encoding.specs.PlainLeft.{strings, strings_left}
 use Rattle.binary_values.proofs.JoinedLemmas.{StringsLeft}
-use Rattle.binary_values.proofs.string_walk.DeltaLengthStringWalk.take_strings.Given as goal
+use Rattle.binary_values.proofs.string_walk.PlainBytesTakeStrings.take_strings.Given as goal
 
 -- the strings so far were appended, and the others are left
 abbrev pub invariant-loop-left : goal.invariant-loop-left
 invariant-loop-left g l = record {
-  spelled : IsSome (joined_left l.walk l.bytes);
-  strings : StringsLeft (bytes_in l.bytes) l.fn.strings l.strings l.count l.left (joined_values l.fn.self l.bytes) (joined_values l.walk l.bytes);
+  spelled : IsSome (strings_left l.walk l.bytes);
+  strings : StringsLeft (bytes_in l.bytes) l.fn.strings l.strings l.count l.left (strings l.fn.self l.bytes) (strings l.walk l.bytes);
   fits : sum_by length l.strings ≤ g.O.Offset.greatest;
 }
 

@@ -1,0 +1,17 @@
+use Rattle.std.proofs.Common.{◌≤◌, length}
+use Rattle.std.specs.Prelude.{IsSome, sum_by}
+use Rattle.parquet_encoding.specs.JoinedLeft.{joined_left, joined_values}
+use Rattle.parquet_encoding.specs.Places.{bytes_in}
+use Rattle.binary_values.proofs.JoinedLemmas.{StringsLeft}
+use Rattle.binary_values.proofs.string_walk.DeltaLengthTakeStrings.take_strings.Given as goal
+
+-- the strings so far were appended, and the others are left
+abbrev pub invariant-loop-left : goal.invariant-loop-left
+invariant-loop-left g l = record {
+  spelled : IsSome (joined_left l.walk l.bytes);
+  strings : StringsLeft (bytes_in l.bytes) l.fn.strings l.strings l.count l.left (joined_values l.fn.self l.bytes) (joined_values l.walk l.bytes);
+  fits : sum_by length l.strings ≤ g.O.Offset.greatest;
+}
+
+abbrev pub decreases-loop-left : goal.decreases-loop-left
+decreases-loop-left g l = l.left
