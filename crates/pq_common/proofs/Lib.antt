@@ -3,4 +3,5 @@ mod Examples
 pub mod HexLemmas
 pub mod NumberLemmas
 pub mod RowLemmas
+pub mod TakenLemmas
 pub mod TextLemmas

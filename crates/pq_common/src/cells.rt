@@ -1,5 +1,5 @@
 //! Cells as text.
-ghost use Rattle.std.specs.Prelude.{◌≡◌, ◌<◌, ◌≤◌, ◌++◌, true, codes, flat_map, length, map, take, IfErr, OnOk};
+ghost use Rattle.std.specs.Prelude.{◌≡◌, ◌<◌, ◌≤◌, ◌++◌, [], true, codes, flat_map, length, map, take, IfErr, IfNone, IfSome, OnOk};
 ghost use Rattle.columns_core.specs.Array.{column_of};
 ghost use Rattle.columns_core.specs.Causes.{IsWantOfMemory};
 ghost use Rattle.columns_core.specs.Column.{cell_of};
@@ -7,6 +7,7 @@ ghost use Rattle.columns_core.specs.Keyed.{named_cells};
 ghost use Rattle.columns_core.specs.declared.cell.Cell.{Bytes, Text};
 ghost use Rattle.pq_common.specs.CellText as spec;
 ghost use Rattle.pq_common.specs.CellText.{cell_text, days_text, hexadecimal, quoted, quoted_byte};
+ghost use Rattle.pq_common.specs.Pieces.{piece_bytes};
 ghost use Rattle.pq_common.specs.Rows.{cell_at, text_in};
 
 use crate::column::push_number;
@@ -22,6 +23,24 @@ const LONG_BLOCK: usize = 64;
 const BLOCK: usize = 16;
 
 const SHORT_BLOCK: usize = 8;
+
+/// A piece of a text as it is written: a stretch of bytes that stand for themselves, or one byte by its number.
+#[derive(Drop)]
+pub(crate) enum Piece<'a> {
+    Plain(&'a [u8]),
+    Escape([u8; 4]),
+}
+
+impl Piece<'_> {
+    pub(crate) fn bytes(&self) -> &[u8]
+        ensures { result.now ≡ piece_bytes self.now }
+    {
+        match self {
+            Piece::Plain(bytes) => bytes,
+            Piece::Escape(bytes) => bytes,
+        }
+    }
+}
 
 /// Writes the cell of a column in a row at the end, and nothing where the column has no such row.
 pub fn push_cell(alloc: Global, text: &mut Vec<u8>, array: &Array, row: usize) -> Result<(), Error>
@@ -104,7 +123,7 @@ fn push_days(text: &mut Vec<u8>, days: i32, milliseconds: i32) -> Result<(), All
 }
 
 /// Writes the text or null of a row at the end.
-pub(crate) fn push_text<O: Offset>(
+fn push_text<O: Offset>(
     text: &mut Vec<u8>,
     array: &Utf8Array<O>,
     row: usize,
@@ -154,31 +173,52 @@ fn push_escaped(text: &mut Vec<u8>, bytes: &[u8]) -> Result<(), AllocError>
     ensures { OnOk result (text.new.items ≡ text.old.items ++ flat_map quoted_byte bytes.now) }
 {
     let mut rest = bytes;
-    while !rest.is_empty() {
-        let plain = plain_length(rest);
-        text.extend_from_slice(&rest[..plain])?;
-        if plain == rest.len() {
-            return Ok(());
-        }
-        push_quoted_byte(text, rest[plain])?;
-        rest = &rest[plain + 1..];
+    while let Some((piece, behind)) = next_piece(rest) {
+        text.extend_from_slice(piece.bytes())?;
+        rest = behind;
     }
     Ok(())
+}
+
+/// The first piece of a text that is not empty, and the bytes behind it.
+pub(crate) fn next_piece(bytes: &[u8]) -> Option<(Piece<'_>, &[u8])>
+    ensures some { IfSome result (λ found. flat_map quoted_byte bytes.now
+        ≡ piece_bytes found.0 ++ flat_map quoted_byte found.1.now) }
+    ensures none { IfNone result (bytes.now ≡ []) }
+    ensures shorter { IfSome result (λ found. length found.1.now < length bytes.now) }
+{
+    let first = *bytes.first()?;
+    if is_escaped(first) {
+        return Some((Piece::Escape(escape_of(first)), &bytes[1..]));
+    }
+    let (plain, behind) = bytes.split_at(plain_length(bytes, 1));
+    Some((Piece::Plain(plain), behind))
+}
+
+/// The bytes that stand for a byte which is escaped.
+fn escape_of(byte: u8) -> [u8; 4]
+    ensures { result ≡ codes "\\x" ++ hexadecimal byte }
+{
+    let high = DIGITS[(byte / 16) as usize];
+    let low = DIGITS[(byte % 16) as usize];
+    [b'\\', b'x', high, low]
 }
 
 /// Whether a text stands for itself.
 pub(crate) fn is_plain(bytes: &[u8]) -> bool
     ensures { result ≡ true → flat_map quoted_byte bytes.now ≡ bytes.now }
 {
-    plain_length(bytes) == bytes.len()
+    plain_length(bytes, 0) == bytes.len()
 }
 
-/// How many bytes from the first on stand for themselves.
-fn plain_length(bytes: &[u8]) -> usize
-    ensures within { result ≤ length bytes.now }
+/// How many bytes from the first on stand for themselves, where so many do.
+fn plain_length(bytes: &[u8], plain: usize) -> usize
+    requires held { plain ≤ length bytes.now }
+    requires first { flat_map quoted_byte (take plain bytes.now) ≡ take plain bytes.now }
+    ensures within { (plain ≤ result) × (result ≤ length bytes.now) }
     ensures plain { flat_map quoted_byte (take result bytes.now) ≡ take result bytes.now }
 {
-    let long = plain_blocks(bytes, 0, LONG_BLOCK);
+    let long = plain_blocks(bytes, plain, LONG_BLOCK);
     let most = plain_blocks(bytes, long, BLOCK);
     let mut count = plain_blocks(bytes, most, SHORT_BLOCK);
     while count < bytes.len() && !is_escaped(bytes[count]) {
@@ -192,7 +232,7 @@ fn plain_blocks(bytes: &[u8], plain: usize, block: usize) -> usize
     requires some { 0 < block }
     requires held { plain ≤ length bytes.now }
     requires first { flat_map quoted_byte (take plain bytes.now) ≡ take plain bytes.now }
-    ensures within { result ≤ length bytes.now }
+    ensures within { (plain ≤ result) × (result ≤ length bytes.now) }
     ensures plain { flat_map quoted_byte (take result bytes.now) ≡ take result bytes.now }
 {
     let mut count = plain;
@@ -218,17 +258,6 @@ fn is_escaped(byte: u8) -> bool
     ensures { result ≡ spec.is_escaped byte }
 {
     (byte == b'\\') | (byte == b'"') | (byte < 32) | (byte == 127)
-}
-
-fn push_quoted_byte(text: &mut Vec<u8>, byte: u8) -> Result<(), AllocError>
-    ensures { OnOk result (text.new.items ≡ text.old.items ++ quoted_byte byte) }
-{
-    if is_escaped(byte) {
-        text.extend_from_slice(b"\\x")?;
-        return push_hexadecimal(text, byte);
-    }
-    text.push(byte)?;
-    Ok(())
 }
 
 /// Writes bytes in hexadecimal digits at the end.

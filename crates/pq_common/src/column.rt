@@ -2,9 +2,13 @@
 ghost use Rattle.std.specs.Prelude.{◌≡◌, ◌+◌, ◌-◌, ◌*◌, ◌<◌, ◌≤◌, ◌++◌, codes, drop, length, OnOk};
 ghost use Rattle.columns_core.specs.Array.{column_of};
 ghost use Rattle.pq_common.specs.Rows.{cell_at, line_of, lines_of};
+ghost use Rattle.pq_common.specs.Taken.{TakesBytes};
 
+use crate::block::Block;
 use crate::digits::write_i32;
+use crate::sink::Sink;
 use columns_core::{Array, PrimitiveArray};
+use parquet_meta::Failed;
 use std::alloc::AllocError;
 
 /// The most bytes of a number of 32 bits.
@@ -13,20 +17,24 @@ const MAX_NUMBER_BYTES: usize = 11;
 /// The most bytes of a line.
 const MAX_LINE_BYTES: usize = MAX_NUMBER_BYTES + 1;
 
-/// How many bytes are written before they go to the text.
-const BLOCK_BYTES: usize = 4096;
+/// How many bytes of lines are written before they go to the sink's block.
+const LINES_BYTES: usize = 4096;
 
-/// Writes the lines of all rows at the end, a block at a time.
-pub fn push_lines(text: &mut Vec<u8>, array: &PrimitiveArray<i32>) -> Result<(), AllocError>
-    ensures { OnOk result (text.new.items
-        ≡ text.old.items ++ lines_of (column_of (Array.Int32 array.now)) 0 (length array.now.items)) }
+/// TakesBytes the lines of all rows, many at a time.
+pub fn push_number_lines<K: Sink>(
+    block: &mut Block,
+    out: &mut K,
+    array: &PrimitiveArray<i32>,
+) -> Result<(), Failed>
+    ensures { let lines = lines_of (column_of (Array.Int32 array.now)) 0 (length array.now.items) in
+        TakesBytes K.Sink out.old out.new (block.old ++ lines) block.new result }
 {
-    let mut block = [0; BLOCK_BYTES];
+    let mut lines = [0; LINES_BYTES];
     let mut row = 0;
     while row < array.len() {
-        let count = (BLOCK_BYTES / MAX_LINE_BYTES).min(array.len() - row);
-        let start = write_lines(&mut block, array, row, row + count);
-        text.extend_from_slice(&block[start..])?;
+        let count = (LINES_BYTES / MAX_LINE_BYTES).min(array.len() - row);
+        let start = write_lines(&mut lines, array, row, row + count);
+        block.push(out, &lines[start..])?;
         row += count;
     }
     Ok(())

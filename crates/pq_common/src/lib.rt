@@ -1,6 +1,7 @@
 //! What the tools share: where their text goes, how they end, and numbers, types, values and cells as text.
 #![tactic(auto)]
 
+mod block;
 mod cells;
 mod column;
 mod digits;
@@ -11,8 +12,9 @@ mod text_column;
 mod types;
 mod values;
 
+pub use block::Block;
 pub use cells::push_cell;
-pub use column::push_lines;
+pub use column::push_number_lines;
 pub use digits::push_unsigned;
 pub use numbers::{count, signed_number};
 pub use sink::{FailingSink, MemorySink, Sink, StdSink, write_all};

@@ -1,64 +1,91 @@
 //! A column of texts as lines. Texts whose bytes stand for themselves are written side by side, a block at a time.
-ghost use Rattle.std.specs.Prelude.{◌≡◌, ◌+◌, ◌<◌, ◌≤◌, ◌++◌, List, codes, length, map, option_copied, take, IfNone, IfOk, IfSome, OnOk};
+ghost use Rattle.std.specs.Prelude.{◌≡◌, ◌+◌, ◌≤◌, ◌++◌, List, codes, flat_map, if◌then◌else◌, length, map, option_copied, take, IfNone, IfSome};
 ghost use Rattle.columns_core.specs.Column.{cell_of};
 ghost use Rattle.columns_core.specs.declared.cell.Cell.{Cell, Text};
 ghost use Rattle.columns_core.specs.declared.data_type.DataType.{DataType};
-ghost use Rattle.pq_common.specs.CellText.{cell_text};
-ghost use Rattle.pq_common.specs.Rows.{line, line_of, lines_of};
+ghost use Rattle.pq_common.specs.CellText.{cell_text, quoted, quoted_byte};
+ghost use Rattle.pq_common.specs.Rows.{line, lines_of};
+ghost use Rattle.pq_common.specs.Taken.{TakesBytes};
 
-use crate::cells::{is_plain, push_text};
+use crate::block::{Block, write_piece};
+use crate::cells::{is_plain, next_piece};
+use crate::sink::Sink;
 use columns_core::{Offset, Utf8Array};
-use std::alloc::AllocError;
-
-/// How many bytes are written before they go to the text.
-const BLOCK_BYTES: usize = 4096;
+use parquet_meta::Failed;
 
 /// The bytes of a line beside those of its text: two quotes and the end.
 const AROUND_TEXT: usize = 3;
 
 const NULL_LINE: [u8; 5] = *b"null\n";
 
-/// Writes the lines of all rows at the end.
-pub fn push_text_lines<O: Offset>(
-    text: &mut Vec<u8>,
+/// TakesBytes the lines of all rows.
+pub fn push_text_lines<K: Sink, O: Offset>(
+    block: &mut Block,
+    out: &mut K,
     array: &Utf8Array<O>,
-) -> Result<(), AllocError>
+) -> Result<(), Failed>
     ensures { let cells = map (cell_of Text) array.now.items in
         let column : DataType × List Cell = (array.now.data_type, cells) in
-        OnOk result (text.new.items ≡ text.old.items ++ lines_of column 0 (length array.now.items)) }
+        let lines = lines_of column 0 (length array.now.items) in
+        TakesBytes K.Sink out.old out.new (block.old ++ lines) block.new result }
 {
-    let mut block = [0; BLOCK_BYTES];
-    let mut held = 0;
     for row in 0..array.len() {
-        held = push_text_line(text, &mut block, held, array, row)?;
+        push_text_line(block, out, array.get(row))?;
     }
-    text.extend_from_slice(&block[..held])
+    Ok(())
 }
 
-/// Writes the line of a row behind the bytes that a block holds, where it has room, or else both at the end of the text.
-/// Says how many bytes the block holds then.
-fn push_text_line<O: Offset>(
-    text: &mut Vec<u8>,
-    block: &mut [u8],
-    held: usize,
-    array: &Utf8Array<O>,
-    row: usize,
-) -> Result<usize, AllocError>
-    requires within { (held ≤ length block.old) × (row < length array.now.items) }
-    ensures line { let cells = map (cell_of Text) array.now.items in
-        let column : DataType × List Cell = (array.now.data_type, cells) in
-        IfOk result (λ n. text.new.items ++ take n block.new
-        ≡ (text.old.items ++ take held block.old) ++ line_of column row) }
-    ensures within { IfOk result (λ n. n ≤ length block.new) }
-    ensures same { length block.new ≡ length block.old }
+/// TakesBytes the line of a text or null.
+fn push_text_line<K: Sink>(block: &mut Block, out: &mut K, name: Option<&str>) -> Result<(), Failed>
+    ensures { let cell = cell_of Text (option_copied name.entry) in
+        TakesBytes K.Sink out.old out.new (block.old ++ line (cell_text cell)) block.new result }
 {
-    if let Some(end) = write_text_line(block, held, array.get(row)) {
-        return Ok(end);
+    if block.hold_text_line(name) {
+        return Ok(());
     }
-    text.extend_from_slice(&block[..held])?;
-    push_text(text, array, row)?;
-    text.push(b'\n')?;
-    Ok(0)
+    match name {
+        None => block.push(out, &NULL_LINE),
+        Some(name) => push_quoted_line(block, out, name.as_bytes()),
+    }
+}
+
+/// TakesBytes the line of a text, piece by piece.
+fn push_quoted_line<K: Sink>(block: &mut Block, out: &mut K, bytes: &[u8]) -> Result<(), Failed>
+    ensures { TakesBytes K.Sink out.old out.new (block.old ++ line (quoted bytes.now)) block.new result }
+{
+    block.push(out, b"\"")?;
+    push_pieces(block, out, bytes)?;
+    block.push(out, b"\"\n")
+}
+
+/// TakesBytes the bytes of a text, piece by piece.
+fn push_pieces<K: Sink>(block: &mut Block, out: &mut K, bytes: &[u8]) -> Result<(), Failed>
+    ensures { let text = flat_map quoted_byte bytes.now in
+        TakesBytes K.Sink out.old out.new (block.old ++ text) block.new result }
+{
+    let mut rest = bytes;
+    while let Some((piece, behind)) = next_piece(rest) {
+        block.push(out, piece.bytes())?;
+        rest = behind;
+    }
+    Ok(())
+}
+
+impl Block {
+    /// Holds the line of a text or null, if there is room and the bytes of the text stand for themselves.
+    /// Says whether it does.
+    fn hold_text_line(&mut self, name: Option<&str>) -> bool
+        ensures { let cell = cell_of Text (option_copied name.entry) in
+            self.new ≡ (if result then self.old ++ line (cell_text cell) else self.old) }
+    {
+        match write_text_line(&mut self.bytes, self.held, name) {
+            None => false,
+            Some(end) => {
+                self.held = end;
+                true
+            }
+        }
+    }
 }
 
 /// Writes the line of a text or null behind the first bytes of a block, and says where it ends, if there is room and the bytes
@@ -92,16 +119,4 @@ fn write_quoted(block: &mut [u8], held: usize, bytes: &[u8]) -> usize
     let start = write_piece(block, held, b"\"");
     let end = write_piece(block, start, bytes);
     write_piece(block, end, b"\"\n")
-}
-
-/// Writes bytes behind the first bytes of a block, and says where they end.
-fn write_piece(block: &mut [u8], held: usize, piece: &[u8]) -> usize
-    requires { held + length piece.now ≤ length block.old }
-    ensures end { result ≡ held + length piece.now }
-    ensures same { length block.new ≡ length block.old }
-    ensures written { take result block.new ≡ take held block.old ++ piece.now }
-{
-    let end = held + piece.len();
-    block[held..end].copy_from_slice(piece);
-    end
 }

@@ -1,7 +1,6 @@
 -- From what a scan answers to what is reported.
-use Rattle.std.proofs.Common.{◌≡◌, ℕ, List, sym, ◌∙◌, subst}
-use Rattle.std.specs.Prelude.{Option, Some, None, IfNone, IfSome, Result, Ok, Err}
-use Rattle.std.specs.Result.{IsErrAnd}
+use Rattle.std.proofs.Common.{◌≡◌, ℕ, List, sym, subst}
+use Rattle.std.specs.Prelude.{Option, Some, None, IfNone, IfSome}
 use Rattle.scan_program.specs.Program.{OnCommand, Reports}
 use Rattle.scan_program.specs.Words.{Command}
 
@@ -27,10 +26,3 @@ pub of_report : (o : Option Command) (told : Option (List ℕ)) (pages : ℕ) (t
 of_report None told pages text Q h reports = tt
 of_report (Some command) told pages text Q h reports =
     record { scan = reports.scan; answers = reports.answers; lent = reports.lent; holds = subst Q (sym reports.holds) h }
-
--- an error that is passed up as it is
-pub as_it_is : {X T E : Type 0} (o : Option X) (P : X → Type 0) (r : Result T E) (e wanted : E) → IsErrAnd r (λ found. found ≡ e)
-    → IfSome o (λ x. P x → e ≡ wanted) → IfSome o (λ x. P x → IsErrAnd r (λ found. found ≡ wanted))
-as_it_is None P r e wanted passed h = tt
-as_it_is (Some x) P (Ok y) e wanted passed h = absurd passed
-as_it_is (Some x) P (Err found) e wanted passed h = λ p. passed ∙ h p

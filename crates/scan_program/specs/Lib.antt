@@ -1,3 +1,4 @@
+pub mod Columns
 pub mod Parsed
 pub mod Program
 pub mod Report

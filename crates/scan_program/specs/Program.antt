@@ -68,16 +68,16 @@ OnFileOf command told P = OnCommand command told (λ command bytes. IfSome (file
 abbrev pub lent_between : ℕ → ℕ → ℕ
 lent_between before now = min (now - before) (2 ^ 64 - 1)
 
--- the report on what a scan gave
-abbrev pub report_of : Command → Scan → List ℕ
-report_of command scan = report command.summary (map kept_of scan.kept) (map columns_of_chunk scan.chunks) scan.rows scan.pages
+-- the report on what a scan gave, or its summary
+abbrev pub report_of : Bool → Scan → List ℕ
+report_of summary scan = report summary (map kept_of scan.kept) (map columns_of_chunk scan.chunks) scan.rows scan.pages
 
 -- This holds of the report on a scan that answers the command's request, of which so many pages were lent.
 pub record Reports (command : Command) (told : Option (List ℕ)) (pages : ℕ) (P : List ℕ → Type 0) : Type 0 where
   pub scan : Scan
   pub answers : Answers command.request told scan
   pub lent : scan.pages ≡ pages
-  pub holds : P (report_of command scan)
+  pub holds : P (report_of command.summary scan)
 
 -- The status is that of an error by which the scan refuses the request.
 pub record IsStatusOfRefusal (request : Request) (told : Option (List ℕ)) (before now : ℕ) (status : Status) : Type 0 where

@@ -2,13 +2,14 @@
 #![tactic(auto)]
 
 mod bounds;
+mod column;
 mod command;
 mod items;
 mod parse;
 mod program;
+mod report;
 mod sampled;
 mod scanned;
 mod text;
 
 pub use program::run;
-pub use text::report;

@@ -1,26 +1,22 @@
 //! Runs of the program.
 ghost use Rattle.std.specs.Prelude.{◌≡◌, ◌≢◌, ◌⊎◌, ◌+◌, ◌≤◌, IfErr, IfNone, IfOk, IfSome, IsTrue, None, OnOk};
 ghost use Rattle.std.specs.Result.{IsErrAnd};
-ghost use Rattle.columns_core.specs.declared.error.Error.TheVariants.{InvalidArgumentError};
-ghost use Rattle.columns_core.specs.declared.error.Part.TheVariants.{Request};
 ghost use Rattle.parquet_base.specs.Failures.{MayFail};
 ghost use Rattle.parquet_meta.specs.Keeps.{Keeps};
 ghost use Rattle.parquet_scan.specs.Causes.{IsValid};
 ghost use Rattle.parquet_scan.specs.Costs.{most_bytes_taken, most_pages, pages_lent};
-ghost use Rattle.parquet_scan.specs.Scan.{OnFile, RefusesScan};
 ghost use Rattle.pq_common.specs.Written.{IsAppended, IsFrontAppended};
-ghost use Rattle.scan_program.specs.Parsed.{command_of};
-ghost use Rattle.scan_program.specs.Program.{command_in, has_scanned, is_refusal, lent_between, status_of_error};
+ghost use Rattle.scan_program.specs.Program.{command_in, has_scanned, is_refusal, lent_between, report_of, status_of_error};
 ghost use Rattle.scan_program.specs.Program.{IsLegal, IsStatusOfRefusal, OnCommand, OnFileOf, Reports};
 ghost use Rattle.scan_program.specs.Sampled.{faults_by, is_too_great, sample_in, told_by};
 
-use crate::command::{Asked, read_words};
-use crate::scanned::scan_file;
-use crate::text::report;
+use crate::command::read_words;
+use crate::report::{report_on, write_report};
+use crate::scanned::{Scanned, scan_file};
 use columns_core::Error;
 use parquet_base::Steps;
 use parquet_meta::Source;
-use pq_common::{Sink, Status, write_all};
+use pq_common::{Sink, Status};
 use std::alloc::Global;
 use std::sync::ledger::Ledger;
 
@@ -89,22 +85,25 @@ pub fn run<S: Source, K: Sink, L: Ledger>(
     ensures writing { result ≡ Status.Writing → MayFail (K.faults out.old) (K.faults out.new) }
     ensures quiet { result ≢ Status.Writing → K.faults out.new ≡ K.faults out.old }
 {
-    match text_for(alloc, words, source, steps) {
+    match scan_for(alloc, words, source, steps) {
         Err(status) => status,
-        Ok(text) => match write_all(out, &text) {
-            Ok(()) => Status::Done,
-            Err(_) => Status::Writing,
+        Ok(scanned) => match report_on(alloc, &scanned) {
+            Err(_) => Status::Memory,
+            Ok(report) => match write_report(out, &report) {
+                Ok(()) => Status::Done,
+                Err(_) => Status::Writing,
+            },
         },
     }
 }
 
-/// The whole text of the scan that the words ask for, or how the run ends without it.
-fn text_for<S: Source, L: Ledger>(
+/// The scan that the words ask for, or how the run ends without it.
+fn scan_for<S: Source, L: Ledger>(
     alloc: Global,
     words: &[String],
     source: &mut S,
     steps: &mut Steps<L>,
-) -> Result<Vec<u8>, Status>
+) -> Result<Scanned, Status>
     ensures keeps { Keeps S.Source source.old source.new }
     ensures quiet { OnOk result (S.faults source.new ≡ S.faults source.old) }
     ensures untouched { IfSome (sample_in words.now) (λ _. source.new ≡ source.old) }
@@ -113,9 +112,9 @@ fn text_for<S: Source, L: Ledger>(
     ensures words { IfErr result (λ status. status ≡ Status.Words → command_in words.now ≡ None) }
     ensures no_words { IfNone (command_in words.now)
         (IsErrAnd result (λ status. (status ≡ Status.Words) ⊎ (status ≡ Status.Memory))) }
-    ensures text { IfOk result (λ text. IfSome (command_in words.now) (λ command.
+    ensures scanned { IfOk result (λ scanned. IfSome (command_in words.now) (λ command.
         Reports command (told_by words.now (S.told source.old)) (lent_between steps.old steps.new)
-        (λ found. found ≡ text.items))) }
+        (λ found. found ≡ report_of scanned.summary scanned.scan))) }
     ensures pages_lent { let told = told_by words.now (S.told source.old) in
         IfOk result (λ _. OnFileOf (command_in words.now) told
         (λ command file. steps.new ≡ steps.old + pages_lent command.request file)) }
@@ -144,47 +143,14 @@ fn text_for<S: Source, L: Ledger>(
     match read_words(alloc, words) {
         Err(_) => Err(Status::Memory),
         Ok(None) => Err(Status::Words),
-        Ok(Some(asked)) => match scan_text(alloc, words, &asked, source, steps) {
-            Ok(text) => Ok(text),
+        Ok(Some(asked)) => match scan_file(alloc, words, &asked, source, steps) {
+            Ok(scan) => Ok(Scanned {
+                scan,
+                summary: asked.summary,
+            }),
             Err(error) => Err(status_of(&error)),
         },
     }
-}
-
-/// The text of a scan.
-fn scan_text<S: Source, L: Ledger>(
-    alloc: Global,
-    words: &[String],
-    asked: &Asked,
-    source: &mut S,
-    steps: &mut Steps<L>,
-) -> Result<Vec<u8>, Error>
-    ensures keeps { Keeps S.Source source.old source.new }
-    ensures quiet { OnOk result (S.faults source.new ≡ S.faults source.old) }
-    ensures untouched { IfSome (sample_in words.now) (λ _. source.new ≡ source.old) }
-    ensures ticks { steps.old ≤ steps.new }
-    ensures text { let told = told_by words.now (S.told source.old) in
-        IfOk result (λ text.
-        Reports (command_of asked.now) told (lent_between steps.old steps.new)
-        (λ found. found ≡ text.items)) }
-    ensures pages_lent { let told = told_by words.now (S.told source.old) in
-        IfOk result (λ _. OnFile told (λ file.
-        steps.new ≡ steps.old + pages_lent (command_of asked.now).request file)) }
-    ensures most_pages { let told = told_by words.now (S.told source.old) in
-        IfOk result (λ _. OnFile told (λ file.
-        steps.new ≤ steps.old + most_pages (command_of asked.now).request file)) }
-    ensures taken { let told = told_by words.now (S.told source.old) in
-        IfOk result (λ _. OnFile told (λ file.
-        S.taken source.new ≤ S.taken source.old + most_bytes_taken (command_of asked.now).request file)) }
-    ensures refuses { let told = told_by words.now (S.told source.old) in
-        let before = faults_by words.now (S.faults source.old) in
-        let now = faults_by words.now (S.faults source.new) in
-        IfErr result (RefusesScan (command_of asked.now).request told before now) }
-    ensures too_great { IfSome (sample_in words.now) (λ sample. IsTrue (is_too_great sample)
-        → IsErrAnd result (λ e. e ≡ InvalidArgumentError Request)) }
-{
-    let scan = scan_file(alloc, words, asked, source, steps)?;
-    report(alloc, asked.summary, &scan)
 }
 
 /// How a run ends that a scan refuses.

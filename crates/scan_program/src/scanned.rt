@@ -20,6 +20,13 @@ use parquet_scan::{Scan, scan_where};
 use std::alloc::Global;
 use std::sync::ledger::Ledger;
 
+/// A scan, and whether numbers of rows and pages stand in place of its rows.
+#[derive(Drop)]
+pub(crate) struct Scanned {
+    pub(crate) scan: Scan,
+    pub(crate) summary: bool,
+}
+
 /// Scans the sample that the first word names or, where it names none, the source.
 pub(crate) fn scan_file<S: Source, L: Ledger>(
     alloc: Global,

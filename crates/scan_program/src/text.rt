@@ -1,17 +1,17 @@
 //! The program's text, written straight into one buffer.
-ghost use Rattle.std.specs.Prelude.{◌≡◌, ◌++◌, map, codes, flat_map, [], ◌∷◌, IfErr, IfOk, OnOk};
+ghost use Rattle.std.specs.Prelude.{◌≡◌, ◌++◌, map, flat_map, [], ◌∷◌, IfErr, OnOk};
 ghost use Rattle.std.specs.List.{enumerate_from, join_by, range_with_len};
 ghost use Rattle.columns_core.specs.Array.{column_of};
 ghost use Rattle.columns_core.specs.Causes.{IsWantOfMemory};
 ghost use Rattle.parquet_scan.specs.Cells.{columns_of_chunk};
 ghost use Rattle.parquet_scan.specs.Scan.{kept_of};
 ghost use Rattle.pq_common.specs.Rows.{cell_at, row_line};
-ghost use Rattle.scan_program.specs.Report.{chunk_lines, group_line, interval_text, intervals_text, report as report_by, summary_lines};
+ghost use Rattle.scan_program.specs.Report.{chunk_lines, group_line, interval_text, intervals_text, summary_lines};
 
 use columns_core::{Array, Chunk, Error};
 use parquet_base::Interval;
-use parquet_scan::{GroupKept, Scan};
-use pq_common::{push_cell, push_lines, push_text_lines, push_unsigned};
+use parquet_scan::GroupKept;
+use pq_common::{push_cell, push_unsigned};
 use std::alloc::{AllocError, Global};
 
 /// Writes a run of rows at the end.
@@ -100,21 +100,7 @@ fn push_chunk(alloc: Global, text: &mut Vec<u8>, chunk: &Chunk) -> Result<(), Er
     text.extend_from_slice(b"chunk ")?;
     push_unsigned(text, chunk.len())?;
     text.push(b'\n')?;
-    match chunk.arrays() {
-        [Array::Int32(numbers)] => {
-            push_lines(text, numbers)?;
-            Ok(())
-        }
-        [Array::Utf8(texts)] => {
-            push_text_lines(text, texts)?;
-            Ok(())
-        }
-        [Array::LargeUtf8(texts)] => {
-            push_text_lines(text, texts)?;
-            Ok(())
-        }
-        arrays => push_rows(alloc, text, arrays, chunk.len()),
-    }
+    push_rows(alloc, text, chunk.arrays(), chunk.len())
 }
 
 fn push_rows(alloc: Global, text: &mut Vec<u8>, arrays: &[Array], rows: usize) -> Result<(), Error>
@@ -128,23 +114,8 @@ fn push_rows(alloc: Global, text: &mut Vec<u8>, arrays: &[Array], rows: usize) -
     Ok(())
 }
 
-/// The whole text of a scan.
-pub fn report(alloc: Global, summary: bool, scan: &Scan) -> Result<Vec<u8>, Error>
-    ensures memory { IfErr result IsWantOfMemory }
-    ensures text { IfOk result (λ text. text.items ≡ report_by summary (map kept_of scan.now.kept) (map
-        columns_of_chunk scan.now.chunks) scan.now.rows scan.now.pages) }
-{
-    let mut text = Vec::new(alloc);
-    push_groups(&mut text, scan.kept.as_slice())?;
-    if summary {
-        push_summary(&mut text, scan.rows, scan.pages)?;
-    } else {
-        push_chunks(alloc, &mut text, scan.chunks.as_slice())?;
-    }
-    Ok(text)
-}
-
-fn push_groups(text: &mut Vec<u8>, kept: &[GroupKept]) -> Result<(), AllocError>
+/// Writes the lines of the groups at the end.
+pub(crate) fn push_groups(text: &mut Vec<u8>, kept: &[GroupKept]) -> Result<(), AllocError>
     ensures { OnOk result (text.new.items ≡ text.old.items ++ flat_map group_line (enumerate_from 0 (map
         kept_of kept.now))) }
 {
@@ -160,7 +131,8 @@ fn push_kept(text: &mut Vec<u8>, group: usize, kept: &GroupKept) -> Result<(), A
     push_group(text, group, kept.rows, kept.intervals.as_slice())
 }
 
-fn push_summary(text: &mut Vec<u8>, rows: usize, pages: usize) -> Result<(), AllocError>
+/// Writes how many rows and pages there are at the end.
+pub(crate) fn push_summary(text: &mut Vec<u8>, rows: usize, pages: usize) -> Result<(), AllocError>
     ensures { OnOk result (text.new.items ≡ text.old.items ++ summary_lines rows pages) }
 {
     text.extend_from_slice(b"rows ")?;
@@ -171,7 +143,8 @@ fn push_summary(text: &mut Vec<u8>, rows: usize, pages: usize) -> Result<(), All
     Ok(())
 }
 
-fn push_chunks(alloc: Global, text: &mut Vec<u8>, chunks: &[Chunk]) -> Result<(), Error>
+/// Writes the lines of chunks at the end.
+pub(crate) fn push_chunks(alloc: Global, text: &mut Vec<u8>, chunks: &[Chunk]) -> Result<(), Error>
     ensures lines { OnOk result (text.new.items ≡
         text.old.items ++ flat_map chunk_lines (map columns_of_chunk chunks.now)) }
     ensures memory { IfErr result IsWantOfMemory }

@@ -23,6 +23,7 @@ loop-count-preserved c =
     let bytes = c.args.bytes.now in
     let length : n + c.args.block - n ≡ c.args.block = omega arith in
     record {
+      least = omega (arith, c.loop-count.invariant.least);
       within = omega (arith, c.loop-count-test.true, c.loop-count.invariant.within);
       plain = joined n c.args.block bytes c.loop-count.invariant.plain
           (ap (λ m. flat_map quoted_byte (take m (drop n bytes))) (sym length) ∙ c.are_plain.ensures c.if-are_plain.true ∙ ap (λ m. take m (drop n bytes)) length);

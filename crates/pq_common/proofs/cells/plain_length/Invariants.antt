@@ -6,6 +6,7 @@ use Rattle.pq_common.proofs.cells.plain_length.Given as goal
 -- the bytes so far stand for themselves
 abbrev pub invariant-loop-count : goal.invariant-loop-count
 invariant-loop-count l = record {
+  least : l.plain ≤ l.count;
   within : l.count ≤ length l.bytes;
   plain : flat_map quoted_byte (take l.count l.bytes) ≡ take l.count l.bytes;
 }

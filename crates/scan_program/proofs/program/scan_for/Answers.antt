@@ -3,7 +3,7 @@ use Rattle.scan_program.specs.Program.{command_in}
 use Rattle.scan_program.specs.Sampled.{told_by}
 use Rattle.scan_program.proofs.ReportLemmas.{if_none}
 use Rattle.scan_program.proofs.ScanLemmas.{always}
-use Rattle.scan_program.proofs.program.text_for.Goals as goal
+use Rattle.scan_program.proofs.program.scan_for.Goals as goal
 
 pub returns-in-Err-clause-no_words : goal.returns-in-Err-clause-no_words
 returns-in-Err-clause-no_words g c = if_none (command_in c.args.words.now) (inr refl)
