@@ -2,6 +2,8 @@
 The kinds, each plain and required where nothing else is said:
     numbers     INT32, the numbers from 0 on, with statistics (the kind where none is given)
     indexed     the same with both page indexes
+    paged       the same in one group
+    wide        INT32 in 1,000 columns `c0`, `c1` and so on, each row a group of its own, whose number is its value in each column
     short       texts of 8 letters
     long        texts of 100 letters
     named       keys of 10 bits, that name 1,000 texts of 8 to 16 letters
@@ -103,6 +105,7 @@ def dictionary_page(body):
 COLUMNS = {
     "numbers": Numbers,
     "indexed": Numbers,
+    "paged": Numbers,
     "short": lambda: Texts(REQUIRED, PLAIN, texts_of(8)),
     "long": lambda: Texts(REQUIRED, PLAIN, texts_of(100)),
     "named": lambda: Texts(REQUIRED, RLE_DICTIONARY, entries),
@@ -128,8 +131,9 @@ def write(path, rows, kind):
     column = COLUMNS[kind]()
     out = bytearray(b"PAR1")
     groups = []
-    for start in range(0, rows, GROUP):
-        count, place, locations = min(GROUP, rows - start), len(out), []
+    most = rows if kind == "paged" else GROUP
+    for start in range(0, rows, most):
+        count, place, locations = min(most, rows - start), len(out), []
         out += column.dictionary
         for first in range(0, count, PAGE):
             written = column.page(start + first, min(PAGE, count - first))
@@ -137,7 +141,7 @@ def write(path, rows, kind):
             out += written
         groups.append((start, count, place, len(out) - place, locations))
     indexes = []
-    for start, count, _, _, locations in groups if kind == "indexed" else []:
+    for start, count, _, _, locations in groups if kind in ("indexed", "paged") else []:
         ends, places = page_indexes(start, count, locations)
         indexes.append((len(out), len(ends), len(out) + len(ends), len(places)))
         out += ends + places
@@ -159,10 +163,39 @@ def write(path, rows, kind):
     if column.physical == BYTE_ARRAY:
         leaf.i32(6, 0)
     schema = [Struct().binary(4, b"schema").i32(5, 1).end(), leaf.end()]
+    end(path, out, schema, rows, stored)
+
+
+def write_wide(path, rows):
+    """Each chunk is one page of one number."""
+    names = [f"c{i}".encode() for i in range(1_000)]
+    out = bytearray(b"PAR1")
+    stored = []
+    for row in range(rows):
+        page = Numbers().page(row, 1)
+        ends = Struct().i64(3, 0).binary(5, word(row)).binary(6, word(row))
+        chunks = []
+        for name in names:
+            place = len(out)
+            out += page
+            data = Struct().i32(1, INT32).list(2, 5, [zigzag(PLAIN)]).list(3, 8, [varint(len(name)) + name]).i32(4, 0).i64(5, 1)
+            data.i64(6, len(page)).i64(7, len(page)).i64(9, place).struct(12, ends)
+            chunks.append(Struct().i64(2, place).struct(3, data).end())
+        stored.append(Struct().list(1, 12, chunks).i64(2, len(page) * len(names)).i64(3, 1).end())
+    leaves = [Struct().i32(1, INT32).i32(3, REQUIRED).binary(4, name).end() for name in names]
+    end(path, out, [Struct().binary(4, b"schema").i32(5, len(names)).end(), *leaves], rows, stored)
+
+
+def end(path, out, schema, rows, stored):
+    """Writes the file with its footer."""
     footer = Struct().i32(1, 1).list(2, 12, schema).i64(3, rows).list(4, 12, stored).end()
     out += footer + struct.pack("<I", len(footer)) + b"PAR1"
     with open(path, "wb") as file:
         file.write(out)
 
 
-write(sys.argv[1], int(sys.argv[2]), (sys.argv[3:] or ["numbers"])[0])
+path, rows, kind = sys.argv[1], int(sys.argv[2]), (sys.argv[3:] or ["numbers"])[0]
+if kind == "wide":
+    write_wide(path, rows)
+else:
+    write(path, rows, kind)

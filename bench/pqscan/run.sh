@@ -1,6 +1,6 @@
 #!/bin/sh
-# Times whole scans of one column beside a plain Rust scan, and compares the memory that both take: numbers of 32 bits and texts, all rows,
-# a few of them, in chunks, and counted alone. Both programs must write the same text for each request, and for each of a table of
+# Times whole scans beside a plain Rust scan, and compares the memory that both take: of one column of numbers of 32 bits or of texts, all rows,
+# a few of them, in chunks, and counted alone, and of the columns of the sample file, which have other types and pages of other lengths. Both programs must write the same text for each request, and for each of a table of
 # requests on small files. Each time is the best of so many runs. Proves and builds pqscan first where that is not done yet, unless a
 # program is named. Inputs are kept in the folder, bench/data where none is named.
 # Usage: [RUNS=NUMBER] [PQSCAN=PROGRAM] bench/pqscan/run.sh [FOLDER]
@@ -24,7 +24,14 @@ write long 500000 long
 for kind in numbers indexed short long named joined half_null odd odd_named odd_joined; do
     write few_$kind 45000 $kind
 done
-rustc --edition 2021 -O -C target-cpu=x86-64-v2 -C codegen-units=1 -C panic=abort "$here/twin.rs" -o "$work/twin"
+compile() {
+    rustc --edition 2021 -O -C target-cpu=x86-64-v2 -C codegen-units=1 -C panic=abort "$1" -o "$2"
+}
+compile "$here/twin.rs" "$work/twin"
+compile "$here/../parquet_sample/twin.rs" "$work/sample"
+for rows in 45000 2000000; do
+    [ -s "$work/sample_$rows.parquet" ] || "$work/sample" $rows 7 > "$work/sample_$rows.parquet"
+done
 ${CC:-cc} -O1 "$here/timed.c" -o "$work/timed"
 [ -n "${PQSCAN:-}" ] || "$top/prove"
 python3 - "$ours" "$work" "$runs" <<'PY'
@@ -32,7 +39,7 @@ import hashlib, subprocess, sys
 
 ours, work, runs = sys.argv[1], sys.argv[2], int(sys.argv[3])
 twin, timed = f"{work}/twin", f"{work}/timed"
-# What is timed: of which file, and the words behind the column.
+# What is timed: of which file, of which columns where not of all, and the words behind them.
 requests = [
     ("numbers", "numbers", []),
     ("numbers, counted", "numbers", ["--summary"]),
@@ -53,15 +60,27 @@ requests = [
     ("joined texts of 8, counted", "joined", ["--summary"]),
     ("half null texts of 8", "half_null", []),
     ("half null texts, counted", "half_null", ["--summary"]),
+    ("sample", "sample_2000000", []),
+    ("sample, counted", "sample_2000000", ["--summary"]),
+    ("sample, one page", "sample_2000000", ["id>=1000500", "id<=1000505"]),
+    ("sample in chunks of 1000", "sample_2000000", ["--chunk", "1000"]),
+    ("sample, its numbers with nulls", "sample_2000000 qty:Int32", []),
+    ("sample, its long numbers", "sample_2000000 id:Int64", []),
+    ("sample, its names as bytes", "sample_2000000 name:Binary", []),
 ]
 # What is compared alone: each of these on a small file of each kind.
-kinds = ["numbers", "indexed", "short", "long", "named", "joined", "half_null", "odd", "odd_named", "odd_joined"]
+kinds = [f"few_{kind}" for kind in ("numbers", "indexed", "short", "long", "named", "joined", "half_null", "odd", "odd_named", "odd_joined")]
+kinds += ["sample_45000", "sample_45000 name:Utf8 qty:Int32 qty<=50", "sample_45000 name:Binary qty:Int32"]
 small = ["", "--summary", "--limit 0", "--limit 10", "--chunk 7", "--chunk 1000", "--limit 20007 --chunk 999", "--limit 44999 --chunk 30000 --summary"]
 
 
 def command(program, file, words):
-    item = "a:Int32" if file.endswith(("numbers", "indexed")) else "a:Utf8"
-    return [program, f"{work}/{file}.parquet", item, *words]
+    file, *items = file.split()
+    if file.startswith("sample"):
+        items = items or ["id:Int64", "qty:Int32", "name:Utf8"]
+    else:
+        items = ["a:Int32" if file.endswith(("numbers", "indexed")) else "a:Utf8"]
+    return [program, f"{work}/{file}.parquet", *items, *words]
 
 
 def digest(program, file, words):
@@ -82,12 +101,12 @@ def run(program, file, words):
 
 for kind in kinds:
     for line in small:
-        compare(f"few_{kind}", line.split())
-print(f"{'request':28} {'ms':>8} {'Rust ms':>8} {'ratio':>6} {'MiB':>7} {'Rust MiB':>8}", flush=True)
+        compare(kind, line.split())
+print(f"{'request':30} {'ms':>8} {'Rust ms':>8} {'ratio':>6} {'MiB':>7} {'Rust MiB':>8}", flush=True)
 for name, file, words in requests:
     compare(file, words)
     each = [(*run(ours, file, words), *run(twin, file, words)) for _ in range(runs)]
     mine, its = min(a for a, _, _, _ in each), min(b for _, _, b, _ in each)
     most = [max(it[i] for it in each) for i in (1, 3)]
-    print(f"{name:28} {mine:8.2f} {its:8.2f} {mine / max(its, 1e-6):6.2f} {most[0]:7.1f} {most[1]:8.1f}", flush=True)
+    print(f"{name:30} {mine:8.2f} {its:8.2f} {mine / max(its, 1e-6):6.2f} {most[0]:7.1f} {most[1]:8.1f}", flush=True)
 PY

@@ -14,6 +14,9 @@ use parquet_encoding::{DeltaLength, PlainBytes};
 /// How many strings are looked at together.
 const CHUNK: usize = 64;
 
+/// Fewer strings are taken one by one: to clear room for a chunk takes longer.
+const FEW: usize = 8;
+
 /// Room for as many short strings.
 const CHUNK_BYTES: usize = CHUNK * SHORT_BYTES;
 
@@ -71,6 +74,9 @@ impl TakeStrings for PlainBytes {
         strings: &mut Strings<O>,
         count: usize,
     ) -> Result<PlainBytes, Error> {
+        if count < FEW {
+            return take_each(self, bytes, strings, count);
+        }
         let mut walk = self;
         let mut left = count;
         let mut block = [0; CHUNK_BYTES];

@@ -24,6 +24,7 @@ abbrev pub nest_depth : Nest → ℕ
 nest_depth (nest.Along items start end) = depth (data_type_of items.now) + 1
 nest_depth (nest.Across columns i) = largest (map depth (map data_type_of columns.now)) + 1
 
+-- the cell itself
 abbrev pub cell_lent : Lent → Cell
 cell_lent lent.Null = Null
 cell_lent (lent.Bool value) = Bool value
@@ -33,10 +34,22 @@ cell_lent (lent.Text text) = Text text.now
 cell_lent (lent.Bytes bytes) = Bytes bytes.now
 cell_lent (lent.Cells inside) = Cells (nest_cells inside)
 
+-- what it lends is there
 abbrev pub IsThere : Lent → Type 0
+IsThere lent.Null = Unit {0}
+IsThere (lent.Bool value) = Unit {0}
+IsThere (lent.Int value) = Unit {0}
+IsThere (lent.DaysMs days milliseconds) = Unit {0}
+IsThere (lent.Text text) = Unit {0}
+IsThere (lent.Bytes bytes) = Unit {0}
 IsThere (lent.Cells inside) = AreThere inside
-IsThere _ = Unit {0}
 
+-- how deep its cells may lie in one another
 abbrev pub lent_depth : Lent → ℕ
+lent_depth lent.Null = 0
+lent_depth (lent.Bool value) = 0
+lent_depth (lent.Int value) = 0
+lent_depth (lent.DaysMs days milliseconds) = 0
+lent_depth (lent.Text text) = 0
+lent_depth (lent.Bytes bytes) = 0
 lent_depth (lent.Cells inside) = nest_depth inside
-lent_depth _ = 0

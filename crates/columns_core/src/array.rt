@@ -108,7 +108,7 @@ impl Array {
 
     /// The cell at a place, read where it lies.
     #[cycle(lent)]
-    pub(crate) fn lent(&self, i: usize) -> Lent<'_>
+    pub fn lent(&self, i: usize) -> Lent<'_>
         requires { i < length (cells self.now) }
         ensures cell { slice_get (cells self.now) i ≡ Some (cell_lent result) }
         ensures there { IsThere result }

@@ -6,9 +6,9 @@ ghost use Rattle.columns_core.specs.Lent.{cell_lent, nest_cells, AreThere, IsThe
 use crate::{Array, Cell, Error, Name, NativeType, Seq, days_ms};
 use std::alloc::Global;
 
-/// A cell whose text, bytes or cells lie in an array.
+/// A cell whose text, bytes or cells lie in an array: it is read without a copy and takes no memory.
 #[derive(Clone, Copy)]
-pub(crate) enum Lent<'a> {
+pub enum Lent<'a> {
     Null,
     Bool(bool),
     Int(i128),
@@ -20,13 +20,16 @@ pub(crate) enum Lent<'a> {
 
 /// Cells that lie one behind another in an array, or one of each of some arrays.
 #[derive(Clone, Copy)]
-pub(crate) enum Nest<'a> {
+pub enum Nest<'a> {
+    /// Those of an array from one place up to another: the items of a list.
     Along(&'a Array, usize, usize),
+    /// Of each array that at a place: the fields of a struct.
     Across(&'a [Array], usize),
 }
 
 impl<'a> Nest<'a> {
-    pub(crate) fn len(self) -> usize
+    /// How many cells there are.
+    pub fn len(self) -> usize
         requires { AreThere self }
         ensures { result ≡ length (nest_cells self.entry) }
     {
@@ -37,7 +40,7 @@ impl<'a> Nest<'a> {
     }
 
     /// One of the cells, read where it lies.
-    pub(crate) fn part(self, k: usize) -> Lent<'a>
+    pub fn part(self, k: usize) -> Lent<'a>
         requires there { AreThere self }
         requires within { k < length (nest_cells self) }
         ensures cell { slice_get (nest_cells self.entry) k ≡ Some (cell_lent result) }

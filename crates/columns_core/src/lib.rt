@@ -49,6 +49,7 @@ pub use error::{Error, Part};
 pub use fixed_size_binary::FixedSizeBinaryArray;
 pub use joined::are_texts;
 pub use key::DictionaryKey;
+pub use lent::{Lent, Nest};
 pub use list::ListArray;
 pub use map_array::MapArray;
 pub use mutable_bitmap::MutableBitmap;

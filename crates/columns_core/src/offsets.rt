@@ -130,7 +130,8 @@ impl<O: Offset> Offsets<O> {
     /// Items of these lengths more.
     #[inline]
     pub fn try_extend_from_lengths(&mut self, lengths: &[i64]) -> Result<(), Error>
-        ensures ok { OnOk result (self.new ≡ self.old ++ ends_behind (last self.old) (map nat_abs lengths.now)) }
+        ensures ok { let ends = ends_behind (last self.old) (map nat_abs lengths.now) in
+            OnOk result (self.new ≡ self.old ++ ends) }
         ensures last { OnOk result (last self.new ≡ last self.old + sum_by nat_abs lengths.now) }
         ensures fits { OnOk result (last self.old ≤ O.greatest → last self.new ≤ O.greatest) }
         ensures err { let end = last self.old + sum_by nat_abs lengths.now in
