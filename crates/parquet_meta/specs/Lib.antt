@@ -5,6 +5,7 @@ pub mod Code
 pub mod Places
 pub mod Source
 pub mod Keeps
+pub mod Reads
 pub mod Front
 pub mod Statistics
 pub mod Schema

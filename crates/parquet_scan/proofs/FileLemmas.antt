@@ -9,7 +9,6 @@ use Rattle.std.proofs.lemmas.List.FromFn.{length-range_with_len}
 use Rattle.std.proofs.lemmas.List.Sums.{sum_by-cons}
 use Rattle.columns_core.specs.Causes.{Cause, ExternalFormat, NotYetImplemented, OutOfSpec, Overflow, IsOneOf, and_then, cause_of}
 use Rattle.columns_core.specs.declared.array.Array.{Array}
-use Rattle.columns_core.specs.declared.data_type.Field.{Field}
 use Rattle.columns_core.specs.declared.error.Error.{Error}
 use Rattle.columns_core.specs.declared.error.Error.TheVariants as error
 use Rattle.page_decoding.specs.Queue.{IsChunkSize}
@@ -127,8 +126,8 @@ module _ (request : Request) (metadata : FileMetaData) where
       λ o one. among_first (index_causes request (file_with bytes metadata)) (read_causes request (file_with bytes metadata)) o (subst (λ found. IsOneOf found o) (sym (index_by request bytes pruned metadata.row_groups)) one)
 
   -- rows are pruned by pages as the groups that count say
-  pub pruned_is : (b : Bool) (fields : List Field) (groups : List RowGroupMetaData) (counts : List Bool) → b ≡ are_pruned request.bounds fields groups counts → fields ≡ request.fields → groups ≡ metadata.row_groups → counts ≡ counting → b ≡ pruned
-  pruned_is b fields groups counts e f g n = e ∙ (λ i. are_pruned request.bounds (f i) (g i) counts) ∙ same_pruning request metadata.row_groups counts n
+  pub pruned_is : (b : Bool) (groups : List RowGroupMetaData) (counts : List Bool) → b ≡ are_pruned request.bounds request.fields groups counts → groups ≡ metadata.row_groups → counts ≡ counting → b ≡ pruned
+  pruned_is b groups counts e g n = e ∙ (λ i. are_pruned request.bounds request.fields (g i) counts) ∙ same_pruning request metadata.row_groups counts n
 
   -- the runs that are kept and those that are given, where the source tells its bytes
   pub record AreGiven (told : Option (List ℕ)) (kept : List GroupKept) (given : List (List Interval)) : Type 0 where
@@ -136,15 +135,14 @@ module _ (request : Request) (metadata : FileMetaData) where
     pub rows : map rows_of given ≡ given_of_groups request.limit kept
     pub shaped : lie_in_groups metadata.row_groups given ≡ true
 
-  pub given_of : (told : Option (List ℕ)) (b : Bool) (fields : List Field) (groups : List RowGroupMetaData) (counts : List Bool) (kept again : List GroupKept) (given : List (List Interval))
-      → b ≡ pruned → fields ≡ request.fields → groups ≡ metadata.row_groups → counts ≡ counting → again ≡ kept
-      → IfSome told (λ bytes. kept ≡ kept_of_groups b fields request.bounds bytes groups counts) → map (λ (group : GroupKept). group.rows) kept ≡ map (λ (group : RowGroupMetaData). group.num_rows) groups
+  pub given_of : (told : Option (List ℕ)) (b : Bool) (groups : List RowGroupMetaData) (counts : List Bool) (kept again : List GroupKept) (given : List (List Interval))
+      → b ≡ pruned → groups ≡ metadata.row_groups → counts ≡ counting → again ≡ kept
+      → IfSome told (λ bytes. kept ≡ kept_of_groups b request.fields request.bounds bytes groups counts) → map (λ (group : GroupKept). group.rows) kept ≡ map (λ (group : RowGroupMetaData). group.num_rows) groups
       → map rows_of given ≡ given_of_groups request.limit again → list_all (λ (group : GroupKept × List Interval). is_well_shaped group.1 (group.0).rows) (zip again given) ≡ true → AreGiven told kept given
-  given_of told b fields groups counts kept again given p f g n k are rows first shaped = record {
+  given_of told b groups counts kept again given p g n k are rows first shaped = record {
     runs = subst (λ (counts : List Bool). IfSome told (λ bytes. kept ≡ kept_of_groups pruned request.fields request.bounds bytes metadata.row_groups counts)) n
         (subst (λ (groups : List RowGroupMetaData). IfSome told (λ bytes. kept ≡ kept_of_groups pruned request.fields request.bounds bytes groups counts)) g
-        (subst (λ (fields : List Field). IfSome told (λ bytes. kept ≡ kept_of_groups pruned fields request.bounds bytes groups counts)) f
-        (subst (λ (b : Bool). IfSome told (λ bytes. kept ≡ kept_of_groups b fields request.bounds bytes groups counts)) p are)));
+        (subst (λ (b : Bool). IfSome told (λ bytes. kept ≡ kept_of_groups b request.fields request.bounds bytes groups counts)) p are));
     rows = first ∙ ap (given_of_groups request.limit) k;
     shaped = ap (λ groups. lie_in_groups groups given) (sym g)
         ∙ groups_shaped groups kept given rows (ap (λ kept. list_all (λ (group : GroupKept × List Interval). is_well_shaped group.1 (group.0).rows) (zip kept given)) (sym k) ∙ shaped);

@@ -1,5 +1,6 @@
 pub mod AnswerLemmas
 pub mod BoundLemmas
+pub mod CallLemmas
 pub mod CauseLemmas
 pub mod CellLemmas
 pub mod ClippedLemmas

@@ -4,7 +4,7 @@ use Rattle.std.specs.Prelude.{filter, find, flat_map, slice_get, slice_range, zi
 use Rattle.std.specs.List.{AllByRecursion, list_all, list_any, range_with_len, cons_option}
 use Rattle.std.proofs.lemmas.Bool.{le-leb, lt-leb, lt-ltb, le-ltb, leb-true, leb-false, cases_lt, eq-eqb, eqb-true, and_parts, true≢false}
 use Rattle.std.proofs.lemmas.Grind.{flat_map-append}
-use Rattle.std.proofs.lemmas.List.{drop-take, take-take, drop-drop, length-map, length-take-le, length-drop, map-append}
+use Rattle.std.proofs.lemmas.List.{length-map, length-take-le, length-drop, map-append}
 use Rattle.std.proofs.lemmas.List.Folds.{list_any-append}
 use Rattle.std.proofs.lemmas.Simd.{map-map}
 use Rattle.columns_core.specs.Causes.{Cause, ExternalFormat, IsOneOf, is_empty}

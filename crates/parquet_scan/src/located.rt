@@ -11,8 +11,7 @@ ghost use Rattle.page_decoding.specs.Outcome.{Given};
 ghost use Rattle.page_decoding.specs.Queue.{IsChunkSize};
 ghost use Rattle.flat_values.specs.Conversion.{Value};
 ghost use Rattle.flat_values.specs.MostBytes.{most_bytes};
-ghost use Rattle.parquet_meta.specs.Keeps.{Keeps};
-ghost use Rattle.parquet_meta.specs.Source.{IsReadFailure};
+ghost use Rattle.parquet_meta.specs.Reads.{ReadsFile};
 ghost use Rattle.parquet_scan.specs.Causes.{causes_of_chunk, pair_causes};
 ghost use Rattle.parquet_scan.specs.Cells.{is_null_type, located_item};
 ghost use Rattle.parquet_scan.specs.Costs.{lent_of_chunk, taken_of_chunk};
@@ -22,74 +21,83 @@ ghost use Rattle.parquet_scan.specs.Scan.{RisesBy, RisesJustBy};
 
 use crate::column::place_of_chunk;
 use crate::decode::decode_column;
+use crate::given::GivenRows;
 use crate::locations::read_locations;
-use columns_core::{Array, DataType, Error, Part};
-use parquet_base::{Interval, Steps};
-use parquet_meta::{ColumnChunkMetaData, Place, RowGroupMetaData, Source, read_exact_at};
+use crate::pairs::TypedColumn;
+use columns_core::{Array, Error, Part};
+use parquet_base::Steps;
+use parquet_meta::{Place, Source, read_exact_at};
 use parquet_page::{FilteredPage, IndexedPageReader, select_pages};
 use std::alloc::Global;
 use std::collections::VecDeque;
 use std::sync::ledger::Ledger;
 
+/// The parts of a chunk that were read: what stands before its first page, and the pages that are wanted.
+#[derive(Drop)]
+struct PageParts {
+    before: Vec<u8>,
+    bodies: Vec<Vec<u8>>,
+    pages: Vec<FilteredPage>,
+}
+
 /// The arrays of a column in these rows of a group, and how many pages were lent.
 pub(crate) fn read_located<S: Source, L: Ledger>(
     alloc: Global,
     source: &mut S,
-    group: &RowGroupMetaData,
-    intervals: &[Interval],
+    rows: GivenRows<'_>,
     chunk_size: Option<usize>,
-    column: &ColumnChunkMetaData,
-    data_type: &DataType,
+    typed: TypedColumn<'_>,
     steps: &mut Steps<L>,
 ) -> Result<(VecDeque<Array>, usize), Error>
-    requires shaped { is_well_shaped intervals.now group.now.num_rows ≡ true }
+    requires shaped { is_well_shaped rows.runs.now rows.group.now.num_rows ≡ true }
     requires size { IsChunkSize chunk_size }
-    requires pair { pair_causes column.now.descriptor.primitive_type data_type.now ≡ [] }
-    requires not_null { is_null_type data_type.now ≡ false }
-    ensures keeps { Keeps S.Source source.old source.new }
-    ensures quiet { OnOk result (S.faults source.new ≡ S.faults source.old) }
-    ensures ok { OnOk result (IfSome (S.told source.old) (λ bytes.
-        causes_of_chunk true chunk_size bytes group.now (rows_of intervals.now) data_type.now column.now
-        ≡ [])) }
-    ensures fails { IfErr result (
-        IsReadFailure (S.told source.old) (S.faults source.old) (S.faults source.new) (λ bytes.
-        causes_of_chunk true chunk_size bytes group.now (rows_of intervals.now) data_type.now column.now)) }
+    requires pair { pair_causes typed.column.now.descriptor.primitive_type typed.data_type.now ≡ [] }
+    requires not_null { is_null_type typed.data_type.now ≡ false }
+    ensures reads { ReadsFile S.Source source.old source.new (λ bytes.
+        causes_of_chunk true chunk_size bytes rows.entry.group.now (rows_of rows.entry.runs.now)
+        typed.entry.data_type.now typed.entry.column.now) result }
     ensures typed { IfOk result (λ found.
-        All (λ array. data_type_of array ≡ data_type.now) found.0.items) }
+        All (λ array. data_type_of array ≡ typed.entry.data_type.now) found.0.items) }
     ensures counts { IfOk result (λ found.
         map (λ array. length (cells array)) found.0.items
-        ≡ map length (cut chunk_size (rows_of intervals.now))) }
+        ≡ map length (cut chunk_size (rows_of rows.entry.runs.now))) }
     ensures cells { IfOk result (λ found. IfSome (S.told source.old) (λ bytes.
         map (λ array. map (λ cell. Some (Value cell)) (cells array)) found.0.items
-        ≡ map (map (located_item bytes group.now data_type.now column.now))
-        (cut chunk_size (rows_of intervals.now)))) }
+        ≡ map (map (located_item bytes rows.entry.group.now typed.entry.data_type.now
+        typed.entry.column.now)) (cut chunk_size (rows_of rows.entry.runs.now)))) }
     ensures ticks { steps.old ≤ steps.new }
     ensures pages { IfOk result (λ found. found.1 ≡ min (steps.new - steps.old) (2 ^ 64 - 1)) }
     ensures lent { OnOk result (RisesJustBy (S.told source.old) steps.old steps.new (λ bytes.
-        lent_of_chunk true bytes group.now (rows_of intervals.now) column.now)) }
+        lent_of_chunk true bytes rows.entry.group.now (rows_of rows.entry.runs.now) typed.entry.column.now)) }
     ensures taken { OnOk result (
         RisesBy (S.told source.old) (S.taken source.old) (S.taken source.new) (λ bytes.
-        offset_index_length column.now
-        + taken_of_chunk true bytes group.now (rows_of intervals.now) column.now)) }
+        offset_index_length typed.entry.column.now
+        + taken_of_chunk true bytes rows.entry.group.now (rows_of rows.entry.runs.now)
+        typed.entry.column.now)) }
 {
-    let rows = count_of_rows(group, intervals);
+    let (group, column) = (rows.group, typed.column);
+    let count = count_of_rows(rows);
     let chunk = place_of_chunk(source, group, column)?;
     let locations = read_locations(alloc, source, group, column)?;
-    let pages = select_pages(alloc, intervals, &locations, group.num_rows)?;
+    let pages = select_pages(alloc, rows.runs, &locations, group.num_rows)?;
     let bodies = read_bodies(alloc, source, chunk, &pages)?;
     let before = read_before(alloc, source, chunk, &pages, !bodies.is_empty())?;
-    decode_located(
-        alloc, column, data_type, rows, chunk_size, before, bodies, pages, steps,
-    )
+    let parts = PageParts {
+        before,
+        bodies,
+        pages,
+    };
+    decode_located(alloc, typed, count, chunk_size, parts, steps)
 }
 
 /// How many rows of a group are given.
-pub(crate) fn count_of_rows(group: &RowGroupMetaData, intervals: &[Interval]) -> usize
-    requires { is_well_shaped intervals.now group.now.num_rows ≡ true }
-    ensures { result ≡ length (rows_of intervals.now) }
+pub(crate) fn count_of_rows(rows: GivenRows<'_>) -> usize
+    requires { is_well_shaped rows.runs.now rows.group.now.num_rows ≡ true }
+    ensures { result ≡ length (rows_of rows.entry.runs.now) }
 {
+    let group = rows.group;
     let _all = group.num_rows;
-    intervals.iter().map(|run| run.length).sum()
+    rows.runs.iter().map(|run| run.length).sum()
 }
 
 /// The parts of the pages that have selected rows, one by one.
@@ -99,13 +107,8 @@ fn read_bodies<S: Source>(
     chunk: Place,
     pages: &[FilteredPage],
 ) -> Result<Vec<Vec<u8>>, Error>
-    ensures keeps { Keeps S.Source source.old source.new }
-    ensures quiet { OnOk result (S.faults source.new ≡ S.faults source.old) }
-    ensures ok { OnOk result (IfSome (S.told source.old) (λ bytes.
-        flat_map (entry_causes bytes chunk) (filter is_wanted_by pages.now) ≡ [])) }
-    ensures fails { IfErr result (
-        IsReadFailure (S.told source.old) (S.faults source.old) (S.faults source.new)
-        (λ bytes. flat_map (entry_causes bytes chunk) (filter is_wanted_by pages.now))) }
+    ensures reads { ReadsFile S.Source source.old source.new (λ bytes.
+        flat_map (entry_causes bytes chunk) (filter is_wanted_by pages.now)) result }
     ensures bodies { IfOk result (λ bodies.
         IfSome (S.told source.old) (λ bytes.
         map (entry_part bytes chunk) (filter is_wanted_by pages.now)
@@ -146,13 +149,8 @@ fn read_before<S: Source>(
     pages: &[FilteredPage],
     wanted: bool,
 ) -> Result<Vec<u8>, Error>
-    ensures keeps { Keeps S.Source source.old source.new }
-    ensures quiet { OnOk result (S.faults source.new ≡ S.faults source.old) }
-    ensures ok { OnOk result (IfSome (S.told source.old) (λ bytes.
-        (if wanted then part_causes bytes chunk (place_before_by chunk pages.now) else []) ≡ [])) }
-    ensures fails { IfErr result (
-        IsReadFailure (S.told source.old) (S.faults source.old) (S.faults source.new)
-        (λ bytes. (if wanted then part_causes bytes chunk (place_before_by chunk pages.now) else []))) }
+    ensures reads { ReadsFile S.Source source.old source.new (λ bytes.
+        (if wanted then part_causes bytes chunk (place_before_by chunk pages.now) else [])) result }
     ensures part { IfOk result (λ part.
         IsTrue wanted → IfSome (S.told source.old) (λ bytes.
         part_in bytes chunk (place_before_by chunk pages.now) ≡ Some part.items)) }
@@ -190,12 +188,7 @@ fn read_part<S: Source>(
     chunk: Place,
     part: Place,
 ) -> Result<Vec<u8>, Error>
-    ensures keeps { Keeps S.Source source.old source.new }
-    ensures quiet { OnOk result (S.faults source.new ≡ S.faults source.old) }
-    ensures ok { OnOk result (IfSome (S.told source.old) (λ bytes. part_causes bytes chunk part ≡ [])) }
-    ensures fails { IfErr result (
-        IsReadFailure (S.told source.old) (S.faults source.old) (S.faults source.new)
-        (λ bytes. part_causes bytes chunk part)) }
+    ensures reads { ReadsFile S.Source source.old source.new (λ bytes. part_causes bytes chunk part) result }
     ensures part { IfOk result (λ found.
         IfSome (S.told source.old) (λ bytes. part_in bytes chunk part ≡ Some found.items)) }
     ensures taken { S.taken source.new ≤ S.taken source.old + part.length }
@@ -216,44 +209,54 @@ fn lies_in(outer: Place, part: Place) -> bool
 /// The arrays of the selected rows of pages in their parts, so many rows, and how many pages were lent.
 fn decode_located<L: Ledger>(
     alloc: Global,
-    column: &ColumnChunkMetaData,
-    data_type: &DataType,
-    rows: usize,
+    typed: TypedColumn<'_>,
+    num_rows: usize,
     chunk_size: Option<usize>,
-    before: Vec<u8>,
-    bodies: Vec<Vec<u8>>,
-    pages: Vec<FilteredPage>,
+    parts: PageParts,
     steps: &mut Steps<L>,
 ) -> Result<(VecDeque<Array>, usize), Error>
-    requires shaped { are_well_shaped pages.items ≡ true }
-    requires parts { has_parts pages.items (map (λ body. body.items) bodies.items) ≡ true }
+    requires shaped { are_well_shaped parts.pages.items ≡ true }
+    requires parts { has_parts parts.pages.items (map (λ body. body.items) parts.bodies.items) ≡ true }
     requires size { IsChunkSize chunk_size }
-    requires pair { pair_causes column.now.descriptor.primitive_type data_type.now ≡ [] }
-    requires not_null { is_null_type data_type.now ≡ false }
+    requires pair { pair_causes typed.column.now.descriptor.primitive_type typed.data_type.now ≡ [] }
+    requires not_null { is_null_type typed.data_type.now ≡ false }
     ensures typed { IfOk result (λ found.
-        All (λ array. data_type_of array ≡ data_type.now) found.0.items) }
+        All (λ array. data_type_of array ≡ typed.entry.data_type.now) found.0.items) }
     ensures chunks { IfOk result (λ found.
-        let stored = column.now.descriptor.primitive_type in
-        let lent = located_parts stored (Some before.items) pages.items
-        (map (λ body. body.items) bodies.items) in
-        map (λ array. map Given (cells array)) found.0.items
-        ≡ cut chunk_size (take rows (column_rows stored data_type.now lent.pages lent.causes))) }
-    ensures fits { IfOk result (λ found.
-        All (λ array. fits_most (most_bytes data_type.now) (sum_by cell_bytes (cells array)) ≡ true)
-        found.0.items) }
-    ensures cause { let stored = column.now.descriptor.primitive_type in
-        let lent = located_parts stored (Some before.items) pages.items
-        (map (λ body. body.items) bodies.items) in
-        let wanted = take rows (column_rows stored data_type.now lent.pages lent.causes) in
-        IfErr result (IsCausedByChunks (most_bytes data_type.now) chunk_size wanted) }
+        let stored = typed.entry.column.now.descriptor.primitive_type in
+        let lent = located_parts stored (Some parts.before.items) parts.pages.items
+        (map (λ body. body.items) parts.bodies.items) in
+        let wanted = take num_rows (column_rows stored typed.entry.data_type.now lent.pages lent.causes) in
+        map (λ array. map Given (cells array)) found.0.items ≡ cut chunk_size wanted) }
+    ensures fits { IfOk result (λ found. let most = most_bytes typed.entry.data_type.now in
+        All (λ array. fits_most most (sum_by cell_bytes (cells array)) ≡ true) found.0.items) }
+    ensures cause { let stored = typed.entry.column.now.descriptor.primitive_type in
+        let lent = located_parts stored (Some parts.before.items) parts.pages.items
+        (map (λ body. body.items) parts.bodies.items) in
+        let wanted = take num_rows (column_rows stored typed.entry.data_type.now lent.pages lent.causes) in
+        IfErr result (IsCausedByChunks (most_bytes typed.entry.data_type.now) chunk_size wanted) }
     ensures ticks { steps.old ≤ steps.new }
     ensures pages { IfOk result (λ found. found.1 ≡ min (steps.new - steps.old) (2 ^ 64 - 1)) }
-    ensures lent { OnOk result (let stored = column.now.descriptor.primitive_type in
-        let lent = located_parts stored (Some before.items) pages.items
-        (map (λ body. body.items) bodies.items) in
-        steps.new ≡ steps.old + length (pages_for stored data_type.now rows lent.pages)) }
+    ensures lent { OnOk result (let stored = typed.entry.column.now.descriptor.primitive_type in
+        let lent = located_parts stored (Some parts.before.items) parts.pages.items
+        (map (λ body. body.items) parts.bodies.items) in
+        steps.new ≡ steps.old + length (pages_for stored typed.entry.data_type.now num_rows lent.pages)) }
 {
+    let column = typed.column;
+    let PageParts {
+        before,
+        bodies,
+        pages,
+    } = parts;
     let reader = IndexedPageReader::from_ranges(alloc, Some(before), bodies, column, pages)?;
     let stored = &column.descriptor.primitive_type;
-    decode_column(alloc, reader, stored, data_type, rows, chunk_size, steps)
+    decode_column(
+        alloc,
+        reader,
+        stored,
+        typed.data_type,
+        num_rows,
+        chunk_size,
+        steps,
+    )
 }

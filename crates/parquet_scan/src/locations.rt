@@ -1,11 +1,10 @@
 //! Where the pages of a column stand.
-ghost use Rattle.std.specs.Prelude.{◌≡◌, ◌≤◌, ◌+◌, ◌&&◌, [], true, is_some, length, sum_by, map, flat_map, IfOk, IfErr, IfSome, OnOk, Some};
+ghost use Rattle.std.specs.Prelude.{◌≡◌, ◌≤◌, ◌+◌, ◌&&◌, true, is_some, length, sum_by, map, flat_map, IfOk, IfSome, OnOk, Some};
 ghost use Rattle.std.specs.List.{list_all};
 ghost use Rattle.columns_core.specs.Causes.{ComesOf, ExternalFormat, unless};
 ghost use Rattle.parquet_meta.specs.Indexes.{offset_index_length};
 ghost use Rattle.parquet_page.specs.Locations.{begin_with_row_0, has_shape, part_of};
-ghost use Rattle.parquet_meta.specs.Keeps.{Keeps};
-ghost use Rattle.parquet_meta.specs.Source.{IsReadFailure};
+ghost use Rattle.parquet_meta.specs.Reads.{ReadsFile};
 ghost use Rattle.parquet_scan.specs.Causes.{offset_causes_of_field};
 ghost use Rattle.parquet_scan.specs.Costs.{location_bytes_of};
 ghost use Rattle.parquet_scan.specs.Pages.{locations as locations_by, locations_causes};
@@ -28,13 +27,8 @@ pub(crate) fn read_all_locations<S: Source>(
     group: &RowGroupMetaData,
     fields: &[Field],
 ) -> Result<Vec<Vec<PageLocation>>, Error>
-    ensures keeps { Keeps S.Source source.old source.new }
-    ensures quiet { OnOk result (S.faults source.new ≡ S.faults source.old) }
-    ensures ok { OnOk result (IfSome (S.told source.old) (λ bytes.
-        flat_map (offset_causes_of_field bytes group.now) fields.now ≡ [])) }
-    ensures fails { IfErr result (
-        IsReadFailure (S.told source.old) (S.faults source.old) (S.faults source.new)
-        (λ bytes. flat_map (offset_causes_of_field bytes group.now) fields.now)) }
+    ensures reads { ReadsFile S.Source source.old source.new (λ bytes.
+        flat_map (offset_causes_of_field bytes group.now) fields.now) result }
     ensures locations { IfOk result (λ lists.
         IfSome (S.told source.old) (λ bytes.
         map (λ field. field_locations bytes group.now field.name) fields.now
@@ -58,13 +52,8 @@ fn read_field_locations<S: Source>(
     group: &RowGroupMetaData,
     field: &Field,
 ) -> Result<Vec<PageLocation>, Error>
-    ensures keeps { Keeps S.Source source.old source.new }
-    ensures quiet { OnOk result (S.faults source.new ≡ S.faults source.old) }
-    ensures ok { OnOk result (IfSome (S.told source.old) (λ bytes.
-        offset_causes_of_field bytes group.now field.now ≡ [])) }
-    ensures fails { IfErr result (
-        IsReadFailure (S.told source.old) (S.faults source.old) (S.faults source.new)
-        (λ bytes. offset_causes_of_field bytes group.now field.now)) }
+    ensures reads { ReadsFile S.Source source.old source.new (λ bytes.
+        offset_causes_of_field bytes group.now field.now) result }
     ensures locations { IfOk result (λ list.
         IfSome (S.told source.old) (λ bytes. field_locations bytes group.now field.now.name ≡
         list.items)) }
@@ -84,13 +73,8 @@ pub(crate) fn read_locations<S: Source>(
     group: &RowGroupMetaData,
     column: &ColumnChunkMetaData,
 ) -> Result<Vec<PageLocation>, Error>
-    ensures keeps { Keeps S.Source source.old source.new }
-    ensures quiet { OnOk result (S.faults source.new ≡ S.faults source.old) }
-    ensures ok { OnOk result (IfSome (S.told source.old) (λ bytes.
-        locations_causes bytes group.now column.now ≡ [])) }
-    ensures fails { IfErr result (
-        IsReadFailure (S.told source.old) (S.faults source.old) (S.faults source.new)
-        (λ bytes. locations_causes bytes group.now column.now)) }
+    ensures reads { ReadsFile S.Source source.old source.new (λ bytes.
+        locations_causes bytes group.now column.now) result }
     ensures locations { IfOk result (λ list.
         IfSome (S.told source.old) (λ bytes. locations_by bytes column.now ≡ list.items)) }
     ensures shaped { IfOk result (λ list. has_shape list.items group.now.num_rows ≡ true) }

@@ -1,8 +1,8 @@
 //! What the column index of a column says of its pages.
-ghost use Rattle.std.specs.Prelude.{◌≡◌, ◌≤◌, ◌+◌, [], true, length, map, IfOk, IfErr, IfSome, OnOk};
+ghost use Rattle.std.specs.Prelude.{◌≡◌, ◌≤◌, ◌+◌, true, length, map, IfOk, IfSome, OnOk};
 ghost use Rattle.parquet_meta.specs.Indexes.{FindsIndex, column_index_length};
 ghost use Rattle.parquet_meta.specs.Keeps.{Keeps};
-ghost use Rattle.parquet_meta.specs.Source.{IsReadFailure};
+ghost use Rattle.parquet_meta.specs.Reads.{ReadsFile};
 ghost use Rattle.parquet_scan.specs.Pages as spec;
 ghost use Rattle.parquet_scan.specs.Request.{begins};
 
@@ -23,13 +23,8 @@ pub(crate) fn read_page_ends<S: Source>(
     count: usize,
 ) -> Result<Vec<PageIndex<Cell>>, Error>
     requires named { begins name.now column.now.descriptor ≡ true }
-    ensures keeps { Keeps S.Source source.old source.new }
-    ensures quiet { OnOk result (S.faults source.new ≡ S.faults source.old) }
-    ensures ok { OnOk result (IfSome (S.told source.old) (λ bytes.
-        spec.column_index_causes data_type.now count bytes column.now ≡ [])) }
-    ensures fails { IfErr result (
-        IsReadFailure (S.told source.old) (S.faults source.old) (S.faults source.new) (λ bytes.
-        spec.column_index_causes data_type.now count bytes column.now)) }
+    ensures reads { ReadsFile S.Source source.old source.new (λ bytes.
+        spec.column_index_causes data_type.now count bytes column.now) result }
     ensures ends { IfOk result (λ ends. IfSome (S.told source.old) (λ bytes.
         spec.page_ends data_type.now bytes column.now ≡ map spec.ends_of_page ends.items)) }
     ensures length { IfOk result (λ ends. length ends.items ≡ count) }

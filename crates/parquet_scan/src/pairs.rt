@@ -6,7 +6,14 @@ ghost use Rattle.parquet_scan.specs.Causes.{pair_causes};
 
 use columns_core::{DataType, Error, Part};
 use flat_values::carries;
-use parquet_meta::PrimitiveType;
+use parquet_meta::{ColumnChunkMetaData, PrimitiveType};
+
+/// A column chunk, and the type that it is read as.
+#[derive(Clone, Copy)]
+pub(crate) struct TypedColumn<'a> {
+    pub(crate) column: &'a ColumnChunkMetaData,
+    pub(crate) data_type: &'a DataType,
+}
 
 /// Refuses a pair of types that is not carried.
 pub(crate) fn check_pair(stored: &PrimitiveType, data_type: &DataType) -> Result<(), Error>

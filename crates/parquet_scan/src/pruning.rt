@@ -1,12 +1,11 @@
 //! Which rows of a group its pages keep.
-ghost use Rattle.std.specs.Prelude.{◌≡◌, ◌≤◌, ◌+◌, [], true, All, length, sum_by, map, flat_map, option_and_then, zip, IfOk, IfErr, IfSome, OnOk};
+ghost use Rattle.std.specs.Prelude.{◌≡◌, ◌≤◌, ◌+◌, true, All, length, sum_by, map, flat_map, option_and_then, zip, IfOk, IfErr, IfSome, OnOk};
 ghost use Rattle.std.specs.List.{list_all};
 ghost use Rattle.columns_core.specs.Causes.{IsWantOfMemory};
 ghost use Rattle.parquet_base.specs.Intervals.{maximal_runs, AreApart};
 ghost use Rattle.parquet_page.specs.Locations.{has_shape};
 ghost use Rattle.parquet_meta.specs.Code.{not_negative};
-ghost use Rattle.parquet_meta.specs.Keeps.{Keeps};
-ghost use Rattle.parquet_meta.specs.Source.{IsReadFailure};
+ghost use Rattle.parquet_meta.specs.Reads.{ReadsFile};
 ghost use Rattle.parquet_scan.specs.Causes.{index_causes_of_bound, index_causes_of_group};
 ghost use Rattle.parquet_scan.specs.Costs.{index_bytes_of, location_bytes_of};
 ghost use Rattle.parquet_scan.specs.Pages.{ends_of_page, keeps_row, page_keeps as page_keeps_by, rows_at};
@@ -34,13 +33,8 @@ pub(crate) fn kept_by_pages<S: Source>(
     bounds: &[Bound],
 ) -> Result<Vec<Interval>, Error>
     requires legal { list_all (is_legal_bound_of fields.now) bounds.now ≡ true }
-    ensures keeps { Keeps S.Source source.old source.new }
-    ensures quiet { OnOk result (S.faults source.new ≡ S.faults source.old) }
-    ensures ok { OnOk result (IfSome (S.told source.old) (λ bytes.
-        index_causes_of_group fields.now bounds.now bytes group.now ≡ [])) }
-    ensures fails { IfErr result (
-        IsReadFailure (S.told source.old) (S.faults source.old) (S.faults source.new) (λ bytes.
-        index_causes_of_group fields.now bounds.now bytes group.now)) }
+    ensures reads { ReadsFile S.Source source.old source.new (λ bytes.
+        index_causes_of_group fields.now bounds.now bytes group.now) result }
     ensures kept { IfOk result (λ runs. IfSome (S.told source.old) (λ bytes. runs.items
         ≡ maximal_runs (pages_keep true fields.now bounds.now bytes group.now) group.now.num_rows)) }
     ensures apart { IfOk result (λ runs. AreApart 0 runs.items group.now.num_rows) }
@@ -68,13 +62,8 @@ fn read_all_runs<S: Source>(
     requires told { IfSome (S.told source.old) (λ bytes.
         map (λ field. field_locations bytes group.now field.name) fields.now
         ≡ map (λ list. list.items) locations.now) }
-    ensures keeps { Keeps S.Source source.old source.new }
-    ensures quiet { OnOk result (S.faults source.new ≡ S.faults source.old) }
-    ensures ok { OnOk result (IfSome (S.told source.old) (λ bytes.
-        flat_map (index_causes_of_bound fields.now bytes group.now) bounds.now ≡ [])) }
-    ensures fails { IfErr result (
-        IsReadFailure (S.told source.old) (S.faults source.old) (S.faults source.new) (λ bytes.
-        flat_map (index_causes_of_bound fields.now bytes group.now) bounds.now)) }
+    ensures reads { ReadsFile S.Source source.old source.new (λ bytes.
+        flat_map (index_causes_of_bound fields.now bytes group.now) bounds.now) result }
     ensures runs { IfOk result (λ lists. IfSome (S.told source.old) (λ bytes.
         map (λ bound.
         maximal_runs (λ row. bound_keeps fields.now bytes group.now row bound) group.now.num_rows) bounds.now
@@ -104,13 +93,8 @@ fn read_runs<S: Source>(
     requires shaped { has_shape locations.now group.now.num_rows ≡ true }
     requires told { IfSome (S.told source.old) (λ bytes.
         field_locations bytes group.now bound.now.field ≡ locations.now) }
-    ensures keeps { Keeps S.Source source.old source.new }
-    ensures quiet { OnOk result (S.faults source.new ≡ S.faults source.old) }
-    ensures ok { OnOk result (IfSome (S.told source.old) (λ bytes.
-        index_causes_of_bound fields.now bytes group.now bound.now ≡ [])) }
-    ensures fails { IfErr result (
-        IsReadFailure (S.told source.old) (S.faults source.old) (S.faults source.new) (λ bytes.
-        index_causes_of_bound fields.now bytes group.now bound.now)) }
+    ensures reads { ReadsFile S.Source source.old source.new (λ bytes.
+        index_causes_of_bound fields.now bytes group.now bound.now) result }
     ensures runs { IfOk result (λ runs. IfSome (S.told source.old) (λ bytes.
         maximal_runs (λ row. bound_keeps fields.now bytes group.now row bound.now) group.now.num_rows
         ≡ runs.items)) }

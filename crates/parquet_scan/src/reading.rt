@@ -1,12 +1,11 @@
 //! The chunks of groups.
-ghost use Rattle.std.specs.Prelude.{◌≡◌, ◌+◌, ◌-◌, ◌<◌, ◌^◌, ◌≤◌, ◌++◌, [], Some, min, map, length, true, IfOk, IfErr, IfSome, OnOk, All};
+ghost use Rattle.std.specs.Prelude.{◌≡◌, ◌+◌, ◌-◌, ◌<◌, ◌^◌, ◌≤◌, ◌++◌, Some, min, map, length, true, IfOk, IfSome, OnOk, All};
 ghost use Rattle.columns_core.specs.Array.{cells, column_of};
 ghost use Rattle.columns_core.specs.Chunk.{AreEqualLengths};
 ghost use Rattle.page_decoding.specs.Queue.{IsChunkSize};
 ghost use Rattle.parquet_base.specs.Intervals.{is_well_shaped, row_count, rows_of};
 ghost use Rattle.parquet_base.specs.Pieces.{cut};
-ghost use Rattle.parquet_meta.specs.Keeps.{Keeps};
-ghost use Rattle.parquet_meta.specs.Source.{IsReadFailure};
+ghost use Rattle.parquet_meta.specs.Reads.{ReadsFile};
 ghost use Rattle.parquet_scan.specs.Causes.{causes_of_column, causes_of_group};
 ghost use Rattle.parquet_scan.specs.Cells.{given_chunk, given_column};
 ghost use Rattle.parquet_scan.specs.Costs.{lent_of_column, lent_of_group};
@@ -14,8 +13,11 @@ ghost use Rattle.parquet_scan.specs.Counting.{AreFirst, lie_in_groups, causes_if
 ghost use Rattle.parquet_scan.specs.Scan.{RisesBy, RisesJustBy, rows_in};
 
 use crate::chunks::{RowsRead, add_chunks};
+use crate::given::GivenRows;
 use crate::group_column::read_column;
 use crate::groups::column_named;
+use crate::pairs::TypedColumn;
+use crate::request::GroupRequest;
 use columns_core::{Array, Error, Field, Part, Seq};
 use parquet_base::{Interval, Steps};
 use parquet_meta::{RowGroupMetaData, Source};
@@ -29,27 +31,21 @@ pub(crate) fn read_groups<S: Source, L: Ledger>(
     source: &mut S,
     groups: &[RowGroupMetaData],
     given: &[Seq<Interval>],
-    by_pages: bool,
-    chunk_size: Option<usize>,
-    fields: &[Field],
+    asked: GroupRequest<'_>,
     read: &mut RowsRead,
     steps: &mut Steps<L>,
 ) -> Result<(), Error>
     requires lengths { length given.now ≡ length groups.now }
     requires shaped { lie_in_groups groups.now given.now ≡ true }
-    requires first { All (AreFirst by_pages) given.now }
-    requires size { IsChunkSize chunk_size }
-    requires some { 0 < length fields.now }
-    ensures keeps { Keeps S.Source source.old source.new }
-    ensures quiet { OnOk result (S.faults source.new ≡ S.faults source.old) }
-    ensures ok { OnOk result (IfSome (S.told source.old) (λ bytes.
-        causes_of_groups by_pages chunk_size fields.now bytes groups.now given.now ≡ [])) }
-    ensures fails { IfErr result (
-        IsReadFailure (S.told source.old) (S.faults source.old) (S.faults source.new) (λ bytes.
-        causes_of_groups by_pages chunk_size fields.now bytes groups.now given.now)) }
+    requires first { All (AreFirst asked.by_pages) given.now }
+    requires size { IsChunkSize asked.chunk_size }
+    requires some { 0 < length asked.fields.now }
+    ensures reads { ReadsFile S.Source source.old source.new (λ bytes.
+        causes_of_groups asked.entry.by_pages asked.entry.chunk_size asked.entry.fields.now bytes
+        groups.now given.now) result }
     ensures chunks { OnOk result (IfSome (S.told source.old) (λ bytes. shown read.new.chunks.items
-        ≡ shown read.old.chunks.items ++ chunks_of_groups by_pages chunk_size fields.now bytes groups.now
-        given.now)) }
+        ≡ shown read.old.chunks.items ++ chunks_of_groups asked.entry.by_pages asked.entry.chunk_size
+        asked.entry.fields.now bytes groups.now given.now)) }
     ensures rows { OnOk result (read.new.rows ≡
         min (read.old.rows + rows_of_groups given.now) (2 ^ 64 - 1)) }
     ensures own_rows { read.old.rows ≡ rows_in read.old.chunks.items →
@@ -60,17 +56,19 @@ pub(crate) fn read_groups<S: Source, L: Ledger>(
     ensures pages { OnOk result (read.new.pages
         ≡ min (read.old.pages + (steps.new - steps.old)) (2 ^ 64 - 1)) }
     ensures lent { OnOk result (RisesJustBy (S.told source.old) steps.old steps.new (λ bytes.
-        lent_of_groups by_pages fields.now bytes groups.now given.now)) }
+        lent_of_groups asked.entry.by_pages asked.entry.fields.now bytes groups.now given.now)) }
     ensures taken { OnOk result (
         RisesBy (S.told source.old) (S.taken source.old) (S.taken source.new) (λ bytes.
-        taken_of_groups by_pages fields.now bytes groups.now given.now)) }
+        taken_of_groups asked.entry.by_pages asked.entry.fields.now bytes groups.now given.now)) }
 {
     let _rows = read.rows;
     for i in 0..groups.len() {
         let runs = given[i].as_slice();
-        read_if_given(
-            alloc, source, &groups[i], runs, by_pages, chunk_size, fields, read, steps,
-        )?;
+        let rows = GivenRows {
+            group: &groups[i],
+            runs,
+        };
+        read_if_given(alloc, source, rows, asked, read, steps)?;
     }
     Ok(())
 }
@@ -79,29 +77,23 @@ pub(crate) fn read_groups<S: Source, L: Ledger>(
 fn read_if_given<S: Source, L: Ledger>(
     alloc: Global,
     source: &mut S,
-    group: &RowGroupMetaData,
-    runs: &[Interval],
-    by_pages: bool,
-    chunk_size: Option<usize>,
-    fields: &[Field],
+    rows: GivenRows<'_>,
+    asked: GroupRequest<'_>,
     read: &mut RowsRead,
     steps: &mut Steps<L>,
 ) -> Result<(), Error>
-    requires shaped { lies_in_group (group.now, runs.now) ≡ true }
-    requires first { AreFirst by_pages runs.now }
-    requires size { IsChunkSize chunk_size }
-    requires some { 0 < length fields.now }
-    ensures keeps { Keeps S.Source source.old source.new }
-    ensures quiet { OnOk result (S.faults source.new ≡ S.faults source.old) }
-    ensures ok { OnOk result (IfSome (S.told source.old) (λ bytes.
-        causes_if_read by_pages chunk_size fields.now bytes (group.now, runs.now) ≡ [])) }
-    ensures fails { IfErr result (
-        IsReadFailure (S.told source.old) (S.faults source.old) (S.faults source.new) (λ bytes.
-        causes_if_read by_pages chunk_size fields.now bytes (group.now, runs.now))) }
+    requires shaped { lies_in_group (rows.group.now, rows.runs.now) ≡ true }
+    requires first { AreFirst asked.by_pages rows.runs.now }
+    requires size { IsChunkSize asked.chunk_size }
+    requires some { 0 < length asked.fields.now }
+    ensures reads { ReadsFile S.Source source.old source.new (λ bytes.
+        causes_if_read asked.entry.by_pages asked.entry.chunk_size asked.entry.fields.now bytes
+        (rows.entry.group.now, rows.entry.runs.now)) result }
     ensures chunks { OnOk result (IfSome (S.told source.old) (λ bytes. shown read.new.chunks.items
-        ≡ shown read.old.chunks.items ++ chunks_if_read by_pages chunk_size fields.now bytes
-        (group.now, runs.now))) }
-    ensures rows { OnOk result (read.new.rows ≡ min (read.old.rows + row_count runs.now) (2 ^ 64 - 1)) }
+        ≡ shown read.old.chunks.items ++ chunks_if_read asked.entry.by_pages asked.entry.chunk_size
+        asked.entry.fields.now bytes (rows.entry.group.now, rows.entry.runs.now))) }
+    ensures rows { OnOk result (read.new.rows
+        ≡ min (read.old.rows + row_count rows.entry.runs.now) (2 ^ 64 - 1)) }
     ensures own_rows { read.old.rows ≡ rows_in read.old.chunks.items →
         OnOk result (read.new.rows ≡ rows_in read.new.chunks.items) }
     ensures even { OnOk result (All AreEqualLengths read.old.chunks.items
@@ -110,15 +102,15 @@ fn read_if_given<S: Source, L: Ledger>(
     ensures pages { OnOk result (read.new.pages
         ≡ min (read.old.pages + (steps.new - steps.old)) (2 ^ 64 - 1)) }
     ensures lent { OnOk result (RisesJustBy (S.told source.old) steps.old steps.new (λ bytes.
-        lent_if_read by_pages fields.now bytes (group.now, runs.now))) }
+        lent_if_read asked.entry.by_pages asked.entry.fields.now bytes
+        (rows.entry.group.now, rows.entry.runs.now))) }
     ensures taken { OnOk result (
         RisesBy (S.told source.old) (S.taken source.old) (S.taken source.new) (λ bytes.
-        taken_if_read by_pages fields.now bytes (group.now, runs.now))) }
+        taken_if_read asked.entry.by_pages asked.entry.fields.now bytes
+        (rows.entry.group.now, rows.entry.runs.now))) }
 {
-    if !runs.is_empty() {
-        return read_group(
-            alloc, source, group, runs, by_pages, chunk_size, fields, read, steps,
-        );
+    if !rows.runs.is_empty() {
+        return read_group(alloc, source, rows, asked, read, steps);
     }
     let (_rows, _pages) = (read.rows, read.pages);
     Ok(())
@@ -128,30 +120,24 @@ fn read_if_given<S: Source, L: Ledger>(
 fn read_group<S: Source, L: Ledger>(
     alloc: Global,
     source: &mut S,
-    group: &RowGroupMetaData,
-    runs: &[Interval],
-    by_pages: bool,
-    chunk_size: Option<usize>,
-    fields: &[Field],
+    rows: GivenRows<'_>,
+    asked: GroupRequest<'_>,
     read: &mut RowsRead,
     steps: &mut Steps<L>,
 ) -> Result<(), Error>
-    requires shaped { is_well_shaped runs.now group.now.num_rows ≡ true }
-    requires some_rows { 0 < length runs.now }
-    requires first { AreFirst by_pages runs.now }
-    requires size { IsChunkSize chunk_size }
-    requires some { 0 < length fields.now }
-    ensures keeps { Keeps S.Source source.old source.new }
-    ensures quiet { OnOk result (S.faults source.new ≡ S.faults source.old) }
-    ensures ok { OnOk result (IfSome (S.told source.old) (λ bytes.
-        causes_of_group by_pages chunk_size fields.now bytes (group.now, rows_of runs.now) ≡ [])) }
-    ensures fails { IfErr result (
-        IsReadFailure (S.told source.old) (S.faults source.old) (S.faults source.new) (λ bytes.
-        causes_of_group by_pages chunk_size fields.now bytes (group.now, rows_of runs.now))) }
+    requires shaped { is_well_shaped rows.runs.now rows.group.now.num_rows ≡ true }
+    requires some_rows { 0 < length rows.runs.now }
+    requires first { AreFirst asked.by_pages rows.runs.now }
+    requires size { IsChunkSize asked.chunk_size }
+    requires some { 0 < length asked.fields.now }
+    ensures reads { ReadsFile S.Source source.old source.new (λ bytes.
+        causes_of_group asked.entry.by_pages asked.entry.chunk_size asked.entry.fields.now bytes
+        (rows.entry.group.now, rows_of rows.entry.runs.now)) result }
     ensures chunks { OnOk result (IfSome (S.told source.old) (λ bytes. shown read.new.chunks.items
-        ≡ shown read.old.chunks.items ++ map (given_chunk by_pages fields.now bytes group.now)
-        (cut chunk_size (rows_of runs.now)))) }
-    ensures rows { OnOk result (read.new.rows ≡ min (read.old.rows + row_count runs.now) (2 ^ 64 - 1)) }
+        ≡ shown read.old.chunks.items ++ map (given_chunk asked.entry.by_pages asked.entry.fields.now bytes
+        rows.entry.group.now) (cut asked.entry.chunk_size (rows_of rows.entry.runs.now)))) }
+    ensures rows { OnOk result (read.new.rows
+        ≡ min (read.old.rows + row_count rows.entry.runs.now) (2 ^ 64 - 1)) }
     ensures own_rows { read.old.rows ≡ rows_in read.old.chunks.items →
         OnOk result (read.new.rows ≡ rows_in read.new.chunks.items) }
     ensures even { OnOk result (All AreEqualLengths read.old.chunks.items
@@ -160,14 +146,14 @@ fn read_group<S: Source, L: Ledger>(
     ensures pages { OnOk result (read.new.pages
         ≡ min (read.old.pages + (steps.new - steps.old)) (2 ^ 64 - 1)) }
     ensures lent { OnOk result (RisesJustBy (S.told source.old) steps.old steps.new (λ bytes.
-        lent_of_group by_pages fields.now bytes (group.now, rows_of runs.now))) }
+        lent_of_group asked.entry.by_pages asked.entry.fields.now bytes
+        (rows.entry.group.now, rows_of rows.entry.runs.now))) }
     ensures taken { OnOk result (
         RisesBy (S.told source.old) (S.taken source.old) (S.taken source.new) (λ bytes.
-        columns_taken by_pages fields.now bytes (group.now, rows_of runs.now))) }
+        columns_taken asked.entry.by_pages asked.entry.fields.now bytes
+        (rows.entry.group.now, rows_of rows.entry.runs.now))) }
 {
-    let (mut columns, pages) = read_columns(
-        alloc, source, group, runs, by_pages, chunk_size, fields, steps,
-    )?;
+    let (mut columns, pages) = read_columns(alloc, source, rows, asked, steps)?;
     read.pages = read.pages.saturating_add(pages);
     add_chunks(alloc, read, &mut columns)
 }
@@ -176,46 +162,40 @@ fn read_group<S: Source, L: Ledger>(
 fn read_columns<S: Source, L: Ledger>(
     alloc: Global,
     source: &mut S,
-    group: &RowGroupMetaData,
-    runs: &[Interval],
-    by_pages: bool,
-    chunk_size: Option<usize>,
-    fields: &[Field],
+    rows: GivenRows<'_>,
+    asked: GroupRequest<'_>,
     steps: &mut Steps<L>,
 ) -> Result<(Vec<VecDeque<Array>>, usize), Error>
-    requires shaped { is_well_shaped runs.now group.now.num_rows ≡ true }
-    requires some_rows { 0 < length runs.now }
-    requires first { AreFirst by_pages runs.now }
-    requires size { IsChunkSize chunk_size }
-    ensures keeps { Keeps S.Source source.old source.new }
-    ensures quiet { OnOk result (S.faults source.new ≡ S.faults source.old) }
-    ensures ok { OnOk result (IfSome (S.told source.old) (λ bytes.
-        causes_of_group by_pages chunk_size fields.now bytes (group.now, rows_of runs.now) ≡ [])) }
-    ensures fails { IfErr result (
-        IsReadFailure (S.told source.old) (S.faults source.old) (S.faults source.new) (λ bytes.
-        causes_of_group by_pages chunk_size fields.now bytes (group.now, rows_of runs.now))) }
-    ensures count { IfOk result (λ found. length found.0.items ≡ length fields.now) }
+    requires shaped { is_well_shaped rows.runs.now rows.group.now.num_rows ≡ true }
+    requires some_rows { 0 < length rows.runs.now }
+    requires first { AreFirst asked.by_pages rows.runs.now }
+    requires size { IsChunkSize asked.chunk_size }
+    ensures reads { ReadsFile S.Source source.old source.new (λ bytes.
+        causes_of_group asked.entry.by_pages asked.entry.chunk_size asked.entry.fields.now bytes
+        (rows.entry.group.now, rows_of rows.entry.runs.now)) result }
+    ensures count { IfOk result (λ found. length found.0.items ≡ length asked.entry.fields.now) }
     ensures counts { IfOk result (λ found.
-        let lengths = map length (cut chunk_size (rows_of runs.now)) in
+        let lengths = map length (cut asked.entry.chunk_size (rows_of rows.entry.runs.now)) in
         All (λ column. map (λ array. length (cells array)) column.items ≡ lengths) found.0.items) }
     ensures columns { IfOk result (λ found. IfSome (S.told source.old) (λ bytes.
-        let pieces = cut chunk_size (rows_of runs.now) in
-        map (λ field. map (λ rows. given_column by_pages bytes group.now rows field) pieces) fields.now
+        let pieces = cut asked.entry.chunk_size (rows_of rows.entry.runs.now) in
+        let column = given_column asked.entry.by_pages bytes rows.entry.group.now in
+        map (λ field. map (λ piece. column piece field) pieces) asked.entry.fields.now
         ≡ map (λ column. map (λ array. Some (column_of array)) column.items) found.0.items)) }
     ensures ticks { steps.old ≤ steps.new }
     ensures pages { IfOk result (λ found. found.1 ≡ min (steps.new - steps.old) (2 ^ 64 - 1)) }
     ensures lent { OnOk result (RisesJustBy (S.told source.old) steps.old steps.new (λ bytes.
-        lent_of_group by_pages fields.now bytes (group.now, rows_of runs.now))) }
+        lent_of_group asked.entry.by_pages asked.entry.fields.now bytes
+        (rows.entry.group.now, rows_of rows.entry.runs.now))) }
     ensures taken { OnOk result (
         RisesBy (S.told source.old) (S.taken source.old) (S.taken source.new) (λ bytes.
-        columns_taken by_pages fields.now bytes (group.now, rows_of runs.now))) }
+        columns_taken asked.entry.by_pages asked.entry.fields.now bytes
+        (rows.entry.group.now, rows_of rows.entry.runs.now))) }
 {
     let mut columns = Vec::new(alloc);
     let mut pages: usize = 0;
-    for field in fields {
-        let (arrays, lent) = read_field(
-            alloc, source, group, runs, by_pages, chunk_size, field, steps,
-        )?;
+    for field in asked.fields {
+        let (arrays, lent) = read_field(alloc, source, rows, asked, field, steps)?;
         pages = pages.saturating_add(lent);
         columns.push(arrays)?;
     }
@@ -226,44 +206,41 @@ fn read_columns<S: Source, L: Ledger>(
 fn read_field<S: Source, L: Ledger>(
     alloc: Global,
     source: &mut S,
-    group: &RowGroupMetaData,
-    runs: &[Interval],
-    by_pages: bool,
-    chunk_size: Option<usize>,
+    rows: GivenRows<'_>,
+    asked: GroupRequest<'_>,
     field: &Field,
     steps: &mut Steps<L>,
 ) -> Result<(VecDeque<Array>, usize), Error>
-    requires shaped { is_well_shaped runs.now group.now.num_rows ≡ true }
-    requires some_rows { 0 < length runs.now }
-    requires first { AreFirst by_pages runs.now }
-    requires size { IsChunkSize chunk_size }
-    ensures keeps { Keeps S.Source source.old source.new }
-    ensures quiet { OnOk result (S.faults source.new ≡ S.faults source.old) }
-    ensures ok { OnOk result (IfSome (S.told source.old) (λ bytes.
-        causes_of_column by_pages chunk_size bytes group.now (rows_of runs.now) field.now ≡ [])) }
-    ensures fails { IfErr result (
-        IsReadFailure (S.told source.old) (S.faults source.old) (S.faults source.new) (λ bytes.
-        causes_of_column by_pages chunk_size bytes group.now (rows_of runs.now) field.now)) }
+    requires shaped { is_well_shaped rows.runs.now rows.group.now.num_rows ≡ true }
+    requires some_rows { 0 < length rows.runs.now }
+    requires first { AreFirst asked.by_pages rows.runs.now }
+    requires size { IsChunkSize asked.chunk_size }
+    ensures reads { ReadsFile S.Source source.old source.new (λ bytes.
+        causes_of_column asked.entry.by_pages asked.entry.chunk_size bytes rows.entry.group.now
+        (rows_of rows.entry.runs.now) field.now) result }
     ensures counts { IfOk result (λ found.
         map (λ array. length (cells array)) found.0.items ≡
-        map length (cut chunk_size (rows_of runs.now))) }
+        map length (cut asked.entry.chunk_size (rows_of rows.entry.runs.now))) }
     ensures columns { IfOk result (λ found. IfSome (S.told source.old) (λ bytes.
-        map (λ rows. given_column by_pages bytes group.now rows field.now)
-        (cut chunk_size (rows_of runs.now))
+        map (λ piece. given_column asked.entry.by_pages bytes rows.entry.group.now piece field.now)
+        (cut asked.entry.chunk_size (rows_of rows.entry.runs.now))
         ≡ map (λ array. Some (column_of array)) found.0.items)) }
     ensures ticks { steps.old ≤ steps.new }
     ensures pages { IfOk result (λ found. found.1 ≡ min (steps.new - steps.old) (2 ^ 64 - 1)) }
     ensures lent { OnOk result (RisesJustBy (S.told source.old) steps.old steps.new (λ bytes.
-        lent_of_column by_pages bytes group.now (rows_of runs.now) field.now)) }
+        lent_of_column asked.entry.by_pages bytes rows.entry.group.now (rows_of rows.entry.runs.now)
+        field.now)) }
     ensures taken { OnOk result (
         RisesBy (S.told source.old) (S.taken source.old) (S.taken source.new) (λ bytes.
-        column_taken by_pages bytes group.now (rows_of runs.now) field.now)) }
+        column_taken asked.entry.by_pages bytes rows.entry.group.now (rows_of rows.entry.runs.now)
+        field.now)) }
 {
-    let Some(column) = column_named(group, &field.name) else {
+    let Some(column) = column_named(rows.group, &field.name) else {
         return Err(Error::ExternalFormat(Part::Group));
     };
-    let data_type = &field.data_type;
-    read_column(
-        alloc, source, group, runs, by_pages, chunk_size, column, data_type, steps,
-    )
+    let typed = TypedColumn {
+        column,
+        data_type: &field.data_type,
+    };
+    read_column(alloc, source, rows, asked, typed, steps)
 }

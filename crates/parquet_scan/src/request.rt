@@ -5,30 +5,57 @@ ghost use Rattle.std.specs.List.{list_all, list_any};
 ghost use Rattle.std.specs.Str.{bytes_eq};
 ghost use Rattle.parquet_scan.specs.declared.bound.Scalar.TheVariants as scalar;
 ghost use Rattle.parquet_scan.specs.Request as spec;
-ghost use Rattle.parquet_scan.specs.Scan.{request_of};
 ghost use Rattle.columns_core.specs.Types as types;
 
 use crate::{Bound, Scalar};
 use column_ends::value_type;
-use columns_core::{DataType, Field, Name, Schema};
+use columns_core::{DataType, Field, Name};
 use parquet_meta::{ColumnDescriptor, FileMetaData};
+use std::marker::Model;
+
+/// What is asked of a file. Contracts see the values that it borrows.
+#[derive(Drop)]
+pub(crate) struct Request<'a> {
+    pub(crate) fields: &'a [Field],
+    pub(crate) bounds: &'a [Bound],
+    pub(crate) chunk_size: Option<usize>,
+    pub(crate) limit: Option<usize>,
+}
+
+impl<'a> Model for Request<'a> {
+    ghost use Rattle.std.specs.Coded.{codes};
+    ghost use Rattle.columns_core.specs.contracts.data_type.DataType.{the_row as data_type_row};
+    ghost use Rattle.parquet_scan.specs.Request as spec;
+
+    ghost Value = { spec.Request };
+
+    ghost coded = { Prim.hlevel (codes, data_type_row.coded) };
+
+    ghost view = { λ request. record {
+      fields = request.fields.now;
+      bounds = request.bounds.now;
+      chunk_size = request.chunk_size;
+      limit = request.limit;
+    } };
+}
+
+/// What is asked of each group: these columns, by the locations of their pages or from the first page on, in chunks of a size.
+#[derive(Clone, Copy)]
+pub(crate) struct GroupRequest<'a> {
+    pub(crate) fields: &'a [Field],
+    pub(crate) by_pages: bool,
+    pub(crate) chunk_size: Option<usize>,
+}
 
 /// Whether the request may be asked of the file.
-pub(crate) fn is_legal(
-    metadata: &FileMetaData,
-    schema: &Schema,
-    bounds: &[Bound],
-    chunk_size: Option<usize>,
-    limit: Option<usize>,
-) -> bool
-    ensures { result ≡
-        spec.is_legal (request_of schema.now bounds.now chunk_size limit) (Some metadata.now) }
+pub(crate) fn is_legal(metadata: &FileMetaData, request: &Request<'_>) -> bool
+    ensures { result ≡ spec.is_legal request.now (Some metadata.now) }
 {
-    let fields = schema.fields.as_slice();
+    let (fields, bounds) = (request.fields, request.bounds);
     !fields.is_empty()
         && name_columns(fields, metadata.columns.as_slice())
         && have_distinct_names(fields)
-        && chunk_size.is_none_or(|size| size > 0)
+        && request.chunk_size.is_none_or(|size| size > 0)
         && are_legal_bounds(bounds, fields)
         && are_on_distinct_fields(bounds)
 }

@@ -1,9 +1,9 @@
 //! Scans.
-ghost use Rattle.std.specs.Prelude.{◌≡◌, ◌+◌, ◌-◌, ◌^◌, ◌≤◌, [], None, Some, min, map, true, IfOk, IfErr, IfSome, OnOk, All};
+ghost use Rattle.std.specs.Prelude.{◌≡◌, ◌+◌, ◌-◌, ◌^◌, ◌≤◌, [], Some, min, map, true, IfOk, IfErr, IfSome, OnOk, All};
 ghost use Rattle.columns_core.specs.Causes.{ComesOf, and_then};
 ghost use Rattle.columns_core.specs.Chunk.{AreEqualLengths};
 ghost use Rattle.parquet_meta.specs.Keeps.{Keeps};
-ghost use Rattle.parquet_meta.specs.Source.{IsReadFailure};
+ghost use Rattle.parquet_meta.specs.Reads.{ReadsFile};
 ghost use Rattle.parquet_scan.specs.Causes.{index_causes, metadata_causes, read_causes};
 ghost use Rattle.parquet_scan.specs.Cells.{columns_of_chunk, given_chunks};
 ghost use Rattle.parquet_scan.specs.Costs.{bytes_behind_footer, most_bytes_taken, most_pages, pages_lent};
@@ -17,7 +17,7 @@ use crate::given::given_runs;
 use crate::groups::{are_pruned, check_fields, counting_groups};
 use crate::kept::kept_groups;
 use crate::reading::read_groups;
-use crate::request::is_legal;
+use crate::request::{GroupRequest, Request, is_legal};
 use columns_core::{Chunk, Error, Part, Schema, Seq};
 use parquet_base::{Interval, Steps};
 use parquet_meta::{FileMetaData, Source, read_metadata};
@@ -76,32 +76,33 @@ pub fn scan_where<S: Source, L: Ledger>(
         IfOk result (λ _. OnFile (S.told source.old) (λ file.
         S.taken source.new ≤ S.taken source.old + most_bytes_taken request file)) }
 {
+    let request = Request {
+        fields: schema.fields.as_slice(),
+        bounds,
+        chunk_size,
+        limit,
+    };
     let metadata = read_metadata(alloc, source)?;
-    if !is_legal(&metadata, schema, bounds, chunk_size, limit) {
+    if !is_legal(&metadata, &request) {
         return Err(Error::InvalidArgumentError(Part::Request));
     }
-    let counts = check_metadata(alloc, &metadata, schema, bounds)?;
-    scan_groups(
-        alloc, source, &metadata, &counts, schema, bounds, chunk_size, limit, steps,
-    )
+    let counts = check_metadata(alloc, &metadata, &request)?;
+    scan_groups(alloc, source, &metadata, &counts, &request, steps)
 }
 
 /// Which groups count. All that the metadata has for a request, of whatever chunk size and limit, is judged before any group is read.
 fn check_metadata(
     alloc: Global,
     metadata: &FileMetaData,
-    schema: &Schema,
-    bounds: &[Bound],
+    request: &Request<'_>,
 ) -> Result<Vec<bool>, Error>
-    ensures counts { let request = request_of schema.now bounds.now None None in
-        IfOk result (λ counts. counts.items ≡ map (group_counts request) metadata.now.row_groups) }
-    ensures ok { let request = request_of schema.now bounds.now None None in
-        OnOk result (metadata_causes request metadata.now ≡ []) }
-    ensures cause { let request = request_of schema.now bounds.now None None in
-        ComesOf result (metadata_causes request metadata.now) }
+    ensures counts { IfOk result (λ counts.
+        counts.items ≡ map (group_counts request.now) metadata.now.row_groups) }
+    ensures ok { OnOk result (metadata_causes request.now metadata.now ≡ []) }
+    ensures cause { ComesOf result (metadata_causes request.now metadata.now) }
 {
     let (columns, groups) = (metadata.columns.as_slice(), metadata.row_groups.as_slice());
-    let fields = schema.fields.as_slice();
+    let (fields, bounds) = (request.fields, request.bounds);
     check_fields(columns, fields)?;
     counting_groups(alloc, groups, fields, bounds)
 }
@@ -112,59 +113,47 @@ fn scan_groups<S: Source, L: Ledger>(
     source: &mut S,
     metadata: &FileMetaData,
     counts: &[bool],
-    schema: &Schema,
-    bounds: &[Bound],
-    chunk_size: Option<usize>,
-    limit: Option<usize>,
+    request: &Request<'_>,
     steps: &mut Steps<L>,
 ) -> Result<Scan, Error>
-    requires counts { let request = request_of schema.now bounds.now chunk_size limit in
-        counts.now ≡ map (group_counts request) metadata.now.row_groups }
-    requires legal { let request = request_of schema.now bounds.now chunk_size limit in
-        spec.is_legal request (Some metadata.now) ≡ true }
-    ensures keeps { Keeps S.Source source.old source.new }
-    ensures quiet { OnOk result (S.faults source.new ≡ S.faults source.old) }
-    ensures ok { let request = request_of schema.now bounds.now chunk_size limit in
-        OnOk result (IfSome (S.told source.old) (λ bytes. let file = file_with bytes metadata.now in
-        and_then (index_causes request file) (read_causes request file) ≡ [])) }
-    ensures fails { let request = request_of schema.now bounds.now chunk_size limit in
-        IfErr result (IsReadFailure (S.told source.old) (S.faults source.old) (S.faults source.new) (λ bytes.
+    requires counts { counts.now ≡ map (group_counts request.now) metadata.now.row_groups }
+    requires legal { spec.is_legal request.now (Some metadata.now) ≡ true }
+    ensures reads { ReadsFile S.Source source.old source.new (λ bytes.
         let file = file_with bytes metadata.now in
-        and_then (index_causes request file) (read_causes request file))) }
-    ensures kept { let request = request_of schema.now bounds.now chunk_size limit in
-        IfOk result (λ scan. IfSome (S.told source.old) (λ bytes.
-        map kept_of scan.kept ≡ kept_groups_by request (file_with bytes metadata.now))) }
-    ensures chunks { let request = request_of schema.now bounds.now chunk_size limit in
-        IfOk result (λ scan. IfSome (S.told source.old) (λ bytes.
-        given_chunks request (file_with bytes metadata.now) ≡ Some (map columns_of_chunk scan.chunks))) }
-    ensures rows { let request = request_of schema.now bounds.now chunk_size limit in
-        IfOk result (λ scan. IfSome (S.told source.old) (λ bytes.
-        scan.rows ≡ min (given_row_count request (file_with bytes metadata.now)) (2 ^ 64 - 1))) }
+        and_then (index_causes request.now file) (read_causes request.now file)) result }
+    ensures kept { IfOk result (λ scan. IfSome (S.told source.old) (λ bytes.
+        map kept_of scan.kept ≡ kept_groups_by request.now (file_with bytes metadata.now))) }
+    ensures chunks { IfOk result (λ scan. IfSome (S.told source.old) (λ bytes.
+        given_chunks request.now (file_with bytes metadata.now)
+        ≡ Some (map columns_of_chunk scan.chunks))) }
+    ensures rows { IfOk result (λ scan. IfSome (S.told source.old) (λ bytes.
+        scan.rows ≡ min (given_row_count request.now (file_with bytes metadata.now)) (2 ^ 64 - 1))) }
     ensures apart { IfOk result (λ scan. All IsApart scan.kept) }
     ensures even { IfOk result (λ scan. All AreEqualLengths scan.chunks) }
     ensures own_rows { IfOk result (λ scan. scan.rows ≡ rows_in scan.chunks) }
     ensures ticks { steps.old ≤ steps.new }
     ensures pages { IfOk result (λ scan. scan.pages ≡ min (steps.new - steps.old) (2 ^ 64 - 1)) }
-    ensures lent { let request = request_of schema.now bounds.now chunk_size limit in
-        OnOk result (RisesJustBy (S.told source.old) steps.old steps.new (λ bytes.
-        pages_lent request (file_with bytes metadata.now))) }
-    ensures taken { let request = request_of schema.now bounds.now chunk_size limit in
-        OnOk result (RisesBy (S.told source.old) (S.taken source.old) (S.taken source.new) (λ bytes.
-        bytes_behind_footer request (file_with bytes metadata.now))) }
+    ensures lent { OnOk result (RisesJustBy (S.told source.old) steps.old steps.new (λ bytes.
+        pages_lent request.now (file_with bytes metadata.now))) }
+    ensures taken { OnOk result (
+        RisesBy (S.told source.old) (S.taken source.old) (S.taken source.new) (λ bytes.
+        bytes_behind_footer request.now (file_with bytes metadata.now))) }
 {
     let groups = metadata.row_groups.as_slice();
-    let fields = schema.fields.as_slice();
-    let by_pages = are_pruned(groups, counts, fields, bounds);
-    let kept = kept_groups(alloc, source, groups, counts, by_pages, fields, bounds)?;
-    let given = given_runs(alloc, &kept, limit)?;
+    let by_pages = are_pruned(groups, counts, request.fields, request.bounds);
+    let kept = kept_groups(alloc, source, groups, counts, by_pages, request)?;
+    let given = given_runs(alloc, &kept, request.limit)?;
     let mut read = RowsRead {
         chunks: Vec::new(alloc),
         rows: 0,
         pages: 0,
     };
-    read_groups(
-        alloc, source, groups, &given, by_pages, chunk_size, fields, &mut read, steps,
-    )?;
+    let asked = GroupRequest {
+        fields: request.fields,
+        by_pages,
+        chunk_size: request.chunk_size,
+    };
+    read_groups(alloc, source, groups, &given, asked, &mut read, steps)?;
     Ok(Scan {
         rows: read.rows,
         kept: Seq::new(kept),

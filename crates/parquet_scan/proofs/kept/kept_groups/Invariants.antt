@@ -13,10 +13,10 @@ invariant-loop-i g l =
       keeps : Keeps source l.fn.source l.source;
       quiet : source.faults l.source ≡ source.faults l.fn.source;
       none : IfSome (source.told l.fn.source) (λ bytes.
-          index_causes_of_groups l.by_pages l.fields l.bounds bytes l.groups l.counts ≡ index_causes_of_groups l.by_pages l.fields l.bounds bytes (drop l.i l.groups) (drop l.i l.counts));
+          index_causes_of_groups l.by_pages l.request.fields l.request.bounds bytes l.groups l.counts ≡ index_causes_of_groups l.by_pages l.request.fields l.request.bounds bytes (drop l.i l.groups) (drop l.i l.counts));
       kept : IfSome (source.told l.fn.source) (λ bytes.
-          kept_of_groups l.by_pages l.fields l.bounds bytes l.groups l.counts ≡ l.kept.items ++ kept_of_groups l.by_pages l.fields l.bounds bytes (drop l.i l.groups) (drop l.i l.counts));
-      taken : source.taken l.source + indexes_taken_of_groups l.by_pages l.fields l.bounds (drop l.i l.groups) (drop l.i l.counts) ≤ source.taken l.fn.source + indexes_taken_of_groups l.by_pages l.fields l.bounds l.groups l.counts;
+          kept_of_groups l.by_pages l.request.fields l.request.bounds bytes l.groups l.counts ≡ l.kept.items ++ kept_of_groups l.by_pages l.request.fields l.request.bounds bytes (drop l.i l.groups) (drop l.i l.counts));
+      taken : source.taken l.source + indexes_taken_of_groups l.by_pages l.request.fields l.request.bounds (drop l.i l.groups) (drop l.i l.counts) ≤ source.taken l.fn.source + indexes_taken_of_groups l.by_pages l.request.fields l.request.bounds l.groups l.counts;
       rows : map (λ group. group.num_rows) l.groups ≡ map (λ group. group.rows) l.kept.items ++ map (λ group. group.num_rows) (drop l.i l.groups);
       apart : All IsApart l.kept.items;
       first : All (λ group. AreFirst l.by_pages group.intervals) l.kept.items;

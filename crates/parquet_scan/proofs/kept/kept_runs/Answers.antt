@@ -6,6 +6,7 @@ use Rattle.parquet_base.proofs.SegmentLemmas.{runs_apart}
 use Rattle.parquet_base.specs.declared.interval.Interval.{Interval}
 use Rattle.parquet_meta.specs.declared.metadata.RowGroupMetaData.{RowGroupMetaData}
 use Rattle.parquet_scan.specs.declared.bound.Bound.{Bound}
+use Rattle.parquet_scan.specs.Request.{Request}
 use Rattle.parquet_scan.specs.Rows.{pages_keep}
 use Rattle.parquet_scan.proofs.KeptLemmas.{none_first, pages_first, whole_first}
 use Rattle.parquet_scan.proofs.PageLemmas.{if_ok}
@@ -25,19 +26,19 @@ all_kept (Some bytes) fields bounds group by_pages counts runs e counting whole 
     e ∙ (λ i. maximal_runs (λ row. sym counting i && pages_keep (sym whole i) fields bounds bytes group row) group.num_rows)
 
 pub returns-then-not-counts-clause-kept : goal.returns-then-not-counts-clause-kept
-returns-then-not-counts-clause-kept g c = none_kept (g.S.Source.told c.args.source.now) c.args.by_pages c.args.fields.now c.args.bounds.now c.args.group.now c.args.counts c.new.result.items c.new.ensures.items c.if-not-counts.true
+returns-then-not-counts-clause-kept g c = none_kept (g.S.Source.told c.args.source.now) c.args.by_pages c.args.request.now.fields c.args.request.now.bounds c.args.group.now c.args.counts c.new.result.items c.new.ensures.items c.if-not-counts.true
 
 pub returns-then-by_pages-clause-kept : goal.returns-then-by_pages-clause-kept
 returns-then-by_pages-clause-kept g c =
     let told = g.S.Source.told c.args.source.now in
     let group = c.args.group.now in
-    let Kept : Bool → Bool → Type 0 = λ counts by_pages.
-    IfOk c.kept_by_pages.result (λ runs. IfSome told (λ bytes. runs.items ≡ maximal_runs (λ row. counts && pages_keep by_pages c.args.fields.now c.args.bounds.now bytes group row) group.num_rows)) in
-    subst (λ counts. Kept counts c.args.by_pages) (sym c.if-not-counts.false) (subst (Kept true) (sym c.if-by_pages.true) c.kept_by_pages.ensures.kept)
+    let Kept : Request → Bool → Bool → Type 0 = λ request counts by_pages.
+    IfOk c.kept_by_pages.result (λ runs. IfSome told (λ bytes. runs.items ≡ maximal_runs (λ row. counts && pages_keep by_pages request.fields request.bounds bytes group row) group.num_rows)) in
+    subst (λ counts. Kept c.args.request.now counts c.args.by_pages) (sym c.if-not-counts.false) (subst (Kept c.args.request.now true) (sym c.if-by_pages.true) (subst (λ request. Kept request true true) c.request.view_is c.kept_by_pages.ensures.kept))
 
 pub returns-clause-kept : goal.returns-clause-kept
 returns-clause-kept g c =
-    all_kept (g.S.Source.told c.args.source.now) c.args.fields.now c.args.bounds.now c.args.group.now c.args.by_pages c.args.counts c.in_ok-runs_of_all.field-0.items c.in_ok-runs_of_all.ensures c.if-not-counts.false c.if-by_pages.false
+    all_kept (g.S.Source.told c.args.source.now) c.args.request.now.fields c.args.request.now.bounds c.args.group.now c.args.by_pages c.args.counts c.in_ok-runs_of_all.field-0.items c.in_ok-runs_of_all.ensures c.if-not-counts.false c.if-by_pages.false
 
 pub returns-then-not-counts-clause-first : goal.returns-then-not-counts-clause-first
 returns-then-not-counts-clause-first g c = none_first c.args.by_pages c.new.result.items c.new.ensures.items

@@ -9,12 +9,12 @@ use Rattle.parquet_scan.proofs.located.count_of_rows.Goals as goal
 
 pub sum-requires-clause-fits : goal.sum-requires-clause-fits
 sum-requires-clause-fits c =
-    let few : row_count c.args.intervals.now < 2 ^ 64 = omega (arith, shape-count 0 c.args.intervals.now c.args.group.now.num_rows c.requires) in
+    let few : row_count c.args.rows.runs.now < 2 ^ 64 = omega (arith, shape-count 0 c.args.rows.runs.now c.args.rows.group.now.num_rows c.requires) in
     fits_by_from_yields_list _ _ c.map.result _
-    (YieldsList-from_map _ (λ (run : Interval). run.length) (YieldsList-at c.map.ensures.source (YieldsList-from_slice c.args.intervals.now cc)) c.map.ensures.closure (λ x r q k. search (rules, tests))) few
+    (YieldsList-from_map _ (λ (run : Interval). run.length) (YieldsList-at c.map.ensures.source (YieldsList-from_slice c.args.rows.runs.now cc)) c.map.ensures.closure (λ x r q k. search (rules, tests))) few
 
 pub returns : goal.returns
 returns c =
     sum_by_from_yields_List _ _ c.map.result _ c.sum.ensures.ran
-    (YieldsList-from_map _ (λ (run : Interval). run.length) (YieldsList-at c.map.ensures.source (YieldsList-from_slice c.args.intervals.now cc)) c.map.ensures.closure (λ x r q k. search (rules, tests)))
-    ∙ sym (rows_of-length c.args.intervals.now)
+    (YieldsList-from_map _ (λ (run : Interval). run.length) (YieldsList-at c.map.ensures.source (YieldsList-from_slice c.args.rows.runs.now cc)) c.map.ensures.closure (λ x r q k. search (rules, tests)))
+    ∙ sym (rows_of-length c.args.rows.runs.now)

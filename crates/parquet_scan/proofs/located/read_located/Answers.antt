@@ -1,5 +1,5 @@
 use Rattle.std.proofs.Common.{◌≡◌, ◌∙◌, ◌+◌, ◌-◌, ◌<◌, ◌≤◌, Bool, List, [], ◌∷◌, ℕ, suc, not, Some, true, false, length, map, take, ap, sym, subst, arith, refl, Vec, Global}
-use Rattle.std.specs.Prelude.{◌==◌, vec_len, Option, IfErr, IfSome, filter, flat_map, sum_by, zip, if◌then◌else◌, IfOk, OnOk}
+use Rattle.std.specs.Prelude.{◌==◌, vec_len, Err, Option, IfErr, IfSome, filter, flat_map, sum_by, zip, if◌then◌else◌, IfOk, OnOk}
 use Rattle.std.proofs.lemmas.Bool.{eqb-true, true≢false}
 use Rattle.std.proofs.lemmas.List.{length-map}
 use Rattle.std.proofs.lemmas.List.Elements.{All-map}
@@ -19,7 +19,7 @@ use Rattle.parquet_meta.specs.declared.metadata.ColumnChunkMetaData.{ColumnChunk
 use Rattle.parquet_meta.specs.declared.metadata.PageLocation.{PageLocation}
 use Rattle.parquet_meta.specs.declared.metadata.Place.{Place}
 use Rattle.parquet_meta.specs.declared.metadata.RowGroupMetaData.{RowGroupMetaData}
-use Rattle.parquet_meta.specs.Source.{IsReadFailure}
+use Rattle.parquet_meta.specs.Reads.{ReadsFile}
 use Rattle.parquet_page.specs.Lent.{first_start, is_wanted, located_parts}
 use Rattle.parquet_page.specs.Locations.{selected_pages}
 use Rattle.parquet_page.specs.declared.page.FilteredPage.{FilteredPage}
@@ -34,7 +34,8 @@ use Rattle.parquet_scan.specs.Cells.{Reading, chunk_of, located_item}
 use Rattle.parquet_scan.specs.Costs.{lent_of_chunk, with_dictionary_page}
 use Rattle.parquet_scan.specs.Decoded.{column_rows, pages_for}
 use Rattle.parquet_scan.specs.Located.{entry_causes, entry_part, part_in, place_before}
-use Rattle.parquet_scan.specs.Pages.{locations, locations_causes}
+use Rattle.parquet_scan.specs.Pages.{locations}
+use Rattle.parquet_scan.proofs.CallLemmas.{keeps_on, refused, refuses}
 use Rattle.parquet_scan.proofs.CostLemmas.{just_told, lent_located, taken_located}
 use Rattle.parquet_scan.proofs.LocationLemmas.{selection_fails}
 use Rattle.parquet_scan.proofs.OpenedLemmas.{IsRead, IsSelected, before_causes, before_in, bodies_in, entries_shaped, locations_in, opened_by, read_count, read_fine, read_in, read_items, read_lent, read_tells, reading_of, told_causes, told_parts, within_opened}
@@ -85,58 +86,52 @@ was_read size told at_chunk at_locations at_bodies group column data_type interv
       parts = parts;
     }
 
-pub returns-in_err-chunk-clause-fails : goal.returns-in_err-chunk-clause-fails
-returns-in_err-chunk-clause-fails g c =
+pub returns-in_err-chunk-clause-reads : goal.returns-in_err-chunk-clause-reads
+returns-in_err-chunk-clause-reads g c =
     let p = err_from_is_err_and c.from_residual.result c.from_residual.ensures.1 in
     let told = g.S.Source.told c.args.source.now in
+    let group = c.args.rows.group.now in
+    let column = c.args.typed.column.now in
+    let data_type = c.args.typed.data_type.now in
+    let intervals = c.args.rows.runs.now in
     let start = g.S.Source.faults c.args.source.now in
-    let group = c.args.group.now in
-    let column = c.args.column.now in
-    let data_type = c.args.data_type.now in
-    let intervals = c.args.intervals.now in
     let whole : List ℕ → List Cause = λ bytes. causes_of_chunk true c.args.chunk_size bytes group (rows_of intervals) data_type column in
-    rw (p.1, p.2) (fails_more told start start (g.S.Source.faults c.place_of_chunk.new.source) (λ bytes. chunk_read_causes bytes group column) whole c.in_err-chunk.field-0.0 (omega arith)
-    (read_in told c.args.chunk_size group column data_type (rows_of intervals)) c.in_err-chunk.ensures.fails)
+    rw (p.1, p.2) (refused c.in_err-chunk.ensures.keeps (fails_more told start start (g.S.Source.faults c.place_of_chunk.new.source) (λ bytes. chunk_read_causes bytes group column) whole c.in_err-chunk.field-0.0 (omega arith)
+    (read_in told c.args.chunk_size group column data_type (rows_of intervals)) c.in_err-chunk.ensures.fails))
 
-pub returns-in_err-locations-clause-fails : goal.returns-in_err-locations-clause-fails
-returns-in_err-locations-clause-fails g c =
+pub returns-in_err-locations-clause-reads : goal.returns-in_err-locations-clause-reads
+returns-in_err-locations-clause-reads g c =
     let p = err_from_is_err_and c.from_residual-in_err-locations.result c.from_residual-in_err-locations.ensures.1 in
     let told = g.S.Source.told c.args.source.now in
-    let start = g.S.Source.faults c.args.source.now in
-    let group = c.args.group.now in
-    let column = c.args.column.now in
-    let data_type = c.args.data_type.now in
-    let intervals = c.args.intervals.now in
-    let whole : List ℕ → List Cause = λ bytes. causes_of_chunk true c.args.chunk_size bytes group (rows_of intervals) data_type column in
-    let mid = g.S.Source.faults c.place_of_chunk.new.source in
-    let now = g.S.Source.faults c.read_locations.new.source in
-    let fails = subst (λ (told : Option (List ℕ)). IsReadFailure told mid now (λ bytes. locations_causes bytes group column) c.in_err-locations.field-0.0) c.in_ok-chunk.ensures.keeps.same c.in_err-locations.ensures.fails in
-    rw (p.1, p.2) (fails_more told start mid now (λ bytes. locations_causes bytes group column) whole c.in_err-locations.field-0.0 c.in_ok-chunk.ensures.keeps.later
-    (locations_in told c.args.chunk_size group column data_type (rows_of intervals) c.in_ok-chunk.chunk c.in_ok-chunk.ensures.readable c.in_ok-chunk.ensures.place) fails)
+    let group = c.args.rows.group.now in
+    let column = c.args.typed.column.now in
+    let data_type = c.args.typed.data_type.now in
+    let intervals = c.args.rows.runs.now in
+    rw (p.1, p.2) (refuses c.in_ok-chunk.ensures.keeps c.in_err-locations.ensures.reads
+    (locations_in told c.args.chunk_size group column data_type (rows_of intervals) c.in_ok-chunk.chunk c.in_ok-chunk.ensures.readable c.in_ok-chunk.ensures.place))
 
-pub returns-in_err-pages-clause-fails : goal.returns-in_err-pages-clause-fails
-returns-in_err-pages-clause-fails g c =
+pub returns-in_err-pages-clause-reads : goal.returns-in_err-pages-clause-reads
+returns-in_err-pages-clause-reads g c =
     let p = err_from_is_err_and c.from_residual-in_err-pages.result c.from_residual-in_err-pages.ensures.1 in
     let told = g.S.Source.told c.args.source.now in
+    let group = c.args.rows.group.now in
+    let column = c.args.typed.column.now in
+    let data_type = c.args.typed.data_type.now in
+    let intervals = c.args.rows.runs.now in
     let start = g.S.Source.faults c.args.source.now in
-    let group = c.args.group.now in
-    let column = c.args.column.now in
-    let data_type = c.args.data_type.now in
-    let intervals = c.args.intervals.now in
     let whole : List ℕ → List Cause = λ bytes. causes_of_chunk true c.args.chunk_size bytes group (rows_of intervals) data_type column in
-    let refuses = subst (λ found. Refuses (is_well_shaped intervals group.num_rows) (selected_pages intervals found group.num_rows) c.in_err-pages.field-0.0) c.deref.ensures.value c.in_err-pages.ensures.refusal in
-    rw (p.1, p.2) (fails_by_memory told start (g.S.Source.faults c.read_locations.new.source) whole c.in_err-pages.field-0.0
-    (selection_fails intervals c.in_ok-locations.locations.items group.num_rows c.in_err-pages.field-0.0 c.in_ok-locations.ensures.shaped c.requires.shaped refuses))
+    let refusal = subst (λ found. Refuses (is_well_shaped intervals group.num_rows) (selected_pages intervals found group.num_rows) c.in_err-pages.field-0.0) c.deref.ensures.value c.in_err-pages.ensures.refusal in
+    rw (p.1, p.2) (refused (keeps_on c.in_ok-chunk.ensures.keeps c.in_ok-locations.ensures.reads.keeps) (fails_by_memory told start (g.S.Source.faults c.read_locations.new.source) whole c.in_err-pages.field-0.0
+    (selection_fails intervals c.in_ok-locations.locations.items group.num_rows c.in_err-pages.field-0.0 c.in_ok-locations.ensures.shaped c.requires.shaped refusal)))
 
-pub returns-in_err-bodies-clause-fails : goal.returns-in_err-bodies-clause-fails
-returns-in_err-bodies-clause-fails g c =
+pub returns-in_err-bodies-clause-reads : goal.returns-in_err-bodies-clause-reads
+returns-in_err-bodies-clause-reads g c =
     let p = err_from_is_err_and c.from_residual-in_err-bodies.result c.from_residual-in_err-bodies.ensures.1 in
     let told = g.S.Source.told c.args.source.now in
-    let start = g.S.Source.faults c.args.source.now in
-    let group = c.args.group.now in
-    let column = c.args.column.now in
-    let data_type = c.args.data_type.now in
-    let intervals = c.args.intervals.now in
+    let group = c.args.rows.group.now in
+    let column = c.args.typed.column.now in
+    let data_type = c.args.typed.data_type.now in
+    let intervals = c.args.rows.runs.now in
     let whole : List ℕ → List Cause = λ bytes. causes_of_chunk true c.args.chunk_size bytes group (rows_of intervals) data_type column in
     let chunk = c.in_ok-chunk.chunk in
     let at = subst (λ (told : Option (List ℕ)). IfSome told (λ bytes. locations bytes column ≡ c.in_ok-locations.locations.items)) c.in_ok-chunk.ensures.keeps.same c.in_ok-locations.ensures.locations in
@@ -146,23 +141,19 @@ returns-in_err-bodies-clause-fails g c =
     let opened = told_causes group column data_type intervals chunk list entries selected c.args.chunk_size told c.in_ok-chunk.ensures.readable c.in_ok-chunk.ensures.place at in
     let reading : List ℕ → Reading = λ bytes. reading_of bytes column.descriptor.primitive_type data_type chunk entries in
     let items : List ℕ → List Cause = λ bytes. given_causes c.args.chunk_size data_type (located_item bytes group data_type column) (rows_of intervals) in
-    let mid = g.S.Source.faults c.read_locations.new.source in
-    let now = g.S.Source.faults c.read_bodies.new.source in
     let part : List FilteredPage → List ℕ → List Cause = λ entries bytes. flat_map (entry_causes bytes chunk) (filter is_wanted entries) in
-    let fails = subst (λ (told : Option (List ℕ)). IsReadFailure told mid now (part entries) c.in_err-bodies.field-0.0) (c.in_ok-locations.ensures.keeps.same ∙ c.in_ok-chunk.ensures.keeps.same)
-    (subst (λ entries. IsReadFailure (g.S.Source.told c.read_locations.new.source) mid now (part entries) c.in_err-bodies.field-0.0) c.deref-2.ensures.value c.in_err-bodies.ensures.fails) in
-    rw (p.1, p.2) (fails_more told start mid now (part entries) whole c.in_err-bodies.field-0.0 (omega (arith, c.in_ok-chunk.ensures.keeps.later, c.in_ok-locations.ensures.keeps.later))
-    (within_opened told whole (λ bytes. opened_by bytes (reading bytes) chunk entries) items (part entries) opened (λ bytes. bodies_in bytes (reading bytes) chunk entries)) fails)
+    let reads = subst (λ entries. ReadsFile g.S.Source c.read_locations.new.source c.read_bodies.new.source (part entries) (Err c.in_err-bodies.field-0.0)) c.deref-2.ensures.value c.in_err-bodies.ensures.reads in
+    rw (p.1, p.2) (refuses (keeps_on c.in_ok-chunk.ensures.keeps c.in_ok-locations.ensures.reads.keeps) reads
+    (within_opened told whole (λ bytes. opened_by bytes (reading bytes) chunk entries) items (part entries) opened (λ bytes. bodies_in bytes (reading bytes) chunk entries)))
 
-pub returns-in_err-before-clause-fails : goal.returns-in_err-before-clause-fails
-returns-in_err-before-clause-fails g c =
+pub returns-in_err-before-clause-reads : goal.returns-in_err-before-clause-reads
+returns-in_err-before-clause-reads g c =
     let p = err_from_is_err_and c.from_residual-in_err-before.result c.from_residual-in_err-before.ensures.1 in
     let told = g.S.Source.told c.args.source.now in
-    let start = g.S.Source.faults c.args.source.now in
-    let group = c.args.group.now in
-    let column = c.args.column.now in
-    let data_type = c.args.data_type.now in
-    let intervals = c.args.intervals.now in
+    let group = c.args.rows.group.now in
+    let column = c.args.typed.column.now in
+    let data_type = c.args.typed.data_type.now in
+    let intervals = c.args.rows.runs.now in
     let whole : List ℕ → List Cause = λ bytes. causes_of_chunk true c.args.chunk_size bytes group (rows_of intervals) data_type column in
     let chunk = c.in_ok-chunk.chunk in
     let at = subst (λ (told : Option (List ℕ)). IfSome told (λ bytes. locations bytes column ≡ c.in_ok-locations.locations.items)) c.in_ok-chunk.ensures.keeps.same c.in_ok-locations.ensures.locations in
@@ -176,31 +167,28 @@ returns-in_err-before-clause-fails g c =
     let wanted_is : not c.is_empty.result ≡ not (length c.in_ok-bodies.bodies.items == 0) = ap not (c.is_empty.ensures ∙ ap (λ n. n == 0) long) in
     let reading : List ℕ → Reading = λ bytes. reading_of bytes column.descriptor.primitive_type data_type chunk entries in
     let items : List ℕ → List Cause = λ bytes. given_causes c.args.chunk_size data_type (located_item bytes group data_type column) (rows_of intervals) in
-    let mid = g.S.Source.faults c.read_bodies.new.source in
-    let now = g.S.Source.faults c.read_before.new.source in
     let part : List FilteredPage → List ℕ → List Cause = λ entries bytes. before_causes bytes chunk entries wanted in
-    let fails = subst (λ (told : Option (List ℕ)). IsReadFailure told mid now (part entries) c.in_err-before.field-0.0) (c.in_ok-bodies.ensures.keeps.same ∙ c.in_ok-locations.ensures.keeps.same ∙ c.in_ok-chunk.ensures.keeps.same)
-    (subst (λ entries. IsReadFailure (g.S.Source.told c.read_bodies.new.source) mid now (part entries) c.in_err-before.field-0.0) c.deref-3.ensures.value c.in_err-before.ensures.fails) in
-    rw (p.1, p.2) (fails_more told start mid now (part entries) whole c.in_err-before.field-0.0 (omega (arith, c.in_ok-chunk.ensures.keeps.later, c.in_ok-locations.ensures.keeps.later, c.in_ok-bodies.ensures.keeps.later))
+    let reads = subst (λ entries. ReadsFile g.S.Source c.read_bodies.new.source c.read_before.new.source (part entries) (Err c.in_err-before.field-0.0)) c.deref-3.ensures.value c.in_err-before.ensures.reads in
+    rw (p.1, p.2) (refuses (keeps_on (keeps_on c.in_ok-chunk.ensures.keeps c.in_ok-locations.ensures.reads.keeps) c.in_ok-bodies.ensures.reads.keeps) reads
     (within_opened told whole (λ bytes. opened_by bytes (reading bytes) chunk entries) items (part entries) opened
-    (λ bytes o. before_in bytes column.descriptor.primitive_type data_type chunk entries wanted o (wanted_some wanted c.in_ok-bodies.bodies.items entries wanted_is count))) fails)
+    (λ bytes o. before_in bytes column.descriptor.primitive_type data_type chunk entries wanted o (wanted_some wanted c.in_ok-bodies.bodies.items entries wanted_is count))))
 
 pub decode_located-requires-clause-shaped : goal.decode_located-requires-clause-shaped
 decode_located-requires-clause-shaped g c =
-    let group = c.args.group.now in
-    let intervals = c.args.intervals.now in
+    let group = c.args.rows.group.now in
+    let intervals = c.args.rows.runs.now in
     let list = c.in_ok-locations.locations.items in
     let entries = c.in_ok-pages.pages.items in
     let selected : IsSelected group intervals list entries = record { shape = c.in_ok-locations.ensures.shaped; are = ap (λ found. selected_pages intervals found group.num_rows) (sym c.deref.ensures.value) ∙ c.in_ok-pages.ensures.pages } in
     entries_shaped group intervals list entries selected c.requires.shaped (omega arith)
 
-pub returns-clause-ok : goal.returns-clause-ok
-returns-clause-ok g c =
+pub returns-clause-reads : goal.returns-clause-reads
+returns-clause-reads g c =
     let told = g.S.Source.told c.args.source.now in
-    let group = c.args.group.now in
-    let column = c.args.column.now in
-    let data_type = c.args.data_type.now in
-    let intervals = c.args.intervals.now in
+    let group = c.args.rows.group.now in
+    let column = c.args.typed.column.now in
+    let data_type = c.args.typed.data_type.now in
+    let intervals = c.args.rows.runs.now in
     let entries = c.in_ok-pages.pages.items in
     let bodies = c.in_ok-bodies.bodies.items in
     let selected : IsSelected group intervals c.in_ok-locations.locations.items entries
@@ -210,33 +198,7 @@ returns-clause-ok g c =
     let first : not c.is_empty.result ≡ true → IfSome (g.S.Source.told c.read_bodies.new.source) (λ bytes. part_in bytes c.in_ok-chunk.chunk (place_before c.in_ok-chunk.chunk entries) ≡ Some c.in_ok-before.before.items) = λ some.
     subst (λ pages. IfSome (g.S.Source.told c.read_bodies.new.source) (λ bytes. part_in bytes c.in_ok-chunk.chunk (place_before c.in_ok-chunk.chunk pages) ≡ Some c.in_ok-before.before.items)) c.deref-3.ensures.value (c.in_ok-before.ensures.part some) in
     let read = was_read c.args.chunk_size told (g.S.Source.told c.place_of_chunk.new.source) (g.S.Source.told c.read_locations.new.source) (g.S.Source.told c.read_bodies.new.source) group column data_type intervals c.in_ok-chunk.chunk
-    c.in_ok-locations.locations.items entries c.in_ok-before.before.items bodies (not c.is_empty.result) c.in_ok-chunk.ensures.keeps.same c.in_ok-locations.ensures.keeps.same c.in_ok-bodies.ensures.keeps.same c.requires.size c.requires.pair c.requires.shaped
-    c.in_ok-chunk.ensures.readable selected (ap not (c.is_empty.ensures ∙ ap (λ n. n == 0) long)) (c.in_ok-bodies.ensures.length ∙ ap (λ pages. length (filter is_wanted pages)) c.deref-2.ensures.value)
-    c.in_ok-chunk.ensures.place c.in_ok-locations.ensures.locations each first in
-    let lent = located_parts column.descriptor.primitive_type (Some c.in_ok-before.before.items) entries (map body_items bodies) in
-    let chunks = subst (λ n. IfOk c.decode_located.result (λ found. map (λ array. map Given (cells array)) found.0.items ≡ cut c.args.chunk_size (take n (column_rows column.descriptor.primitive_type data_type lent.pages lent.causes)))) c.count_of_rows-rows.ensures c.decode_located.ensures.chunks in
-    let P : List Cell → Type 0 = λ cells. fits_most (most_bytes data_type) (sum_by cell_bytes cells) ≡ true in
-    ok_if c.decode_located.result (λ found none. none)
-    (both_if {R = λ found. IfSome told (λ bytes. causes_of_chunk true c.args.chunk_size bytes group (rows_of intervals) data_type column ≡ [])} c.decode_located.result
-    (λ found e fit. read_fine c.args.chunk_size group column data_type intervals c.in_ok-chunk.chunk c.in_ok-locations.locations.items entries c.in_ok-before.before.items (map body_items bodies) told read (map cells found.0.items) (map-map (map Given) cells found.0.items ∙ e) (All-map P cells found.0.items fit)) chunks c.decode_located.ensures.fits)
-
-pub returns-clause-fails : goal.returns-clause-fails
-returns-clause-fails g c =
-    let told = g.S.Source.told c.args.source.now in
-    let group = c.args.group.now in
-    let column = c.args.column.now in
-    let data_type = c.args.data_type.now in
-    let intervals = c.args.intervals.now in
-    let entries = c.in_ok-pages.pages.items in
-    let bodies = c.in_ok-bodies.bodies.items in
-    let selected : IsSelected group intervals c.in_ok-locations.locations.items entries
-    = record { shape = c.in_ok-locations.ensures.shaped; are = ap (λ found. selected_pages intervals found group.num_rows) (sym c.deref.ensures.value) ∙ c.in_ok-pages.ensures.pages } in
-    let long : vec_len c.in_ok-bodies.bodies ≡ length bodies = omega arith in
-    let each = subst (λ pages. IfSome (g.S.Source.told c.read_locations.new.source) (λ bytes. map (entry_part bytes c.in_ok-chunk.chunk) (filter is_wanted pages) ≡ map (λ body. Some body.items) bodies)) c.deref-2.ensures.value c.in_ok-bodies.ensures.bodies in
-    let first : not c.is_empty.result ≡ true → IfSome (g.S.Source.told c.read_bodies.new.source) (λ bytes. part_in bytes c.in_ok-chunk.chunk (place_before c.in_ok-chunk.chunk entries) ≡ Some c.in_ok-before.before.items) = λ some.
-    subst (λ pages. IfSome (g.S.Source.told c.read_bodies.new.source) (λ bytes. part_in bytes c.in_ok-chunk.chunk (place_before c.in_ok-chunk.chunk pages) ≡ Some c.in_ok-before.before.items)) c.deref-3.ensures.value (c.in_ok-before.ensures.part some) in
-    let read = was_read c.args.chunk_size told (g.S.Source.told c.place_of_chunk.new.source) (g.S.Source.told c.read_locations.new.source) (g.S.Source.told c.read_bodies.new.source) group column data_type intervals c.in_ok-chunk.chunk
-    c.in_ok-locations.locations.items entries c.in_ok-before.before.items bodies (not c.is_empty.result) c.in_ok-chunk.ensures.keeps.same c.in_ok-locations.ensures.keeps.same c.in_ok-bodies.ensures.keeps.same c.requires.size c.requires.pair c.requires.shaped
+    c.in_ok-locations.locations.items entries c.in_ok-before.before.items bodies (not c.is_empty.result) c.in_ok-chunk.ensures.keeps.same c.in_ok-locations.ensures.reads.keeps.same c.in_ok-bodies.ensures.reads.keeps.same c.requires.size c.requires.pair c.requires.shaped
     c.in_ok-chunk.ensures.readable selected (ap not (c.is_empty.ensures ∙ ap (λ n. n == 0) long)) (c.in_ok-bodies.ensures.length ∙ ap (λ pages. length (filter is_wanted pages)) c.deref-2.ensures.value)
     c.in_ok-chunk.ensures.place c.in_ok-locations.ensures.locations each first in
     let start = g.S.Source.faults c.args.source.now in
@@ -244,18 +206,27 @@ returns-clause-fails g c =
     let stored = column.descriptor.primitive_type in
     let lent = located_parts stored (Some c.in_ok-before.before.items) entries (map body_items bodies) in
     let outcomes = column_rows stored data_type lent.pages lent.causes in
-    let caused = subst (λ n. IfErr c.decode_located.result (IsCausedByChunks (most_bytes data_type) c.args.chunk_size (take n outcomes))) c.count_of_rows-rows.ensures c.decode_located.ensures.cause in
-    if_err c.decode_located.result
-    (λ e one. fails_chunks told start now (most_bytes data_type) c.args.chunk_size (take (length (rows_of intervals)) outcomes) (λ bytes. causes_of_chunk true c.args.chunk_size bytes group (rows_of intervals) data_type column) e
-    (read_tells c.args.chunk_size group column data_type intervals c.in_ok-chunk.chunk c.in_ok-locations.locations.items entries c.in_ok-before.before.items (map body_items bodies) told read) one) caused
+    let caused = subst (λ n. IfErr c.decode_located.result (IsCausedByChunks (most_bytes data_type) c.args.chunk_size (take n outcomes))) c.count_of_rows-count.ensures c.decode_located.ensures.cause in
+    let chunks = subst (λ n. IfOk c.decode_located.result (λ found. map (λ array. map Given (cells array)) found.0.items ≡ cut c.args.chunk_size (take n outcomes))) c.count_of_rows-count.ensures c.decode_located.ensures.chunks in
+    let P : List Cell → Type 0 = λ cells. fits_most (most_bytes data_type) (sum_by cell_bytes cells) ≡ true in
+    record {
+      keeps = keeps_on (keeps_on (keeps_on c.in_ok-chunk.ensures.keeps c.in_ok-locations.ensures.reads.keeps) c.in_ok-bodies.ensures.reads.keeps) c.in_ok-before.ensures.reads.keeps;
+      quiet = ok_always c.decode_located.result (c.in_ok-before.ensures.reads.quiet ∙ c.in_ok-bodies.ensures.reads.quiet ∙ c.in_ok-locations.ensures.reads.quiet ∙ c.in_ok-chunk.ensures.quiet);
+      ok = ok_if c.decode_located.result (λ found none. none)
+          (both_if {R = λ found. IfSome told (λ bytes. causes_of_chunk true c.args.chunk_size bytes group (rows_of intervals) data_type column ≡ [])} c.decode_located.result
+          (λ found e fit. read_fine c.args.chunk_size group column data_type intervals c.in_ok-chunk.chunk c.in_ok-locations.locations.items entries c.in_ok-before.before.items (map body_items bodies) told read (map cells found.0.items) (map-map (map Given) cells found.0.items ∙ e) (All-map P cells found.0.items fit)) chunks c.decode_located.ensures.fits);
+      fails = if_err c.decode_located.result
+          (λ e one. fails_chunks told start now (most_bytes data_type) c.args.chunk_size (take (length (rows_of intervals)) outcomes) (λ bytes. causes_of_chunk true c.args.chunk_size bytes group (rows_of intervals) data_type column) e
+          (read_tells c.args.chunk_size group column data_type intervals c.in_ok-chunk.chunk c.in_ok-locations.locations.items entries c.in_ok-before.before.items (map body_items bodies) told read) one) caused;
+    }
 
 pub returns-clause-counts : goal.returns-clause-counts
 returns-clause-counts g c =
     let told = g.S.Source.told c.args.source.now in
-    let group = c.args.group.now in
-    let column = c.args.column.now in
-    let data_type = c.args.data_type.now in
-    let intervals = c.args.intervals.now in
+    let group = c.args.rows.group.now in
+    let column = c.args.typed.column.now in
+    let data_type = c.args.typed.data_type.now in
+    let intervals = c.args.rows.runs.now in
     let entries = c.in_ok-pages.pages.items in
     let bodies = c.in_ok-bodies.bodies.items in
     let selected : IsSelected group intervals c.in_ok-locations.locations.items entries
@@ -265,20 +236,20 @@ returns-clause-counts g c =
     let first : not c.is_empty.result ≡ true → IfSome (g.S.Source.told c.read_bodies.new.source) (λ bytes. part_in bytes c.in_ok-chunk.chunk (place_before c.in_ok-chunk.chunk entries) ≡ Some c.in_ok-before.before.items) = λ some.
     subst (λ pages. IfSome (g.S.Source.told c.read_bodies.new.source) (λ bytes. part_in bytes c.in_ok-chunk.chunk (place_before c.in_ok-chunk.chunk pages) ≡ Some c.in_ok-before.before.items)) c.deref-3.ensures.value (c.in_ok-before.ensures.part some) in
     let read = was_read c.args.chunk_size told (g.S.Source.told c.place_of_chunk.new.source) (g.S.Source.told c.read_locations.new.source) (g.S.Source.told c.read_bodies.new.source) group column data_type intervals c.in_ok-chunk.chunk
-    c.in_ok-locations.locations.items entries c.in_ok-before.before.items bodies (not c.is_empty.result) c.in_ok-chunk.ensures.keeps.same c.in_ok-locations.ensures.keeps.same c.in_ok-bodies.ensures.keeps.same c.requires.size c.requires.pair c.requires.shaped
+    c.in_ok-locations.locations.items entries c.in_ok-before.before.items bodies (not c.is_empty.result) c.in_ok-chunk.ensures.keeps.same c.in_ok-locations.ensures.reads.keeps.same c.in_ok-bodies.ensures.reads.keeps.same c.requires.size c.requires.pair c.requires.shaped
     c.in_ok-chunk.ensures.readable selected (ap not (c.is_empty.ensures ∙ ap (λ n. n == 0) long)) (c.in_ok-bodies.ensures.length ∙ ap (λ pages. length (filter is_wanted pages)) c.deref-2.ensures.value)
     c.in_ok-chunk.ensures.place c.in_ok-locations.ensures.locations each first in
     let lent = located_parts column.descriptor.primitive_type (Some c.in_ok-before.before.items) entries (map body_items bodies) in
-    let chunks = subst (λ n. IfOk c.decode_located.result (λ found. map (λ array. map Given (cells array)) found.0.items ≡ cut c.args.chunk_size (take n (column_rows column.descriptor.primitive_type data_type lent.pages lent.causes)))) c.count_of_rows-rows.ensures c.decode_located.ensures.chunks in
+    let chunks = subst (λ n. IfOk c.decode_located.result (λ found. map (λ array. map Given (cells array)) found.0.items ≡ cut c.args.chunk_size (take n (column_rows column.descriptor.primitive_type data_type lent.pages lent.causes)))) c.count_of_rows-count.ensures c.decode_located.ensures.chunks in
     if_ok c.decode_located.result (λ found e. sym (map-map length cells found.0.items) ∙ read_count c.args.chunk_size group column data_type intervals c.in_ok-chunk.chunk c.in_ok-locations.locations.items entries c.in_ok-before.before.items (map body_items bodies) told read (map cells found.0.items) (map-map (map Given) cells found.0.items ∙ e)) chunks
 
 pub returns-clause-cells : goal.returns-clause-cells
 returns-clause-cells g c =
     let told = g.S.Source.told c.args.source.now in
-    let group = c.args.group.now in
-    let column = c.args.column.now in
-    let data_type = c.args.data_type.now in
-    let intervals = c.args.intervals.now in
+    let group = c.args.rows.group.now in
+    let column = c.args.typed.column.now in
+    let data_type = c.args.typed.data_type.now in
+    let intervals = c.args.rows.runs.now in
     let entries = c.in_ok-pages.pages.items in
     let bodies = c.in_ok-bodies.bodies.items in
     let selected : IsSelected group intervals c.in_ok-locations.locations.items entries
@@ -288,11 +259,11 @@ returns-clause-cells g c =
     let first : not c.is_empty.result ≡ true → IfSome (g.S.Source.told c.read_bodies.new.source) (λ bytes. part_in bytes c.in_ok-chunk.chunk (place_before c.in_ok-chunk.chunk entries) ≡ Some c.in_ok-before.before.items) = λ some.
     subst (λ pages. IfSome (g.S.Source.told c.read_bodies.new.source) (λ bytes. part_in bytes c.in_ok-chunk.chunk (place_before c.in_ok-chunk.chunk pages) ≡ Some c.in_ok-before.before.items)) c.deref-3.ensures.value (c.in_ok-before.ensures.part some) in
     let read = was_read c.args.chunk_size told (g.S.Source.told c.place_of_chunk.new.source) (g.S.Source.told c.read_locations.new.source) (g.S.Source.told c.read_bodies.new.source) group column data_type intervals c.in_ok-chunk.chunk
-    c.in_ok-locations.locations.items entries c.in_ok-before.before.items bodies (not c.is_empty.result) c.in_ok-chunk.ensures.keeps.same c.in_ok-locations.ensures.keeps.same c.in_ok-bodies.ensures.keeps.same c.requires.size c.requires.pair c.requires.shaped
+    c.in_ok-locations.locations.items entries c.in_ok-before.before.items bodies (not c.is_empty.result) c.in_ok-chunk.ensures.keeps.same c.in_ok-locations.ensures.reads.keeps.same c.in_ok-bodies.ensures.reads.keeps.same c.requires.size c.requires.pair c.requires.shaped
     c.in_ok-chunk.ensures.readable selected (ap not (c.is_empty.ensures ∙ ap (λ n. n == 0) long)) (c.in_ok-bodies.ensures.length ∙ ap (λ pages. length (filter is_wanted pages)) c.deref-2.ensures.value)
     c.in_ok-chunk.ensures.place c.in_ok-locations.ensures.locations each first in
     let lent = located_parts column.descriptor.primitive_type (Some c.in_ok-before.before.items) entries (map body_items bodies) in
-    let chunks = subst (λ n. IfOk c.decode_located.result (λ found. map (λ array. map Given (cells array)) found.0.items ≡ cut c.args.chunk_size (take n (column_rows column.descriptor.primitive_type data_type lent.pages lent.causes)))) c.count_of_rows-rows.ensures c.decode_located.ensures.chunks in
+    let chunks = subst (λ n. IfOk c.decode_located.result (λ found. map (λ array. map Given (cells array)) found.0.items ≡ cut c.args.chunk_size (take n (column_rows column.descriptor.primitive_type data_type lent.pages lent.causes)))) c.count_of_rows-count.ensures c.decode_located.ensures.chunks in
     if_ok c.decode_located.result
     (λ found e. subst (λ shown. IfSome told (λ bytes. shown ≡ map (map (located_item bytes group data_type column)) (cut c.args.chunk_size (rows_of intervals)))) (map-map (map (λ cell. Some (Value cell))) cells found.0.items)
     (read_items c.args.chunk_size group column data_type intervals c.in_ok-chunk.chunk c.in_ok-locations.locations.items entries c.in_ok-before.before.items (map body_items bodies) told read (map cells found.0.items) (map-map (map Given) cells found.0.items ∙ e))) chunks
@@ -300,10 +271,10 @@ returns-clause-cells g c =
 pub returns-clause-lent : goal.returns-clause-lent
 returns-clause-lent g c =
     let told = g.S.Source.told c.args.source.now in
-    let group = c.args.group.now in
-    let column = c.args.column.now in
-    let data_type = c.args.data_type.now in
-    let intervals = c.args.intervals.now in
+    let group = c.args.rows.group.now in
+    let column = c.args.typed.column.now in
+    let data_type = c.args.typed.data_type.now in
+    let intervals = c.args.rows.runs.now in
     let entries = c.in_ok-pages.pages.items in
     let bodies = c.in_ok-bodies.bodies.items in
     let selected : IsSelected group intervals c.in_ok-locations.locations.items entries
@@ -313,14 +284,14 @@ returns-clause-lent g c =
     let first : not c.is_empty.result ≡ true → IfSome (g.S.Source.told c.read_bodies.new.source) (λ bytes. part_in bytes c.in_ok-chunk.chunk (place_before c.in_ok-chunk.chunk entries) ≡ Some c.in_ok-before.before.items) = λ some.
     subst (λ pages. IfSome (g.S.Source.told c.read_bodies.new.source) (λ bytes. part_in bytes c.in_ok-chunk.chunk (place_before c.in_ok-chunk.chunk pages) ≡ Some c.in_ok-before.before.items)) c.deref-3.ensures.value (c.in_ok-before.ensures.part some) in
     let read = was_read c.args.chunk_size told (g.S.Source.told c.place_of_chunk.new.source) (g.S.Source.told c.read_locations.new.source) (g.S.Source.told c.read_bodies.new.source) group column data_type intervals c.in_ok-chunk.chunk
-    c.in_ok-locations.locations.items entries c.in_ok-before.before.items bodies (not c.is_empty.result) c.in_ok-chunk.ensures.keeps.same c.in_ok-locations.ensures.keeps.same c.in_ok-bodies.ensures.keeps.same c.requires.size c.requires.pair c.requires.shaped
+    c.in_ok-locations.locations.items entries c.in_ok-before.before.items bodies (not c.is_empty.result) c.in_ok-chunk.ensures.keeps.same c.in_ok-locations.ensures.reads.keeps.same c.in_ok-bodies.ensures.reads.keeps.same c.requires.size c.requires.pair c.requires.shaped
     c.in_ok-chunk.ensures.readable selected (ap not (c.is_empty.ensures ∙ ap (λ n. n == 0) long)) (c.in_ok-bodies.ensures.length ∙ ap (λ pages. length (filter is_wanted pages)) c.deref-2.ensures.value)
     c.in_ok-chunk.ensures.place c.in_ok-locations.ensures.locations each first in
     let lent = located_parts column.descriptor.primitive_type (Some c.in_ok-before.before.items) entries (map body_items bodies) in
-    let chunks = subst (λ n. IfOk c.decode_located.result (λ found. map (λ array. map Given (cells array)) found.0.items ≡ cut c.args.chunk_size (take n (column_rows column.descriptor.primitive_type data_type lent.pages lent.causes)))) c.count_of_rows-rows.ensures c.decode_located.ensures.chunks in
+    let chunks = subst (λ n. IfOk c.decode_located.result (λ found. map (λ array. map Given (cells array)) found.0.items ≡ cut c.args.chunk_size (take n (column_rows column.descriptor.primitive_type data_type lent.pages lent.causes)))) c.count_of_rows-count.ensures c.decode_located.ensures.chunks in
     let stored = column.descriptor.primitive_type in
     let pages = pages_for stored data_type (length (rows_of intervals)) lent.pages in
-    let lends = subst (λ n. OnOk c.decode_located.result (c.decode_located.new.steps ≡ c.args.steps.now + length (pages_for stored data_type n lent.pages))) c.count_of_rows-rows.ensures c.decode_located.ensures.lent in
+    let lends = subst (λ n. OnOk c.decode_located.result (c.decode_located.new.steps ≡ c.args.steps.now + length (pages_for stored data_type n lent.pages))) c.count_of_rows-count.ensures c.decode_located.ensures.lent in
     let parts = zip (filter is_wanted entries) (map body_items bodies) in
     both_ok c.decode_located.result
     (λ found e steps. just_told told c.args.steps.now c.decode_located.new.steps (with_dictionary_page (dictionary_in c.in_ok-before.before.items) (length parts)) (λ bytes. lent_of_chunk true bytes group (rows_of intervals) column)
@@ -330,9 +301,9 @@ returns-clause-lent g c =
 pub returns-clause-taken : goal.returns-clause-taken
 returns-clause-taken g c =
     let told = g.S.Source.told c.args.source.now in
-    let group = c.args.group.now in
-    let column = c.args.column.now in
-    let intervals = c.args.intervals.now in
+    let group = c.args.rows.group.now in
+    let column = c.args.typed.column.now in
+    let intervals = c.args.rows.runs.now in
     let chunk = c.in_ok-chunk.chunk in
     let at = subst (λ (told : Option (List ℕ)). IfSome told (λ bytes. locations bytes column ≡ c.in_ok-locations.locations.items)) c.in_ok-chunk.ensures.keeps.same c.in_ok-locations.ensures.locations in
     let list = c.in_ok-locations.locations.items in

@@ -1,32 +1,26 @@
 use Rattle.std.proofs.Common.{◌≡◌, ◌∙◌, ◌++◌, ◌+◌, rules, [], ◌∷◌, List, ℕ, map, drop, ap, sym, subst, arith, refl, Vec, Global}
-use Rattle.std.specs.Prelude.{Option, IfSome, flat_map}
+use Rattle.std.specs.Prelude.{Option, IfSome}
 use Rattle.std.specs.List.{list_all}
 use Rattle.std.proofs.lemmas.Bool.{and_from}
 use Rattle.std.proofs.lemmas.List.{map-append}
 use Rattle.std.proofs.lemmas.List.Folds.{list_all-append}
 use Rattle.std.proofs.lemmas.Result.{err_from_is_err_and}
 use Rattle.parquet_meta.specs.declared.metadata.PageLocation.{PageLocation}
-use Rattle.parquet_meta.specs.Source.{IsReadFailure}
 use Rattle.parquet_page.specs.Locations.{has_shape}
 use Rattle.parquet_scan.specs.Causes.{offset_causes_of_field}
 use Rattle.parquet_scan.specs.Costs.{location_bytes_of}
 use Rattle.parquet_scan.specs.Rows.{field_locations}
 use Rattle.parquet_scan.proofs.CostLemmas.{none_left, sum_left}
-use Rattle.parquet_scan.proofs.ScanLemmas.{fails_more, in_item, made_more, none_more}
+use Rattle.parquet_scan.proofs.CallLemmas.{refuses}
+use Rattle.parquet_scan.proofs.ScanLemmas.{in_item, made_more, none_more}
 use Rattle.parquet_scan.proofs.locations.read_all_locations.Goals as goal
 
-pub returns-in_err-read_field_locations-clause-fails : goal.returns-in_err-read_field_locations-clause-fails
-returns-in_err-read_field_locations-clause-fails g c =
+pub returns-in_err-read_field_locations-clause-reads : goal.returns-in_err-read_field_locations-clause-reads
+returns-in_err-read_field_locations-clause-reads g c =
     let p = err_from_is_err_and c.from_residual.result c.from_residual.ensures.1 in
-    let told = g.S.Source.told c.args.source.now in
-    let before = g.S.Source.faults c.args.source.now in
-    let mid = g.S.Source.faults c.loop-field.source in
-    let now = g.S.Source.faults c.read_field_locations.new.source in
     let group = c.args.group.now in
-    rw (p.1, p.2) (fails_more told before mid now (λ bytes. offset_causes_of_field bytes group c.field-item.result) (λ bytes. flat_map (offset_causes_of_field bytes group) c.args.fields.now)
-    c.in_err-read_field_locations.field-0.0 c.loop-field.invariant.keeps.later
-    (in_item told (λ bytes. offset_causes_of_field bytes group) c.args.fields.now c.loop-field.field-index c.field-item.result c.loop-field-test.true c.field-item.is)
-    (subst (λ (told : Option (List ℕ)). IsReadFailure told mid now (λ bytes. offset_causes_of_field bytes group c.field-item.result) c.in_err-read_field_locations.field-0.0) c.loop-field.invariant.keeps.same c.in_err-read_field_locations.ensures.fails))
+    rw (p.1, p.2) (refuses c.loop-field.invariant.keeps c.in_err-read_field_locations.ensures.reads
+    (in_item (g.S.Source.told c.args.source.now) (λ bytes. offset_causes_of_field bytes group) c.args.fields.now c.loop-field.field-index c.field-item.result c.loop-field-test.true c.field-item.is))
 
 pub loop-field-preserved : goal.loop-field-preserved
 loop-field-preserved g c =
@@ -37,11 +31,11 @@ loop-field-preserved g c =
     let field = c.field-item.result in
     let list = c.in_ok-read_field_locations.field-0 in
     let items : Vec PageLocation Global → List PageLocation = λ list. list.items in
-    let own = subst (λ (told : Option (List ℕ)). IfSome told (λ bytes. offset_causes_of_field bytes group field ≡ [])) c.loop-field.invariant.keeps.same c.in_ok-read_field_locations.ensures.ok in
+    let own = subst (λ (told : Option (List ℕ)). IfSome told (λ bytes. offset_causes_of_field bytes group field ≡ [])) c.loop-field.invariant.keeps.same c.in_ok-read_field_locations.ensures.reads.ok in
     let are = subst (λ (told : Option (List ℕ)). IfSome told (λ bytes. field_locations bytes group field.name ≡ list.items)) c.loop-field.invariant.keeps.same c.in_ok-read_field_locations.ensures.locations in
     record {
       keeps = search rules;
-      quiet = c.in_ok-read_field_locations.ensures.quiet ∙ c.loop-field.invariant.quiet;
+      quiet = c.in_ok-read_field_locations.ensures.reads.quiet ∙ c.loop-field.invariant.quiet;
       none = none_more told (λ bytes. offset_causes_of_field bytes group) fields i field c.loop-field-test.true c.field-item.is c.loop-field.invariant.none own;
       locations = subst (λ (lists : List (List PageLocation)). IfSome told (λ bytes. map (λ field. field_locations bytes group field.name) fields ≡ lists ++ map (λ field. field_locations bytes group field.name) (drop (i + 1) fields)))
           (sym (ap (map items) c.in_ok-push.ensures.items ∙ map-append items c.loop-field.lists.items (list ∷ [])))

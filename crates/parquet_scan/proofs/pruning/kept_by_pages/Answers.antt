@@ -1,4 +1,4 @@
-use Rattle.std.proofs.Common.{◌≡◌, ◌∙◌, ◌++◌, [], List, ℕ, All, length, map, ap, sym, subst, arith, Vec, Global}
+use Rattle.std.proofs.Common.{◌≡◌, ◌∙◌, List, ℕ, All, length, map, ap, sym, subst, Vec, Global}
 use Rattle.std.specs.Prelude.{Option, IfSome, flat_map}
 use Rattle.std.specs.List.{list_all}
 use Rattle.std.proofs.lemmas.Result.{err_from_is_err_and}
@@ -7,12 +7,12 @@ use Rattle.parquet_base.specs.Intervals.{AreApart, covers, maximal_runs}
 use Rattle.parquet_base.proofs.SegmentLemmas.{runs_apart}
 use Rattle.parquet_base.specs.declared.interval.Interval.{Interval}
 use Rattle.parquet_meta.specs.declared.metadata.PageLocation.{PageLocation}
-use Rattle.parquet_meta.specs.Source.{IsReadFailure}
 use Rattle.parquet_page.specs.Locations.{has_shape}
 use Rattle.parquet_scan.specs.Causes.{index_causes_of_bound, offset_causes_of_field}
 use Rattle.parquet_scan.specs.Rows.{bound_keeps, field_locations}
+use Rattle.parquet_scan.proofs.CallLemmas.{answered_both, refuses, refuses_first}
 use Rattle.parquet_scan.proofs.PruningLemmas.{all_runs}
-use Rattle.parquet_scan.proofs.ScanLemmas.{fails_more, in_first, in_second, none_of_both}
+use Rattle.parquet_scan.proofs.ScanLemmas.{in_first, in_second}
 use Rattle.parquet_scan.proofs.pruning.kept_by_pages.Goals as goal
 
 pub read_all_runs-requires-clause-length : goal.read_all_runs-requires-clause-length
@@ -26,48 +26,36 @@ read_all_runs-requires-clause-told g c =
     let group = c.args.group.now in
     let fields = c.args.fields.now in
     let items : Vec PageLocation Global → List PageLocation = λ list. list.items in
-    subst (λ (told : Option (List ℕ)). IfSome told (λ bytes. map (λ field. field_locations bytes group field.name) fields ≡ map items c.deref.result.now)) (sym c.in_ok-locations.ensures.keeps.same)
+    subst (λ (told : Option (List ℕ)). IfSome told (λ bytes. map (λ field. field_locations bytes group field.name) fields ≡ map items c.deref.result.now)) (sym c.in_ok-locations.ensures.reads.keeps.same)
     (subst (λ lists. IfSome (g.S.Source.told c.args.source.now) (λ bytes. map (λ field. field_locations bytes group field.name) fields ≡ map items lists)) (sym c.deref.ensures.value) c.in_ok-locations.ensures.locations)
 
-pub returns-in_err-locations-clause-fails : goal.returns-in_err-locations-clause-fails
-returns-in_err-locations-clause-fails g c =
+pub returns-in_err-locations-clause-reads : goal.returns-in_err-locations-clause-reads
+returns-in_err-locations-clause-reads g c =
     let p = err_from_is_err_and c.from_residual.result c.from_residual.ensures.1 in
-    let start = g.S.Source.faults c.args.source.now in
     let told = g.S.Source.told c.args.source.now in
     let group = c.args.group.now in
     let fields = c.args.fields.now in
     let bounds = c.args.bounds.now in
     let first : List ℕ → List Cause = λ bytes. flat_map (offset_causes_of_field bytes group) fields in
     let second : List ℕ → List Cause = λ bytes. flat_map (index_causes_of_bound fields bytes group) bounds in
-    rw (p.1, p.2) (fails_more told start start (g.S.Source.faults c.read_all_locations.new.source) first (λ bytes. first bytes ++ second bytes) c.in_err-locations.field-0.0 (omega arith) (in_first told first second) c.in_err-locations.ensures.fails)
+    rw (p.1, p.2) (refuses_first c.in_err-locations.ensures.reads (in_first told first second))
 
-pub returns-in_err-runs-clause-fails : goal.returns-in_err-runs-clause-fails
-returns-in_err-runs-clause-fails g c =
+pub returns-in_err-runs-clause-reads : goal.returns-in_err-runs-clause-reads
+returns-in_err-runs-clause-reads g c =
     let p = err_from_is_err_and c.from_residual-in_err-runs.result c.from_residual-in_err-runs.ensures.1 in
-    let start = g.S.Source.faults c.args.source.now in
-    let mid = g.S.Source.faults c.read_all_locations.new.source in
-    let now = g.S.Source.faults c.read_all_runs.new.source in
     let told = g.S.Source.told c.args.source.now in
     let group = c.args.group.now in
     let fields = c.args.fields.now in
     let bounds = c.args.bounds.now in
     let first : List ℕ → List Cause = λ bytes. flat_map (offset_causes_of_field bytes group) fields in
     let second : List ℕ → List Cause = λ bytes. flat_map (index_causes_of_bound fields bytes group) bounds in
-    rw (p.1, p.2) (fails_more told start mid now second (λ bytes. first bytes ++ second bytes) c.in_err-runs.field-0.0 c.in_ok-locations.ensures.keeps.later (in_second told first second)
-    (subst (λ (told : Option (List ℕ)). IsReadFailure told mid now second c.in_err-runs.field-0.0) c.in_ok-locations.ensures.keeps.same c.in_err-runs.ensures.fails))
+    rw (p.1, p.2) (refuses c.in_ok-locations.ensures.reads.keeps c.in_err-runs.ensures.reads (in_second told first second))
 
 pub runs_of_all-requires : goal.runs_of_all-requires
 runs_of_all-requires g c = subst (λ (lists : List (Vec Interval Global)). All (λ list. AreApart 0 list.items c.args.group.now.num_rows) lists) (sym c.deref-2.ensures.value) c.in_ok-runs.ensures.apart
 
-pub returns-clause-ok : goal.returns-clause-ok
-returns-clause-ok g c =
-    let told = g.S.Source.told c.args.source.now in
-    let group = c.args.group.now in
-    let fields = c.args.fields.now in
-    let bounds = c.args.bounds.now in
-    let first : List ℕ → List Cause = λ bytes. flat_map (offset_causes_of_field bytes group) fields in
-    let second : List ℕ → List Cause = λ bytes. flat_map (index_causes_of_bound fields bytes group) bounds in
-    none_of_both told first second c.in_ok-locations.ensures.ok (subst (λ (told : Option (List ℕ)). IfSome told (λ bytes. second bytes ≡ [])) c.in_ok-locations.ensures.keeps.same c.in_ok-runs.ensures.ok)
+pub returns-clause-reads : goal.returns-clause-reads
+returns-clause-reads g c = answered_both c.in_ok-locations.ensures.reads c.in_ok-runs.ensures.reads
 
 pub returns-clause-kept : goal.returns-clause-kept
 returns-clause-kept g c =
@@ -76,7 +64,7 @@ returns-clause-kept g c =
     let fields = c.args.fields.now in
     let bounds = c.args.bounds.now in
     let items : Vec Interval Global → List Interval = λ list. list.items in
-    let are = subst (λ (told : Option (List ℕ)). IfSome told (λ bytes. map (λ bound. maximal_runs (λ row. bound_keeps fields bytes group row bound) group.num_rows) bounds ≡ map items c.in_ok-runs.runs.items)) c.in_ok-locations.ensures.keeps.same c.in_ok-runs.ensures.runs in
+    let are = subst (λ (told : Option (List ℕ)). IfSome told (λ bytes. map (λ bound. maximal_runs (λ row. bound_keeps fields bytes group row bound) group.num_rows) bounds ≡ map items c.in_ok-runs.runs.items)) c.in_ok-locations.ensures.reads.keeps.same c.in_ok-runs.ensures.runs in
     all_runs told fields group bounds items c.in_ok-runs.runs.items c.in_ok-runs_of_all.field-0.items are
     (c.in_ok-runs_of_all.ensures ∙ ap (λ (lists : List (Vec Interval Global)). maximal_runs (λ row. list_all (λ list. covers list.items row) lists) group.num_rows) c.deref-2.ensures.value)
 

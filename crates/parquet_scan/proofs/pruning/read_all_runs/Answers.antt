@@ -1,5 +1,5 @@
 use Rattle.std.proofs.Common.{◌≡◌, ◌∙◌, ◌++◌, ◌+◌, rules, [], ◌∷◌, All, List, ℕ, map, drop, ap, sym, subst, arith, Vec, Global}
-use Rattle.std.specs.Prelude.{Option, IfSome, flat_map}
+use Rattle.std.specs.Prelude.{Option, IfSome}
 use Rattle.std.proofs.lemmas.List.{map-append}
 use Rattle.std.proofs.lemmas.List.Elements.{All-push}
 use Rattle.std.proofs.lemmas.Result.{err_from_is_err_and}
@@ -7,27 +7,21 @@ use Rattle.parquet_base.specs.Intervals.{AreApart, maximal_runs}
 use Rattle.parquet_base.specs.declared.interval.Interval.{Interval}
 use Rattle.parquet_scan.specs.Causes.{index_causes_of_bound}
 use Rattle.parquet_meta.specs.declared.metadata.PageLocation.{PageLocation}
-use Rattle.parquet_meta.specs.Source.{IsReadFailure}
 use Rattle.parquet_scan.specs.Costs.{index_bytes_of}
 use Rattle.parquet_scan.specs.Request.{is_legal_bound_of}
 use Rattle.parquet_scan.specs.Rows.{bound_keeps, field_locations}
+use Rattle.parquet_scan.proofs.CallLemmas.{refuses}
 use Rattle.parquet_scan.proofs.CostLemmas.{none_left, sum_left}
 use Rattle.parquet_scan.proofs.PruningLemmas.{all_at, locations_at}
-use Rattle.parquet_scan.proofs.ScanLemmas.{fails_more, in_item, made_more, none_more}
+use Rattle.parquet_scan.proofs.ScanLemmas.{in_item, made_more, none_more}
 use Rattle.parquet_scan.proofs.pruning.read_all_runs.Goals as goal
 
-pub returns-in_err-read_runs-clause-fails : goal.returns-in_err-read_runs-clause-fails
-returns-in_err-read_runs-clause-fails g c =
+pub returns-in_err-read_runs-clause-reads : goal.returns-in_err-read_runs-clause-reads
+returns-in_err-read_runs-clause-reads g c =
     let p = err_from_is_err_and c.from_residual.result c.from_residual.ensures.1 in
-    let told = g.S.Source.told c.args.source.now in
-    let before = g.S.Source.faults c.args.source.now in
-    let mid = g.S.Source.faults c.loop-bound.source in
-    let now = g.S.Source.faults c.read_runs.new.source in
     let group = c.args.group.now in
-    rw (p.1, p.2) (fails_more told before mid now (λ bytes. index_causes_of_bound c.args.fields.now bytes group c.bound-item.result) (λ bytes. flat_map (index_causes_of_bound c.args.fields.now bytes group) c.args.bounds.now)
-    c.in_err-read_runs.field-0.0 c.loop-bound.invariant.keeps.later
-    (in_item told (λ bytes. index_causes_of_bound c.args.fields.now bytes group) c.args.bounds.now c.loop-bound.bound-index c.bound-item.result c.loop-bound-test.true c.bound-item.is)
-    (subst (λ (told : Option (List ℕ)). IsReadFailure told mid now (λ bytes. index_causes_of_bound c.args.fields.now bytes group c.bound-item.result) c.in_err-read_runs.field-0.0) c.loop-bound.invariant.keeps.same c.in_err-read_runs.ensures.fails))
+    rw (p.1, p.2) (refuses c.loop-bound.invariant.keeps c.in_err-read_runs.ensures.reads
+    (in_item (g.S.Source.told c.args.source.now) (λ bytes. index_causes_of_bound c.args.fields.now bytes group) c.args.bounds.now c.loop-bound.bound-index c.bound-item.result c.loop-bound-test.true c.bound-item.is))
 
 pub loop-bound-preserved : goal.loop-bound-preserved
 loop-bound-preserved g c =
@@ -38,11 +32,11 @@ loop-bound-preserved g c =
     let bound = c.bound-item.result in
     let list = c.in_ok-read_runs.field-0 in
     let items : Vec Interval Global → List Interval = λ list. list.items in
-    let own = subst (λ (told : Option (List ℕ)). IfSome told (λ bytes. index_causes_of_bound c.args.fields.now bytes group bound ≡ [])) c.loop-bound.invariant.keeps.same c.in_ok-read_runs.ensures.ok in
+    let own = subst (λ (told : Option (List ℕ)). IfSome told (λ bytes. index_causes_of_bound c.args.fields.now bytes group bound ≡ [])) c.loop-bound.invariant.keeps.same c.in_ok-read_runs.ensures.reads.ok in
     let are = subst (λ (told : Option (List ℕ)). IfSome told (λ bytes. maximal_runs (λ row. bound_keeps c.args.fields.now bytes group row bound) group.num_rows ≡ list.items)) c.loop-bound.invariant.keeps.same c.in_ok-read_runs.ensures.runs in
     record {
       keeps = search rules;
-      quiet = c.in_ok-read_runs.ensures.quiet ∙ c.loop-bound.invariant.quiet;
+      quiet = c.in_ok-read_runs.ensures.reads.quiet ∙ c.loop-bound.invariant.quiet;
       none = none_more told (λ bytes. index_causes_of_bound c.args.fields.now bytes group) bounds i bound c.loop-bound-test.true c.bound-item.is c.loop-bound.invariant.none own;
       runs = subst (λ (lists : List (List Interval)). IfSome told (λ bytes. map (λ bound. maximal_runs (λ row. bound_keeps c.args.fields.now bytes group row bound) group.num_rows) bounds
           ≡ lists ++ map (λ bound. maximal_runs (λ row. bound_keeps c.args.fields.now bytes group row bound) group.num_rows) (drop (i + 1) bounds)))

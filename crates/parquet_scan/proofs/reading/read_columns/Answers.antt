@@ -1,5 +1,4 @@
 use Rattle.std.proofs.Common.{◌≡◌, ◌+◌, ◌∙◌, ◌++◌, ◌∷◌, [], All, List, ℕ, Option, Some, length, map, drop, rules, arith, ap, subst, sym}
-use Rattle.parquet_meta.specs.Source.{IsReadFailure}
 use Rattle.std.specs.Prelude.{IfSome}
 use Rattle.std.proofs.lemmas.List.{map-append}
 use Rattle.std.proofs.lemmas.Result.{err_from_is_err_and}
@@ -10,45 +9,39 @@ use Rattle.columns_core.specs.declared.data_type.DataType.{DataType}
 use Rattle.columns_core.specs.declared.data_type.Field.{Field}
 use Rattle.parquet_base.specs.Intervals.{rows_of}
 use Rattle.parquet_base.specs.Pieces.{cut}
-use Rattle.parquet_scan.specs.Causes.{causes_of_column, causes_of_group}
+use Rattle.parquet_scan.specs.Causes.{causes_of_column}
 use Rattle.parquet_scan.specs.Cells.{given_column}
 use Rattle.parquet_scan.specs.Costs.{lent_of_column}
 use Rattle.parquet_scan.specs.Counting.{column_taken}
 use Rattle.parquet_scan.specs.Scan.{RisesBy, RisesJustBy}
+use Rattle.parquet_scan.proofs.CallLemmas.{refuses}
 use Rattle.parquet_scan.proofs.CostLemmas.{rises_all, rises_more}
 use Rattle.parquet_scan.proofs.ExactCounts.{just_all, just_more}
-use Rattle.parquet_scan.proofs.ScanLemmas.{fails_more, in_item, made_more, none_more}
+use Rattle.parquet_scan.proofs.ScanLemmas.{in_item, made_more, none_more}
 use Rattle.parquet_scan.proofs.reading.read_columns.Goals as goal
 
-pub returns-in_err-arrays-clause-fails : goal.returns-in_err-arrays-clause-fails
-returns-in_err-arrays-clause-fails g c =
+pub returns-in_err-arrays-clause-reads : goal.returns-in_err-arrays-clause-reads
+returns-in_err-arrays-clause-reads g c =
     let p = err_from_is_err_and c.from_residual.result c.from_residual.ensures.1 in
-    let before = g.S.Source.faults c.args.source.now in
-    let mid = g.S.Source.faults c.loop-field.source in
-    let now = g.S.Source.faults c.read_field.new.source in
-    let group = c.args.group.now in
-    let rows = rows_of c.args.runs.now in
-    let column : List ℕ → Field → _ = λ bytes. causes_of_column c.args.by_pages c.args.chunk_size bytes group rows in
-    rw (p.1, p.2) (fails_more (g.S.Source.told c.args.source.now) before mid now
-    (λ bytes. column bytes c.field-item.result) (λ bytes. causes_of_group c.args.by_pages c.args.chunk_size c.args.fields.now bytes (group, rows))
-    c.in_err-arrays.field-0.0 c.loop-field.invariant.keeps.later
-    (in_item (g.S.Source.told c.args.source.now) column c.args.fields.now c.loop-field.field-index c.field-item.result c.loop-field-test.true c.field-item.is)
-    (subst (λ (told : Option (List ℕ)). IsReadFailure told mid now (λ bytes. column bytes c.field-item.result) c.in_err-arrays.field-0.0) c.loop-field.invariant.keeps.same c.in_err-arrays.ensures.fails))
+    let group = c.args.rows.group.now in
+    let column : List ℕ → Field → _ = λ bytes. causes_of_column c.args.asked.by_pages c.args.asked.chunk_size bytes group (rows_of c.args.rows.runs.now) in
+    rw (p.1, p.2) (refuses c.loop-field.invariant.keeps c.in_err-arrays.ensures.reads
+    (in_item (g.S.Source.told c.args.source.now) column c.args.asked.fields.now c.loop-field.field-index c.field-item.result c.loop-field-test.true c.field-item.is))
 
 pub loop-field-preserved : goal.loop-field-preserved
 loop-field-preserved g c =
     let told = g.S.Source.told c.args.source.now in
-    let by_pages = c.args.by_pages in
-    let group = c.args.group.now in
-    let rows = rows_of c.args.runs.now in
-    let pieces = cut c.args.chunk_size rows in
-    let fields = c.args.fields.now in
+    let by_pages = c.args.asked.by_pages in
+    let group = c.args.rows.group.now in
+    let rows = rows_of c.args.rows.runs.now in
+    let pieces = cut c.args.asked.chunk_size rows in
+    let fields = c.args.asked.fields.now in
     let i = c.loop-field.field-index in
     let field = c.field-item.result in
     let arrays = c.in_ok-arrays.arrays in
     let column : List ℕ → Field → List (Option (DataType × List Cell)) = λ bytes field. map (λ rows. given_column by_pages bytes group rows field) pieces in
     let same = c.loop-field.invariant.keeps.same in
-    let own = subst (λ (told : Option (List ℕ)). IfSome told (λ bytes. causes_of_column by_pages c.args.chunk_size bytes group rows field ≡ [])) same c.in_ok-arrays.ensures.ok in
+    let own = subst (λ (told : Option (List ℕ)). IfSome told (λ bytes. causes_of_column by_pages c.args.asked.chunk_size bytes group rows field ≡ [])) same c.in_ok-arrays.ensures.reads.ok in
     let is = subst (λ (told : Option (List ℕ)). IfSome told (λ bytes. column bytes field ≡ map (λ array. Some (column_of array)) arrays.items)) same c.in_ok-arrays.ensures.columns in
     let lent = subst (λ (told : Option (List ℕ)). RisesJustBy told c.loop-field.steps c.read_field.new.steps (λ bytes. lent_of_column by_pages bytes group rows field)) same c.in_ok-arrays.ensures.lent in
     let taken = subst (λ (told : Option (List ℕ)). RisesBy told (g.S.Source.taken c.loop-field.source) (g.S.Source.taken c.read_field.new.source) (λ bytes. column_taken by_pages bytes group rows field)) same c.in_ok-arrays.ensures.taken in
@@ -57,8 +50,8 @@ loop-field-preserved g c =
     = ap (map (λ column. map (λ array. Some (column_of array)) column.items)) c.in_ok-push.ensures.items ∙ map-append (λ column. map (λ array. Some (column_of array)) column.items) c.loop-field.columns.items (arrays ∷ []) in
     record {
       keeps = search rules;
-      quiet = c.in_ok-arrays.ensures.quiet ∙ c.loop-field.invariant.quiet;
-      none = none_more told (λ bytes. causes_of_column by_pages c.args.chunk_size bytes group rows) fields i field c.loop-field-test.true c.field-item.is c.loop-field.invariant.none own;
+      quiet = c.in_ok-arrays.ensures.reads.quiet ∙ c.loop-field.invariant.quiet;
+      none = none_more told (λ bytes. causes_of_column by_pages c.args.asked.chunk_size bytes group rows) fields i field c.loop-field-test.true c.field-item.is c.loop-field.invariant.none own;
       columns = subst (λ (made : List (List (Option (DataType × List Cell)))). IfSome told (λ bytes. map (column bytes) fields ≡ made ++ map (column bytes) (drop (i + 1) fields))) (sym more)
           (made_more told column fields i field made (map (λ array. Some (column_of array)) arrays.items) c.loop-field-test.true c.field-item.is c.loop-field.invariant.columns is);
       lent = just_more told (λ bytes. lent_of_column by_pages bytes group rows) fields i field c.args.steps.now c.loop-field.steps c.read_field.new.steps c.loop-field-test.true c.field-item.is c.loop-field.invariant.lent lent;
@@ -72,12 +65,12 @@ loop-field-preserved g c =
 
 pub returns-clause-lent : goal.returns-clause-lent
 returns-clause-lent g c =
-    let by_pages = c.args.by_pages in
-    let group = c.args.group.now in
-    just_all (g.S.Source.told c.args.source.now) (λ bytes. lent_of_column by_pages bytes group (rows_of c.args.runs.now)) c.args.fields.now c.loop-field.field-index c.args.steps.now c.loop-field.steps (omega arith) c.loop-field.invariant.lent
+    let by_pages = c.args.asked.by_pages in
+    let group = c.args.rows.group.now in
+    just_all (g.S.Source.told c.args.source.now) (λ bytes. lent_of_column by_pages bytes group (rows_of c.args.rows.runs.now)) c.args.asked.fields.now c.loop-field.field-index c.args.steps.now c.loop-field.steps (omega arith) c.loop-field.invariant.lent
 
 pub returns-clause-taken : goal.returns-clause-taken
 returns-clause-taken g c =
-    let by_pages = c.args.by_pages in
-    let group = c.args.group.now in
-    rises_all (g.S.Source.told c.args.source.now) (λ bytes. column_taken by_pages bytes group (rows_of c.args.runs.now)) c.args.fields.now c.loop-field.field-index (g.S.Source.taken c.args.source.now) (g.S.Source.taken c.loop-field.source) (omega arith) c.loop-field.invariant.taken
+    let by_pages = c.args.asked.by_pages in
+    let group = c.args.rows.group.now in
+    rises_all (g.S.Source.told c.args.source.now) (λ bytes. column_taken by_pages bytes group (rows_of c.args.rows.runs.now)) c.args.asked.fields.now c.loop-field.field-index (g.S.Source.taken c.args.source.now) (g.S.Source.taken c.loop-field.source) (omega arith) c.loop-field.invariant.taken

@@ -14,18 +14,18 @@ use Rattle.parquet_scan.proofs.reading.read_columns.Given as goal
 abbrev pub invariant-loop-field : goal.invariant-loop-field
 invariant-loop-field g l =
     let source = g.S.Source in
-    let rows = rows_of l.runs in
-    let pieces = cut l.chunk_size rows in
+    let rows = rows_of l.rows.runs.now in
+    let pieces = cut l.asked.chunk_size rows in
     record {
       keeps : Keeps source l.fn.source l.source;
       quiet : source.faults l.source ≡ source.faults l.fn.source;
-      none : IfSome (source.told l.fn.source) (λ bytes. causes_of_group l.by_pages l.chunk_size l.fields bytes (l.group, rows) ≡ causes_of_group l.by_pages l.chunk_size (drop l.field-index l.fields) bytes (l.group, rows));
+      none : IfSome (source.told l.fn.source) (λ bytes. causes_of_group l.asked.by_pages l.asked.chunk_size l.asked.fields.now bytes (l.rows.group.now, rows) ≡ causes_of_group l.asked.by_pages l.asked.chunk_size (drop l.field-index l.asked.fields.now) bytes (l.rows.group.now, rows));
       columns : IfSome (source.told l.fn.source) (λ bytes.
-          map (λ field. map (λ rows. given_column l.by_pages bytes l.group rows field) pieces) l.fields
-          ≡ map (λ column. map (λ array. Some (column_of array)) column.items) l.columns.items ++ map (λ field. map (λ rows. given_column l.by_pages bytes l.group rows field) pieces) (drop l.field-index l.fields));
-      lent : IfSome (source.told l.fn.source) (λ bytes. l.steps + lent_of_group l.by_pages (drop l.field-index l.fields) bytes (l.group, rows) ≡ l.fn.steps + lent_of_group l.by_pages l.fields bytes (l.group, rows));
+          map (λ field. map (λ rows. given_column l.asked.by_pages bytes l.rows.group.now rows field) pieces) l.asked.fields.now
+          ≡ map (λ column. map (λ array. Some (column_of array)) column.items) l.columns.items ++ map (λ field. map (λ rows. given_column l.asked.by_pages bytes l.rows.group.now rows field) pieces) (drop l.field-index l.asked.fields.now));
+      lent : IfSome (source.told l.fn.source) (λ bytes. l.steps + lent_of_group l.asked.by_pages (drop l.field-index l.asked.fields.now) bytes (l.rows.group.now, rows) ≡ l.fn.steps + lent_of_group l.asked.by_pages l.asked.fields.now bytes (l.rows.group.now, rows));
       taken : IfSome (source.told l.fn.source) (λ bytes.
-          source.taken l.source + columns_taken l.by_pages (drop l.field-index l.fields) bytes (l.group, rows) ≤ source.taken l.fn.source + columns_taken l.by_pages l.fields bytes (l.group, rows));
+          source.taken l.source + columns_taken l.asked.by_pages (drop l.field-index l.asked.fields.now) bytes (l.rows.group.now, rows) ≤ source.taken l.fn.source + columns_taken l.asked.by_pages l.asked.fields.now bytes (l.rows.group.now, rows));
       count : length l.columns.items ≡ l.field-index;
       counts : All (λ column. map (λ array. length (cells array)) column.items ≡ map length pieces) l.columns.items;
       ticks : l.fn.steps ≤ l.steps;

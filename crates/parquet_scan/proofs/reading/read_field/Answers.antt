@@ -16,17 +16,17 @@ pub returns-clause-columns : goal.returns-clause-columns
 returns-clause-columns g c =
     let named = sym c.column_named.ensures ∙ ap option_copied c.in-Some.is in
     both_if c.read_column.result (λ found typed e.
-    told_columns (g.S.Source.told c.args.source.now) c.args.by_pages c.args.group.now c.args.field.now c.in-Some.column.now (cut c.args.chunk_size (rows_of c.args.runs.now)) found.0.items named typed e)
+    told_columns (g.S.Source.told c.args.source.now) c.args.asked.by_pages c.args.rows.group.now c.args.field.now c.in-Some.column.now (cut c.args.asked.chunk_size (rows_of c.args.rows.runs.now)) found.0.items named typed e)
     c.read_column.ensures.typed c.read_column.ensures.cells
 
 pub returns-clause-lent : goal.returns-clause-lent
 returns-clause-lent g c =
     let told = g.S.Source.told c.args.source.now in
-    let by_pages = c.args.by_pages in
-    let group = c.args.group.now in
+    let by_pages = c.args.asked.by_pages in
+    let group = c.args.rows.group.now in
     let field = c.args.field.now in
     let column = c.in-Some.column.now in
-    let rows = rows_of c.args.runs.now in
+    let rows = rows_of c.args.rows.runs.now in
     let named = sym c.column_named.ensures ∙ ap option_copied c.in-Some.is in
     on_ok_weaker c.read_column.result (just_as told c.args.steps.now c.read_column.new.steps (λ bytes. lent_of_read by_pages bytes group rows field.data_type column) (λ bytes. lent_of_column by_pages bytes group rows field)
     (named_lent told by_pages group rows field column named)) c.read_column.ensures.lent
@@ -34,11 +34,11 @@ returns-clause-lent g c =
 pub returns-clause-taken : goal.returns-clause-taken
 returns-clause-taken g c =
     let told = g.S.Source.told c.args.source.now in
-    let by_pages = c.args.by_pages in
-    let group = c.args.group.now in
+    let by_pages = c.args.asked.by_pages in
+    let group = c.args.rows.group.now in
     let field = c.args.field.now in
     let column = c.in-Some.column.now in
-    let rows = rows_of c.args.runs.now in
+    let rows = rows_of c.args.rows.runs.now in
     let named = sym c.column_named.ensures ∙ ap option_copied c.in-Some.is in
     on_ok_weaker c.read_column.result (rises_as told (g.S.Source.taken c.args.source.now) (g.S.Source.taken c.read_column.new.source) (λ bytes. (if by_pages then offset_index_length column else 0) + taken_of_read by_pages bytes group rows field.data_type column) (λ bytes. column_taken by_pages bytes group rows field)
     (taken_named told by_pages group rows field column named)) c.read_column.ensures.taken

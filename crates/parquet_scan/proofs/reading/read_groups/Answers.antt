@@ -4,22 +4,21 @@ use Rattle.std.proofs.lemmas.List.{drop_all}
 use Rattle.std.proofs.lemmas.Result.{err_from_is_err_and}
 use Rattle.parquet_base.specs.Intervals.{row_count}
 use Rattle.parquet_base.specs.declared.interval.Interval.{Interval}
-use Rattle.parquet_meta.specs.declared.metadata.RowGroupMetaData.{RowGroupMetaData}
-use Rattle.parquet_meta.specs.Source.{IsReadFailure}
-use Rattle.parquet_scan.specs.Counting.{AreFirst, causes_if_read, causes_of_groups, chunks_if_read, lies_in_group, lent_if_read, rows_of_groups, shown, taken_if_read}
+use Rattle.parquet_scan.specs.Counting.{AreFirst, causes_if_read, chunks_if_read, lies_in_group, lent_if_read, rows_of_groups, shown, taken_if_read}
 use Rattle.parquet_scan.specs.Scan.{RisesBy, RisesJustBy}
+use Rattle.parquet_scan.proofs.CallLemmas.{refuses}
 use Rattle.parquet_scan.proofs.CostLemmas.{rises_pairs, sum_left}
 use Rattle.parquet_scan.proofs.ExactCounts.{just_pair, just_pairs, most_pair}
 use Rattle.parquet_scan.proofs.PairLemmas.{flat_pair, none_pair, pair_passes}
-use Rattle.parquet_scan.proofs.ScanLemmas.{fails_more, in_pair}
+use Rattle.parquet_scan.proofs.ScanLemmas.{in_pair}
 use Rattle.parquet_scan.proofs.reading.read_groups.Goals as goal
 
 pub loop-i-preserved : goal.loop-i-preserved
 loop-i-preserved g c =
     let told = g.S.Source.told c.args.source.now in
-    let by_pages = c.args.by_pages in
-    let size = c.args.chunk_size in
-    let fields = c.args.fields.now in
+    let by_pages = c.args.asked.by_pages in
+    let size = c.args.asked.chunk_size in
+    let fields = c.args.asked.fields.now in
     let groups = c.args.groups.now in
     let given = c.args.given.now in
     let i = c.loop-i.i in
@@ -28,13 +27,13 @@ loop-i-preserved g c =
     let below : i < length given = omega (arith, c.loop-i-test.true, c.requires.lengths) in
     let beside = subst (λ (runs : List Interval). runs ≡ get_or given i runs) (sym c.as_slice-runs.ensures) c.index-given-i.is in
     let same = c.loop-i.invariant.keeps.same in
-    let none = subst (λ (told : Option (List ℕ)). IfSome told (λ bytes. causes_if_read by_pages size fields bytes (group, runs) ≡ [])) same c.in_ok-read_if_given.ensures.ok in
+    let none = subst (λ (told : Option (List ℕ)). IfSome told (λ bytes. causes_if_read by_pages size fields bytes (group, runs) ≡ [])) same c.in_ok-read_if_given.ensures.reads.ok in
     let chunks = subst (λ (told : Option (List ℕ)). IfSome told (λ bytes. shown c.read_if_given.new.read.chunks.items ≡ shown c.loop-i.read.chunks.items ++ chunks_if_read by_pages size fields bytes (group, runs))) same c.in_ok-read_if_given.ensures.chunks in
     let lent = subst (λ (told : Option (List ℕ)). RisesJustBy told c.loop-i.steps c.read_if_given.new.steps (λ bytes. lent_if_read by_pages fields bytes (group, runs))) same c.in_ok-read_if_given.ensures.lent in
     let taken = subst (λ (told : Option (List ℕ)). RisesBy told (g.S.Source.taken c.loop-i.source) (g.S.Source.taken c.read_if_given.new.source) (λ bytes. taken_if_read by_pages fields bytes (group, runs))) same c.in_ok-read_if_given.ensures.taken in
     record {
       keeps = search rules;
-      quiet = c.in_ok-read_if_given.ensures.quiet ∙ c.loop-i.invariant.quiet;
+      quiet = c.in_ok-read_if_given.ensures.reads.quiet ∙ c.loop-i.invariant.quiet;
       none = none_pair told (causes_if_read by_pages size fields) groups given i group runs runs c.loop-i-test.true below c.index-groups-i.is beside c.loop-i.invariant.none none;
       chunks = flat_pair told (chunks_if_read by_pages size fields) groups given i group runs (shown c.args.read.now.chunks.items) (shown c.loop-i.read.chunks.items) (shown c.read_if_given.new.read.chunks.items)
           c.loop-i-test.true below c.index-groups-i.is beside c.loop-i.invariant.chunks chunks;
@@ -66,26 +65,18 @@ read_if_given-requires-clause-first g c =
     let runs = c.as_slice-runs.result.now in
     let below : i < length given = omega (arith, c.loop-i-test.true, c.requires.lengths) in
     let beside = subst (λ (runs : List Interval). runs ≡ get_or given i runs) (sym c.as_slice-runs.ensures) c.index-given-i.is in
-    subst (AreFirst c.args.by_pages) (sym beside) (c.requires.first i runs below)
+    subst (AreFirst c.args.asked.by_pages) (sym beside) (c.requires.first i runs below)
 
-pub returns-in_err-read_if_given-clause-fails : goal.returns-in_err-read_if_given-clause-fails
-returns-in_err-read_if_given-clause-fails g c =
+pub returns-in_err-read_if_given-clause-reads : goal.returns-in_err-read_if_given-clause-reads
+returns-in_err-read_if_given-clause-reads g c =
     let p = err_from_is_err_and c.from_residual.result c.from_residual.ensures.1 in
-    let told = g.S.Source.told c.args.source.now in
-    let before = g.S.Source.faults c.args.source.now in
-    let mid = g.S.Source.faults c.loop-i.source in
-    let now = g.S.Source.faults c.read_if_given.new.source in
     let given = c.args.given.now in
     let i = c.loop-i.i in
     let runs = c.as_slice-runs.result.now in
     let below : i < length given = omega (arith, c.loop-i-test.true, c.requires.lengths) in
     let beside = subst (λ (runs : List Interval). runs ≡ get_or given i runs) (sym c.as_slice-runs.ensures) c.index-given-i.is in
-    let group : RowGroupMetaData × List Interval = (c.index-groups-i.result, runs) in
-    let causes : List ℕ → RowGroupMetaData × List Interval → _ = causes_if_read c.args.by_pages c.args.chunk_size c.args.fields.now in
-    rw (p.1, p.2) (fails_more told before mid now (λ bytes. causes bytes group) (λ bytes. causes_of_groups c.args.by_pages c.args.chunk_size c.args.fields.now bytes c.args.groups.now given)
-    c.in_err-read_if_given.field-0.0 c.loop-i.invariant.keeps.later
-    (in_pair told causes c.args.groups.now given i c.index-groups-i.result runs runs c.loop-i-test.true below c.index-groups-i.is beside)
-    (subst (λ (told : Option (List ℕ)). IsReadFailure told mid now (λ bytes. causes bytes group) c.in_err-read_if_given.field-0.0) c.loop-i.invariant.keeps.same c.in_err-read_if_given.ensures.fails))
+    rw (p.1, p.2) (refuses c.loop-i.invariant.keeps c.in_err-read_if_given.ensures.reads
+    (in_pair (g.S.Source.told c.args.source.now) (causes_if_read c.args.asked.by_pages c.args.asked.chunk_size c.args.asked.fields.now) c.args.groups.now given i c.index-groups-i.result runs runs c.loop-i-test.true below c.index-groups-i.is beside))
 
 none_left : (given : List (List Interval)) (i : ℕ) → length given ≤ i → rows_of_groups (drop i given) ≡ 0
 none_left given i h = ap rows_of_groups (drop_all i given h)
@@ -95,8 +86,8 @@ returns-clause-rows g c = omega (arith, c.loop-i.invariant.rows, c.loop-i.invari
 
 pub returns-clause-lent : goal.returns-clause-lent
 returns-clause-lent g c =
-    just_pairs (g.S.Source.told c.args.source.now) (lent_if_read c.args.by_pages c.args.fields.now) c.args.groups.now c.args.given.now c.loop-i.i c.args.steps.now c.loop-i.steps (omega arith) c.loop-i.invariant.lent
+    just_pairs (g.S.Source.told c.args.source.now) (lent_if_read c.args.asked.by_pages c.args.asked.fields.now) c.args.groups.now c.args.given.now c.loop-i.i c.args.steps.now c.loop-i.steps (omega arith) c.loop-i.invariant.lent
 
 pub returns-clause-taken : goal.returns-clause-taken
 returns-clause-taken g c =
-    rises_pairs (g.S.Source.told c.args.source.now) (taken_if_read c.args.by_pages c.args.fields.now) c.args.groups.now c.args.given.now c.loop-i.i (g.S.Source.taken c.args.source.now) (g.S.Source.taken c.loop-i.source) (omega arith) c.loop-i.invariant.taken
+    rises_pairs (g.S.Source.told c.args.source.now) (taken_if_read c.args.asked.by_pages c.args.asked.fields.now) c.args.groups.now c.args.given.now c.loop-i.i (g.S.Source.taken c.args.source.now) (g.S.Source.taken c.loop-i.source) (omega arith) c.loop-i.invariant.taken

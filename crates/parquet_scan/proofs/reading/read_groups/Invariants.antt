@@ -14,14 +14,14 @@ invariant-loop-i g l =
       keeps : Keeps source l.fn.source l.source;
       quiet : source.faults l.source ≡ source.faults l.fn.source;
       none : IfSome (source.told l.fn.source) (λ bytes.
-          causes_of_groups l.by_pages l.chunk_size l.fields bytes l.groups l.given ≡ causes_of_groups l.by_pages l.chunk_size l.fields bytes (drop l.i l.groups) (drop l.i l.given));
+          causes_of_groups l.asked.by_pages l.asked.chunk_size l.asked.fields.now bytes l.groups l.given ≡ causes_of_groups l.asked.by_pages l.asked.chunk_size l.asked.fields.now bytes (drop l.i l.groups) (drop l.i l.given));
       chunks : IfSome (source.told l.fn.source) (λ bytes.
-          shown l.fn.read.chunks.items ++ chunks_of_groups l.by_pages l.chunk_size l.fields bytes l.groups l.given
-          ≡ shown l.read.chunks.items ++ chunks_of_groups l.by_pages l.chunk_size l.fields bytes (drop l.i l.groups) (drop l.i l.given));
+          shown l.fn.read.chunks.items ++ chunks_of_groups l.asked.by_pages l.asked.chunk_size l.asked.fields.now bytes l.groups l.given
+          ≡ shown l.read.chunks.items ++ chunks_of_groups l.asked.by_pages l.asked.chunk_size l.asked.fields.now bytes (drop l.i l.groups) (drop l.i l.given));
       lent : IfSome (source.told l.fn.source) (λ bytes.
-          l.steps + lent_of_groups l.by_pages l.fields bytes (drop l.i l.groups) (drop l.i l.given) ≡ l.fn.steps + lent_of_groups l.by_pages l.fields bytes l.groups l.given);
+          l.steps + lent_of_groups l.asked.by_pages l.asked.fields.now bytes (drop l.i l.groups) (drop l.i l.given) ≡ l.fn.steps + lent_of_groups l.asked.by_pages l.asked.fields.now bytes l.groups l.given);
       taken : IfSome (source.told l.fn.source) (λ bytes.
-          source.taken l.source + taken_of_groups l.by_pages l.fields bytes (drop l.i l.groups) (drop l.i l.given) ≤ source.taken l.fn.source + taken_of_groups l.by_pages l.fields bytes l.groups l.given);
+          source.taken l.source + taken_of_groups l.asked.by_pages l.asked.fields.now bytes (drop l.i l.groups) (drop l.i l.given) ≤ source.taken l.fn.source + taken_of_groups l.asked.by_pages l.asked.fields.now bytes l.groups l.given);
       rows : min (l.fn.read.rows + rows_of_groups l.given) (2 ^ 64 - 1) ≡ min (l.read.rows + rows_of_groups (drop l.i l.given)) (2 ^ 64 - 1);
       own_rows : l.fn.read.rows ≡ rows_in l.fn.read.chunks.items → l.read.rows ≡ rows_in l.read.chunks.items;
       even : All AreEqualLengths l.fn.read.chunks.items → All AreEqualLengths l.read.chunks.items;
