@@ -1,8 +1,9 @@
 -- Bytes that are taken one piece after another.
-use Rattle.std.proofs.Common.{◌≡◌, ◌∙◌, ℕ, ◌≤◌, List, [], ◌++◌, append_assoc, ap, arith, refl, subst, sym}
+use Rattle.std.proofs.Common.{◌≡◌, ◌∙◌, ℕ, ◌+◌, ◌<◌, ◌≤◌, List, [], ◌++◌, append_assoc, ap, arith, drop, get_or, length, refl, subst, sym}
 use Rattle.std.specs.Prelude.{Result, Ok, Err, IsErr, OnErr, OnOk}
 use Rattle.std.proofs.lemmas.Bool.{false≢true}
-use Rattle.std.proofs.lemmas.List.{append-nil}
+use Rattle.std.specs.List.{flat_map}
+use Rattle.std.proofs.lemmas.List.{append-nil, at_drop_more}
 use Rattle.std.proofs.lemmas.Result.{on_ok_weaker, on_err_weaker}
 use Rattle.parquet_base.specs.Failures.{CountsFailures}
 use Rattle.pq_common.specs.Taken.{TakesBytes}
@@ -77,3 +78,9 @@ straight g p q bytes r all front counted quiet = record {
   counted = counted;
   quiet = quiet;
 }
+
+-- what the next item spells, and what those behind it do
+pub next_item : {X : Type 0} (f : X → List ℕ) (xs : List X) (i : ℕ) (x : X) → i < length xs → x ≡ get_or xs i x
+    → flat_map f (drop i xs) ≡ f x ++ flat_map f (drop (i + 1) xs)
+next_item f xs i x within is =
+    at_drop_more (flat_map f) xs i x within ∙ ap (λ x. f x ++ flat_map f (drop (i + 1) xs)) (sym is)

@@ -1,9 +1,8 @@
 //! Bytes on their way to a sink, gathered into blocks. No call takes memory, so that only the sink can fail.
-ghost use Rattle.std.specs.Prelude.{◌≡◌, ◌+◌, ◌≤◌, ◌++◌, [], decimal, length, take, OnOk};
+ghost use Rattle.std.specs.Prelude.{◌≡◌, ◌+◌, ◌≤◌, ◌++◌, [], length, take, OnOk};
 ghost use Rattle.pq_common.specs.Taken.{TakesBytes};
 
 use crate::sink::{Sink, write_all};
-use itoa::Buffer;
 use parquet_meta::Failed;
 use std::marker::Model;
 
@@ -38,7 +37,7 @@ impl Block {
         }
     }
 
-    /// TakesBytes a piece. Where it has no room behind the bytes that are held, these go to the sink before.
+    /// Takes a piece. Where it has no room behind the bytes that are held, these go to the sink before.
     pub fn push<K: Sink>(&mut self, out: &mut K, piece: &[u8]) -> Result<(), Failed>
         ensures { TakesBytes K.Sink out.old out.new (self.old ++ piece.now) self.new result }
     {
@@ -59,14 +58,6 @@ impl Block {
         }
         self.hold(piece);
         Ok(())
-    }
-
-    /// TakesBytes the decimal digits of a count.
-    pub fn push_unsigned<K: Sink>(&mut self, out: &mut K, number: usize) -> Result<(), Failed>
-        ensures { TakesBytes K.Sink out.old out.new (self.old ++ decimal number) self.new result }
-    {
-        let mut buffer = Buffer::new();
-        self.push(out, buffer.format(number).as_bytes())
     }
 
     /// Writes the bytes that are held.

@@ -1,23 +1,21 @@
 //! Cells as text.
-ghost use Rattle.std.specs.Prelude.{◌≡◌, ◌<◌, ◌≤◌, ◌++◌, [], true, codes, flat_map, length, map, take, IfErr, IfNone, IfSome, OnOk};
+ghost use Rattle.std.specs.Prelude.{◌≡◌, ◌<◌, ◌≤◌, ◌++◌, [], true, codes, flat_map, length, take, IfNone, IfSome};
 ghost use Rattle.columns_core.specs.Array.{column_of};
-ghost use Rattle.columns_core.specs.Causes.{IsWantOfMemory};
-ghost use Rattle.columns_core.specs.Column.{cell_of};
-ghost use Rattle.columns_core.specs.Keyed.{named_cells};
-ghost use Rattle.columns_core.specs.declared.cell.Cell.{Bytes, Text};
+ghost use Rattle.columns_core.specs.Lent.{cell_lent};
 ghost use Rattle.pq_common.specs.CellText as spec;
 ghost use Rattle.pq_common.specs.CellText.{cell_text, days_text, hexadecimal, quoted, quoted_byte};
 ghost use Rattle.pq_common.specs.Pieces.{piece_bytes};
-ghost use Rattle.pq_common.specs.Rows.{cell_at, text_in};
+ghost use Rattle.pq_common.specs.Rows.{cell_at};
+ghost use Rattle.pq_common.specs.Taken.{TakesBytes};
 
-use crate::column::push_number;
-use crate::digits::push_signed;
-use columns_core::{Array, BinaryArray, Cell, DictionaryArray, Error, Offset, Utf8Array};
-use std::alloc::{AllocError, Global};
+use crate::block::Block;
+use crate::sink::Sink;
+use columns_core::{Array, Lent};
+use parquet_meta::Failed;
 
 const DIGITS: [u8; 16] = *b"0123456789abcdef";
 
-/// How many bytes of a text are compared side by side: in long stretches, and in what is left of one.
+/// How many bytes of a text are compared side by side: of a long stretch, of what is left of it, and of what is left of that.
 const LONG_BLOCK: usize = 64;
 
 const BLOCK: usize = 16;
@@ -42,142 +40,108 @@ impl Piece<'_> {
     }
 }
 
-/// Writes the cell of a column in a row at the end, and nothing where the column has no such row.
-pub fn push_cell(alloc: Global, text: &mut Vec<u8>, array: &Array, row: usize) -> Result<(), Error>
-    ensures cell { OnOk result (text.new.items ≡ text.old.items ++ cell_at row (column_of array.now)) }
-    ensures memory { IfErr result IsWantOfMemory }
-{
-    match array {
-        Array::Dictionary(array) => push_named(alloc, text, array, row),
-        _ => push_value(alloc, text, array, row),
-    }
-}
-
-/// Writes the entry that the key of a row names at the end, where it lies.
-fn push_named(
-    alloc: Global,
-    text: &mut Vec<u8>,
-    array: &DictionaryArray,
+/// Takes the cell of a column in a row, and nothing where the column has no such row.
+pub fn push_cell<K: Sink>(
+    block: &mut Block,
+    out: &mut K,
+    array: &Array,
     row: usize,
-) -> Result<(), Error>
-    ensures cell { OnOk result (text.new.items ≡ text.old.items ++ text_in row (named_cells array.now)) }
-    ensures memory { IfErr result IsWantOfMemory }
+) -> Result<(), Failed>
+    ensures { let text = cell_at row (column_of array.now) in
+        TakesBytes K.Sink out.old out.new (block.old ++ text) block.new result }
 {
     if row >= array.len() {
         return Ok(());
     }
-    match array.key(row) {
-        None => Ok(text.extend_from_slice(b"null")?),
-        Some(entry) => push_value(alloc, text, array.values(), entry as usize),
-    }
+    push_lent(block, out, array.lent(row))
 }
 
-/// Writes the cell of a row of any array at the end.
-fn push_value(alloc: Global, text: &mut Vec<u8>, array: &Array, row: usize) -> Result<(), Error>
-    ensures cell { OnOk result (text.new.items ≡ text.old.items ++ cell_at row (column_of array.now)) }
-    ensures memory { IfErr result IsWantOfMemory }
-{
-    match array {
-        // Numbers are the most of all cells, and are written where they lie.
-        Array::Int32(array) => {
-            push_number(text, array, row)?;
-            Ok(())
-        }
-        // Texts and byte strings are not copied into cells.
-        Array::Utf8(array) => Ok(push_text(text, array, row)?),
-        Array::LargeUtf8(array) => Ok(push_text(text, array, row)?),
-        Array::Binary(array) => Ok(push_string(text, array, row)?),
-        Array::LargeBinary(array) => Ok(push_string(text, array, row)?),
-        _ => {
-            if row >= array.len() {
-                return Ok(());
-            }
-            push_cell_text(text, &array.item(alloc, row)?)?;
-            Ok(())
-        }
-    }
-}
-
-fn push_cell_text(text: &mut Vec<u8>, cell: &Cell) -> Result<(), AllocError>
-    ensures { OnOk result (text.new.items ≡ text.old.items ++ cell_text cell.now) }
+/// Takes a cell, which is read where it lies.
+fn push_lent<K: Sink>(block: &mut Block, out: &mut K, cell: Lent<'_>) -> Result<(), Failed>
+    ensures { let text = cell_text (cell_lent cell.entry) in
+        TakesBytes K.Sink out.old out.new (block.old ++ text) block.new result }
 {
     match cell {
-        Cell::Null => text.extend_from_slice(b"null"),
-        Cell::Bool(true) => text.extend_from_slice(b"true"),
-        Cell::Bool(false) => text.extend_from_slice(b"false"),
-        Cell::Int(number) => push_signed(text, *number),
-        Cell::DaysMs(days, milliseconds) => push_days(text, *days, *milliseconds),
-        Cell::Text(name) => push_quoted(text, name.as_str().as_bytes()),
-        Cell::Bytes(bytes) => push_bytes(text, bytes.as_slice()),
+        Lent::Null => block.push(out, b"null"),
+        Lent::Bool(true) => block.push(out, b"true"),
+        Lent::Bool(false) => block.push(out, b"false"),
+        Lent::Int(number) => block.push_signed(out, number),
+        Lent::DaysMs(days, milliseconds) => {
+            push_days(block, out, days as i128, milliseconds as i128)
+        }
+        Lent::Text(text) => push_quoted(block, out, text.as_bytes()),
+        Lent::Bytes(bytes) => push_bytes(block, out, bytes),
         // No cell of a flat column is a list.
-        Cell::Cells(_) => Ok(()),
+        Lent::Cells(_) => Ok(()),
     }
 }
 
-fn push_days(text: &mut Vec<u8>, days: i32, milliseconds: i32) -> Result<(), AllocError>
-    ensures { OnOk result (text.new.items ≡ text.old.items ++ days_text days milliseconds) }
+fn push_days<K: Sink>(
+    block: &mut Block,
+    out: &mut K,
+    days: i128,
+    milliseconds: i128,
+) -> Result<(), Failed>
+    ensures { let text = days_text days milliseconds in
+        TakesBytes K.Sink out.old out.new (block.old ++ text) block.new result }
 {
-    push_signed(text, days as i128)?;
-    text.push(b'/')?;
-    push_signed(text, milliseconds as i128)
+    block.push_signed(out, days)?;
+    block.push(out, b"/")?;
+    block.push_signed(out, milliseconds)
 }
 
-/// Writes the text or null of a row at the end.
-fn push_text<O: Offset>(
-    text: &mut Vec<u8>,
-    array: &Utf8Array<O>,
-    row: usize,
-) -> Result<(), AllocError>
-    ensures { let cells = map (cell_of Text) array.now.items in
-        OnOk result (text.new.items ≡ text.old.items ++ text_in row cells) }
+/// Takes a text in quotes.
+pub(crate) fn push_quoted<K: Sink>(
+    block: &mut Block,
+    out: &mut K,
+    bytes: &[u8],
+) -> Result<(), Failed>
+    ensures { TakesBytes K.Sink out.old out.new (block.old ++ quoted bytes.now) block.new result }
 {
-    if row >= array.len() {
-        return Ok(());
-    }
-    match array.get(row) {
-        None => text.extend_from_slice(b"null"),
-        Some(name) => push_quoted(text, name.as_bytes()),
-    }
+    block.push(out, b"\"")?;
+    push_pieces(block, out, bytes)?;
+    block.push(out, b"\"")
 }
 
-/// Writes the byte string or null of a row at the end.
-fn push_string<O: Offset>(
-    text: &mut Vec<u8>,
-    array: &BinaryArray<O>,
-    row: usize,
-) -> Result<(), AllocError>
-    ensures { let cells = map (cell_of Bytes) array.now.items in
-        OnOk result (text.new.items ≡ text.old.items ++ text_in row cells) }
-{
-    if row >= array.len() {
-        return Ok(());
-    }
-    match array.get(row) {
-        None => text.extend_from_slice(b"null"),
-        Some(bytes) => push_bytes(text, bytes),
-    }
-}
-
-/// Writes a text in quotes at the end.
-fn push_quoted(text: &mut Vec<u8>, bytes: &[u8]) -> Result<(), AllocError>
-    ensures { OnOk result (text.new.items ≡ text.old.items ++ quoted bytes.now) }
-{
-    text.push(b'"')?;
-    push_escaped(text, bytes)?;
-    text.push(b'"')?;
-    Ok(())
-}
-
-/// Writes a text at the end, the bytes that stand for themselves side by side.
-fn push_escaped(text: &mut Vec<u8>, bytes: &[u8]) -> Result<(), AllocError>
-    ensures { OnOk result (text.new.items ≡ text.old.items ++ flat_map quoted_byte bytes.now) }
+/// Takes the bytes of a text, those that stand for themselves side by side.
+fn push_pieces<K: Sink>(block: &mut Block, out: &mut K, bytes: &[u8]) -> Result<(), Failed>
+    ensures { let text = flat_map quoted_byte bytes.now in
+        TakesBytes K.Sink out.old out.new (block.old ++ text) block.new result }
 {
     let mut rest = bytes;
     while let Some((piece, behind)) = next_piece(rest) {
-        text.extend_from_slice(piece.bytes())?;
+        block.push(out, piece.bytes())?;
         rest = behind;
     }
     Ok(())
+}
+
+/// Takes bytes in hexadecimal digits.
+fn push_bytes<K: Sink>(block: &mut Block, out: &mut K, bytes: &[u8]) -> Result<(), Failed>
+    ensures { let text = codes "0x" ++ flat_map hexadecimal bytes.now in
+        TakesBytes K.Sink out.old out.new (block.old ++ text) block.new result }
+{
+    block.push(out, b"0x")?;
+    push_digits(block, out, bytes)
+}
+
+fn push_digits<K: Sink>(block: &mut Block, out: &mut K, bytes: &[u8]) -> Result<(), Failed>
+    ensures { let text = flat_map hexadecimal bytes.now in
+        TakesBytes K.Sink out.old out.new (block.old ++ text) block.new result }
+{
+    for byte in bytes {
+        block.push(out, &digits_of(*byte))?;
+    }
+    Ok(())
+}
+
+/// The two hexadecimal digits of a byte.
+fn digits_of(byte: u8) -> [u8; 2]
+    ensures { result ≡ hexadecimal byte }
+{
+    let high = DIGITS[(byte / 16) as usize];
+    let low = DIGITS[(byte % 16) as usize];
+    [high, low]
 }
 
 /// The first piece of a text that is not empty, and the bytes behind it.
@@ -199,8 +163,7 @@ pub(crate) fn next_piece(bytes: &[u8]) -> Option<(Piece<'_>, &[u8])>
 fn escape_of(byte: u8) -> [u8; 4]
     ensures { result ≡ codes "\\x" ++ hexadecimal byte }
 {
-    let high = DIGITS[(byte / 16) as usize];
-    let low = DIGITS[(byte % 16) as usize];
+    let [high, low] = digits_of(byte);
     [b'\\', b'x', high, low]
 }
 
@@ -258,30 +221,4 @@ fn is_escaped(byte: u8) -> bool
     ensures { result ≡ spec.is_escaped byte }
 {
     (byte == b'\\') | (byte == b'"') | (byte < 32) | (byte == 127)
-}
-
-/// Writes bytes in hexadecimal digits at the end.
-fn push_bytes(text: &mut Vec<u8>, bytes: &[u8]) -> Result<(), AllocError>
-    ensures { OnOk result (text.new.items ≡
-        text.old.items ++ codes "0x" ++ flat_map hexadecimal bytes.now) }
-{
-    text.extend_from_slice(b"0x")?;
-    push_digits(text, bytes)
-}
-
-fn push_digits(text: &mut Vec<u8>, bytes: &[u8]) -> Result<(), AllocError>
-    ensures { OnOk result (text.new.items ≡ text.old.items ++ flat_map hexadecimal bytes.now) }
-{
-    for byte in bytes {
-        push_hexadecimal(text, *byte)?;
-    }
-    Ok(())
-}
-
-fn push_hexadecimal(text: &mut Vec<u8>, byte: u8) -> Result<(), AllocError>
-    ensures { OnOk result (text.new.items ≡ text.old.items ++ hexadecimal byte) }
-{
-    text.push(DIGITS[(byte / 16) as usize])?;
-    text.push(DIGITS[(byte % 16) as usize])?;
-    Ok(())
 }

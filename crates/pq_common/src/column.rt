@@ -1,5 +1,5 @@
 //! A column of numbers as text. Its bytes are written from the last to the first, as digits come.
-ghost use Rattle.std.specs.Prelude.{◌≡◌, ◌+◌, ◌-◌, ◌*◌, ◌<◌, ◌≤◌, ◌++◌, codes, drop, length, OnOk};
+ghost use Rattle.std.specs.Prelude.{◌≡◌, ◌+◌, ◌-◌, ◌*◌, ◌<◌, ◌≤◌, ◌++◌, codes, drop, length};
 ghost use Rattle.columns_core.specs.Array.{column_of};
 ghost use Rattle.pq_common.specs.Rows.{cell_at, line_of, lines_of};
 ghost use Rattle.pq_common.specs.Taken.{TakesBytes};
@@ -9,7 +9,6 @@ use crate::digits::write_i32;
 use crate::sink::Sink;
 use columns_core::{Array, PrimitiveArray};
 use parquet_meta::Failed;
-use std::alloc::AllocError;
 
 /// The most bytes of a number of 32 bits.
 const MAX_NUMBER_BYTES: usize = 11;
@@ -20,7 +19,7 @@ const MAX_LINE_BYTES: usize = MAX_NUMBER_BYTES + 1;
 /// How many bytes of lines are written before they go to the sink's block.
 const LINES_BYTES: usize = 4096;
 
-/// TakesBytes the lines of all rows, many at a time.
+/// Takes the lines of all rows, many at a time.
 pub fn push_number_lines<K: Sink>(
     block: &mut Block,
     out: &mut K,
@@ -89,22 +88,4 @@ fn write_null(block: &mut [u8], end: usize) -> usize
     let start = end - 4;
     block[start..end].copy_from_slice(b"null");
     start
-}
-
-/// Writes the number or null of a row at the end.
-pub(crate) fn push_number(
-    text: &mut Vec<u8>,
-    array: &PrimitiveArray<i32>,
-    row: usize,
-) -> Result<(), AllocError>
-    ensures { OnOk result (text.new.items
-        ≡ text.old.items ++ cell_at row (column_of (Array.Int32 array.now))) }
-{
-    // A row behind the last has no cell.
-    if row >= array.len() {
-        return Ok(());
-    }
-    let mut block = [0; MAX_NUMBER_BYTES];
-    let start = write_number(&mut block, MAX_NUMBER_BYTES, array, row);
-    text.extend_from_slice(&block[start..])
 }

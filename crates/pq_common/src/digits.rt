@@ -1,26 +1,46 @@
-//! Numbers as text: at the end of a text, or in place.
-ghost use Rattle.std.specs.Prelude.{◌≡◌, ◌+◌, ◌≤◌, ◌++◌, decimal, drop, length, OnOk};
+//! Numbers as text: on their way to a sink, or in place.
+ghost use Rattle.std.specs.Prelude.{◌≡◌, ◌+◌, ◌≤◌, ◌++◌, decimal, drop, length};
 ghost use Rattle.std.specs.Fmt.{signed_decimal};
+ghost use Rattle.pq_common.specs.Taken.{TakesBytes};
 
+use crate::block::Block;
+use crate::sink::Sink;
 use itoa::{Buffer, write_digits};
-use std::alloc::AllocError;
+use parquet_meta::Failed;
 
-/// Writes a number at the end.
-pub(crate) fn push_signed(text: &mut Vec<u8>, number: i128) -> Result<(), AllocError>
-    ensures { OnOk result (text.new.items ≡ text.old.items ++ signed_decimal number) }
-{
-    let mut buffer = Buffer::new();
-    text.extend_from_slice(buffer.format(number).as_bytes())?;
-    Ok(())
-}
+impl Block {
+    /// Takes the decimal digits of a count.
+    pub fn push_unsigned<K: Sink>(&mut self, out: &mut K, number: usize) -> Result<(), Failed>
+        ensures { TakesBytes K.Sink out.old out.new (self.old ++ decimal number) self.new result }
+    {
+        let mut buffer = Buffer::new();
+        self.push(out, buffer.format(number).as_bytes())
+    }
 
-/// Writes a count at the end.
-pub fn push_unsigned(text: &mut Vec<u8>, number: usize) -> Result<(), AllocError>
-    ensures { OnOk result (text.new.items ≡ text.old.items ++ decimal number) }
-{
-    let mut buffer = Buffer::new();
-    text.extend_from_slice(buffer.format(number).as_bytes())?;
-    Ok(())
+    /// Takes a label, and the decimal digits of a count behind it.
+    pub fn push_labelled<K: Sink>(
+        &mut self,
+        out: &mut K,
+        label: &[u8],
+        number: usize,
+    ) -> Result<(), Failed>
+        ensures { let text = label.now ++ decimal number in
+            TakesBytes K.Sink out.old out.new (self.old ++ text) self.new result }
+    {
+        self.push(out, label)?;
+        self.push_unsigned(out, number)
+    }
+
+    /// Takes the decimal digits of a number, behind a minus where it is negative.
+    pub(crate) fn push_signed<K: Sink>(&mut self, out: &mut K, number: i128) -> Result<(), Failed>
+        ensures { TakesBytes K.Sink out.old out.new (self.old ++ signed_decimal number) self.new result }
+    {
+        let mut buffer = Buffer::new();
+        match i64::try_from(number) {
+            Ok(short) => self.push(out, buffer.format(short).as_bytes()),
+            Err(_) => self.push(out, buffer.format(number).as_bytes()),
+        }
+    }
 }
 
 /// Writes a number of 32 bits before a place, and says where it begins.

@@ -15,7 +15,6 @@ mod values;
 pub use block::Block;
 pub use cells::push_cell;
 pub use column::push_number_lines;
-pub use digits::push_unsigned;
 pub use numbers::{count, signed_number};
 pub use sink::{FailingSink, MemorySink, Sink, StdSink, write_all};
 pub use status::{Status, status_text};

@@ -18,7 +18,7 @@ pub trait Sink {
     /// How often a call has failed. It never falls, and a call that takes a piece leaves it as it was.
     ghost faults: { Self → ℕ };
 
-    /// TakesBytes a front of the piece, and says how long.
+    /// Takes a front of the piece, and says how long.
     fn write(&mut self, piece: &[u8]) -> Result<usize, Failed>
         ensures at_most { IfOk result (λ n. n ≤ length piece.now) }
         ensures some { IfOk result (λ n. 0 < length piece.now → 0 < n) }

@@ -1,14 +1,14 @@
 //! A column of texts as lines. Texts whose bytes stand for themselves are written side by side, a block at a time.
-ghost use Rattle.std.specs.Prelude.{◌≡◌, ◌+◌, ◌≤◌, ◌++◌, List, codes, flat_map, if◌then◌else◌, length, map, option_copied, take, IfNone, IfSome};
+ghost use Rattle.std.specs.Prelude.{◌≡◌, ◌+◌, ◌≤◌, ◌++◌, List, codes, if◌then◌else◌, length, map, option_copied, take, IfNone, IfSome};
 ghost use Rattle.columns_core.specs.Column.{cell_of};
 ghost use Rattle.columns_core.specs.declared.cell.Cell.{Cell, Text};
 ghost use Rattle.columns_core.specs.declared.data_type.DataType.{DataType};
-ghost use Rattle.pq_common.specs.CellText.{cell_text, quoted, quoted_byte};
+ghost use Rattle.pq_common.specs.CellText.{cell_text, quoted};
 ghost use Rattle.pq_common.specs.Rows.{line, lines_of};
 ghost use Rattle.pq_common.specs.Taken.{TakesBytes};
 
 use crate::block::{Block, write_piece};
-use crate::cells::{is_plain, next_piece};
+use crate::cells::{is_plain, push_quoted};
 use crate::sink::Sink;
 use columns_core::{Offset, Utf8Array};
 use parquet_meta::Failed;
@@ -18,7 +18,7 @@ const AROUND_TEXT: usize = 3;
 
 const NULL_LINE: [u8; 5] = *b"null\n";
 
-/// TakesBytes the lines of all rows.
+/// Takes the lines of all rows.
 pub fn push_text_lines<K: Sink, O: Offset>(
     block: &mut Block,
     out: &mut K,
@@ -35,7 +35,7 @@ pub fn push_text_lines<K: Sink, O: Offset>(
     Ok(())
 }
 
-/// TakesBytes the line of a text or null.
+/// Takes the line of a text or null.
 fn push_text_line<K: Sink>(block: &mut Block, out: &mut K, name: Option<&str>) -> Result<(), Failed>
     ensures { let cell = cell_of Text (option_copied name.entry) in
         TakesBytes K.Sink out.old out.new (block.old ++ line (cell_text cell)) block.new result }
@@ -49,26 +49,12 @@ fn push_text_line<K: Sink>(block: &mut Block, out: &mut K, name: Option<&str>) -
     }
 }
 
-/// TakesBytes the line of a text, piece by piece.
+/// Takes the line of a text, piece by piece.
 fn push_quoted_line<K: Sink>(block: &mut Block, out: &mut K, bytes: &[u8]) -> Result<(), Failed>
     ensures { TakesBytes K.Sink out.old out.new (block.old ++ line (quoted bytes.now)) block.new result }
 {
-    block.push(out, b"\"")?;
-    push_pieces(block, out, bytes)?;
-    block.push(out, b"\"\n")
-}
-
-/// TakesBytes the bytes of a text, piece by piece.
-fn push_pieces<K: Sink>(block: &mut Block, out: &mut K, bytes: &[u8]) -> Result<(), Failed>
-    ensures { let text = flat_map quoted_byte bytes.now in
-        TakesBytes K.Sink out.old out.new (block.old ++ text) block.new result }
-{
-    let mut rest = bytes;
-    while let Some((piece, behind)) = next_piece(rest) {
-        block.push(out, piece.bytes())?;
-        rest = behind;
-    }
-    Ok(())
+    push_quoted(block, out, bytes)?;
+    block.push(out, b"\n")
 }
 
 impl Block {

@@ -20,6 +20,13 @@ pub no_command : (o : Option Command) (P : Type 0) → IfNone o ⊥ → IfNone o
 no_command None P h = absurd h
 no_command (Some command) P h = tt
 
+-- where a scan answers, the sample was not too great
+pub no_sample : {X : Type 0} (sample : Option X) (P : X → Type 0) (o : Option Command) (Q : Type 0)
+    → IfSome sample (λ x. P x → IfSome o (λ command. ⊥)) → IfSome sample (λ x. P x → IfSome o (λ command. Q))
+no_sample None P o Q h = tt
+no_sample (Some x) P None Q h = λ is. tt
+no_sample (Some x) P (Some command) Q h = λ is. absurd (h is)
+
 -- of the text that was made, all that holds of it
 pub of_report : (o : Option Command) (told : Option (List ℕ)) (pages : ℕ) (text : List ℕ) (Q : List ℕ → Type 0) → Q text
     → IfSome o (λ command. Reports command told pages (λ found. found ≡ text)) → IfSome o (λ command. Reports command told pages Q)

@@ -1,4 +1,3 @@
-pub mod Columns
 pub mod Parsed
 pub mod Program
 pub mod Report

@@ -2,14 +2,14 @@
 #![tactic(auto)]
 
 mod bounds;
-mod column;
+mod chunks;
 mod command;
+mod groups;
 mod items;
 mod parse;
 mod program;
 mod report;
 mod sampled;
 mod scanned;
-mod text;
 
 pub use program::run;

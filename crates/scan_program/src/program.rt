@@ -11,7 +11,7 @@ ghost use Rattle.scan_program.specs.Program.{IsLegal, IsStatusOfRefusal, OnComma
 ghost use Rattle.scan_program.specs.Sampled.{faults_by, is_too_great, sample_in, told_by};
 
 use crate::command::read_words;
-use crate::report::{report_on, write_report};
+use crate::report::write_report;
 use crate::scanned::{Scanned, scan_file};
 use columns_core::Error;
 use parquet_base::Steps;
@@ -87,12 +87,9 @@ pub fn run<S: Source, K: Sink, L: Ledger>(
 {
     match scan_for(alloc, words, source, steps) {
         Err(status) => status,
-        Ok(scanned) => match report_on(alloc, &scanned) {
-            Err(_) => Status::Memory,
-            Ok(report) => match write_report(out, &report) {
-                Ok(()) => Status::Done,
-                Err(_) => Status::Writing,
-            },
+        Ok(scanned) => match write_report(out, &scanned) {
+            Ok(()) => Status::Done,
+            Err(_) => Status::Writing,
         },
     }
 }

@@ -1,25 +1,13 @@
-use Rattle.std.proofs.Common.{◌≡◌, [], ◌∷◌, ◌++◌, ap, append_assoc, codes, refl, ℕ, List}
-use Rattle.std.specs.List.{flat_map}
-use Rattle.pq_common.specs.CellText.{quoted, quoted_byte}
-use Rattle.pq_common.specs.Rows.{line}
+use Rattle.std.proofs.Common.{refl}
+use Rattle.pq_common.specs.CellText.{quoted}
 use Rattle.pq_common.proofs.TakenLemmas.{begun, last_taken, piece_refused, piece_taken}
 use Rattle.pq_common.proofs.text_column.push_quoted_line.Goals as goal
 
--- a quote, the bytes of the text, a quote and the end
-parts : (bytes : List ℕ) → line (quoted bytes) ≡ codes "\"" ++ (flat_map quoted_byte bytes ++ codes "\"\n")
-parts bytes = ap (λ rest. 34 ∷ rest) (append_assoc (flat_map quoted_byte bytes) (codes "\"") (10 ∷ []))
-
-pub returns-in_err-push : goal.returns-in_err-push
-returns-in_err-push g c =
-    piece_refused g.K.Sink _ _ _ _ c.args.block.now _ (codes "\"") _ _ _ _ _ c.from_residual.ensures.0 (parts c.args.bytes.now) (begun g.K.Sink _ _) c.in_err-push.ensures
-
-pub returns-in_err-push_pieces : goal.returns-in_err-push_pieces
-returns-in_err-push_pieces g c =
-    let quote = piece_taken g.K.Sink _ _ _ _ c.args.block.now _ (codes "\"") _ _ _ (parts c.args.bytes.now) (begun g.K.Sink _ _) c.in_ok-push.ensures in
-    piece_refused g.K.Sink _ _ _ _ c.push.new.self _ (flat_map quoted_byte c.args.bytes.now) _ (codes "\"\n") _ _ _ c.from_residual-in_err-push_pieces.ensures.0 refl quote c.in_err-push_pieces.ensures
+pub returns-in_err-push_quoted : goal.returns-in_err-push_quoted
+returns-in_err-push_quoted g c =
+    piece_refused g.K.Sink _ _ _ _ c.args.block.now _ (quoted c.args.bytes.now) _ _ _ _ _ c.from_residual.ensures.0 refl (begun g.K.Sink _ _) c.in_err-push_quoted.ensures
 
 pub returns : goal.returns
 returns g c =
-    let quote = piece_taken g.K.Sink _ _ _ _ c.args.block.now _ (codes "\"") _ _ _ (parts c.args.bytes.now) (begun g.K.Sink _ _) c.in_ok-push.ensures in
-    let text = piece_taken g.K.Sink _ _ _ _ c.push.new.self _ (flat_map quoted_byte c.args.bytes.now) _ (codes "\"\n") _ refl quote c.in_ok-push_pieces.ensures in
-    last_taken g.K.Sink _ _ _ _ _ _ _ text c.push-2.ensures
+    let text = piece_taken g.K.Sink _ _ _ _ c.args.block.now _ (quoted c.args.bytes.now) _ _ _ refl (begun g.K.Sink _ _) c.in_ok-push_quoted.ensures in
+    last_taken g.K.Sink _ _ _ _ _ _ _ text c.push.ensures

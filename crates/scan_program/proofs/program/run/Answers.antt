@@ -1,9 +1,9 @@
-use Rattle.std.proofs.Common.{inr, refl, subst}
-use Rattle.std.specs.Prelude.{List, ℕ}
+use Rattle.std.proofs.Common.{inr, refl}
+use Rattle.std.specs.Prelude.{IsTrue}
 use Rattle.scan_program.specs.Program.{command_in}
-use Rattle.scan_program.specs.Sampled.{told_by}
+use Rattle.scan_program.specs.Sampled.{is_too_great, sample_in, told_by}
 use Rattle.pq_common.specs.Written.{IsFrontAppended}
-use Rattle.scan_program.proofs.ScanLemmas.{always, no_command, of_report, passed_up}
+use Rattle.scan_program.proofs.ScanLemmas.{always, no_command, no_sample, of_report, passed_up}
 use Rattle.scan_program.proofs.program.run.Goals as goal
 
 pub returns-in-Err-clause-complete : goal.returns-in-Err-clause-complete
@@ -17,8 +17,12 @@ pub returns-clause-front : goal.returns-clause-front
 returns-clause-front g c same =
     let written = g.K.Sink.written in
     of_report (command_in c.args.words.now) (told_by c.args.words.now (g.S.Source.told c.args.source.now)) _ _ (IsFrontAppended (written c.args.out.now) (written c.write_report.new.out))
-    (subst (λ (text : List ℕ). IsFrontAppended (written c.args.out.now) (written c.write_report.new.out) text) c.in-Ok-report_on.ensures.text c.in-Err-write_report.ensures.err) c.in-Ok.ensures.scanned
+    c.in-Err-write_report.ensures.err c.in-Ok.ensures.scanned
 
 pub returns-clause-complete : goal.returns-clause-complete
 returns-clause-complete g c =
     always (command_in c.args.words.now) (told_by c.args.words.now (g.S.Source.told c.args.source.now)) _ (λ command bytes legal valid reads writes. absurd (writes (c.in-Err-write_report.ensures.counted.failed refl)))
+
+pub returns-clause-too_great : goal.returns-clause-too_great
+returns-clause-too_great g c =
+    no_sample (sample_in c.args.words.now) (λ sample. IsTrue (is_too_great sample)) (command_in c.args.words.now) _ c.in-Ok.ensures.too_great
