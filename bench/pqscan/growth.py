@@ -41,7 +41,10 @@ class Compact:
         if kind == 9:
             head = self.byte()
             count = head >> 4 if head >> 4 < 15 else self.varint()
+            if head & 15 in (1, 2):
+                return [self.byte() == 1 for _ in range(count)]
             return [self.value(head & 15) for _ in range(count)]
+        assert kind == 12, kind
         fields, field = {}, 0
         while head := self.byte():
             field = field + (head >> 4) if head >> 4 else self.value(4)

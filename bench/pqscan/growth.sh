@@ -12,6 +12,10 @@ ours=${PQSCAN:-$top/crates/pqscan/out/pqscan}
     echo "growth.sh: $ours is not built" >&2
     exit 1
 }
+command -v strace > /dev/null || {
+    echo "growth.sh: there is no strace" >&2
+    exit 1
+}
 mkdir -p "$work"
 for file in numbers_200000 numbers_2000000 numbers_20000000 indexed_2000000 paged_10000000 wide_1000; do
     [ "$work/$file.parquet" -nt "$here/inputs.py" ] || python3 "$here/inputs.py" "$work/$file.parquet" "${file#*_}" "${file%_*}"

@@ -1,4 +1,4 @@
-"""Writes a file of one column `a` in groups of 20,000 rows and pages of 1,000, uncompressed. Usage: inputs.py PATH ROWS [KIND]
+"""Writes a file of one column `a` in groups of 20,000 rows and pages of 1,000, uncompressed, where nothing else is said. Usage: inputs.py PATH ROWS [KIND]
 The kinds, each plain and required where nothing else is said:
     numbers     INT32, the numbers from 0 on, with statistics (the kind where none is given)
     indexed     the same with both page indexes
@@ -131,9 +131,9 @@ def write(path, rows, kind):
     column = COLUMNS[kind]()
     out = bytearray(b"PAR1")
     groups = []
-    most = rows if kind == "paged" else GROUP
-    for start in range(0, rows, most):
-        count, place, locations = min(most, rows - start), len(out), []
+    group_rows = max(rows, 1) if kind == "paged" else GROUP
+    for start in range(0, rows, group_rows):
+        count, place, locations = min(group_rows, rows - start), len(out), []
         out += column.dictionary
         for first in range(0, count, PAGE):
             written = column.page(start + first, min(PAGE, count - first))
@@ -163,7 +163,7 @@ def write(path, rows, kind):
     if column.physical == BYTE_ARRAY:
         leaf.i32(6, 0)
     schema = [Struct().binary(4, b"schema").i32(5, 1).end(), leaf.end()]
-    end(path, out, schema, rows, stored)
+    write_footer(path, out, schema, rows, stored)
 
 
 def write_wide(path, rows):
@@ -183,10 +183,10 @@ def write_wide(path, rows):
             chunks.append(Struct().i64(2, place).struct(3, data).end())
         stored.append(Struct().list(1, 12, chunks).i64(2, len(page) * len(names)).i64(3, 1).end())
     leaves = [Struct().i32(1, INT32).i32(3, REQUIRED).binary(4, name).end() for name in names]
-    end(path, out, [Struct().binary(4, b"schema").i32(5, len(names)).end(), *leaves], rows, stored)
+    write_footer(path, out, [Struct().binary(4, b"schema").i32(5, len(names)).end(), *leaves], rows, stored)
 
 
-def end(path, out, schema, rows, stored):
+def write_footer(path, out, schema, rows, stored):
     """Writes the file with its footer."""
     footer = Struct().i32(1, 1).list(2, 12, schema).i64(3, rows).list(4, 12, stored).end()
     out += footer + struct.pack("<I", len(footer)) + b"PAR1"

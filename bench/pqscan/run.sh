@@ -30,7 +30,8 @@ compile() {
 compile "$here/twin.rs" "$work/twin"
 compile "$here/../parquet_sample/twin.rs" "$work/sample"
 for rows in 45000 2000000; do
-    [ -s "$work/sample_$rows.parquet" ] || "$work/sample" $rows 7 > "$work/sample_$rows.parquet"
+    sample=$work/sample_$rows.parquet
+    [ "$sample" -nt "$here/../parquet_sample/twin.rs" ] || { "$work/sample" $rows 7 > "$sample.new" && mv "$sample.new" "$sample"; }
 done
 ${CC:-cc} -O1 "$here/timed.c" -o "$work/timed"
 [ -n "${PQSCAN:-}" ] || "$top/prove"
@@ -79,6 +80,7 @@ def command(program, file, words):
     if file.startswith("sample"):
         items = items or ["id:Int64", "qty:Int32", "name:Utf8"]
     else:
+        assert not items, items
         items = ["a:Int32" if file.endswith(("numbers", "indexed")) else "a:Utf8"]
     return [program, f"{work}/{file}.parquet", *items, *words]
 
