@@ -4,18 +4,8 @@
 # requests on small files. Each time is the best of so many runs. Proves and builds pqscan first where that is not done yet, unless a
 # program is named. Inputs are kept in the folder, bench/data where none is named.
 # Usage: [RUNS=NUMBER] [PQSCAN=PROGRAM] bench/pqscan/run.sh [FOLDER]
-set -eu
-here=$(cd "$(dirname "$0")" && pwd)
-top=$(cd "$here/../.." && pwd)
-work=${1:-$top/bench/data}
+. "$(dirname "$0")/shared.sh"
 runs=${RUNS:-21}
-ours=${PQSCAN:-$top/crates/pqscan/out/pqscan}
-mkdir -p "$work"
-
-# write NAME ROWS KIND: an input, where there is none yet or an older one.
-write() {
-    [ "$work/$1.parquet" -nt "$here/inputs.py" ] || python3 "$here/inputs.py" "$work/$1.parquet" "$2" "$3"
-}
 
 for kind in numbers indexed short named joined half_null; do
     write $kind 2000000 $kind
@@ -24,16 +14,11 @@ write long 500000 long
 for kind in numbers indexed short long named joined half_null odd odd_named odd_joined; do
     write few_$kind 45000 $kind
 done
-compile() {
-    rustc --edition 2021 -O -C target-cpu=x86-64-v2 -C codegen-units=1 -C panic=abort "$1" -o "$2"
-}
-compile "$here/twin.rs" "$work/twin"
 compile "$here/../parquet_sample/twin.rs" "$work/sample"
 for rows in 45000 2000000; do
     sample=$work/sample_$rows.parquet
     [ "$sample" -nt "$here/../parquet_sample/twin.rs" ] || { "$work/sample" $rows 7 > "$sample.new" && mv "$sample.new" "$sample"; }
 done
-${CC:-cc} -O1 "$here/timed.c" -o "$work/timed"
 [ -n "${PQSCAN:-}" ] || "$top/prove"
 python3 - "$ours" "$work" "$runs" <<'PY'
 import hashlib, subprocess, sys
