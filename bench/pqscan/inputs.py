@@ -9,6 +9,7 @@ The kinds, each plain and required where nothing else is said:
     named       keys of 10 bits, that name 1,000 texts of 8 to 16 letters
     joined      texts of 8 letters behind their lengths, which are delta-packed
     half_null   texts of 8 letters, optional, half of them null at random places
+    times       INT64, microseconds from 2020 on, 1.5 seconds apart, with that unit as logical type
     odd, odd_named, odd_joined
                 texts of up to 12 letters of one to four bytes, some of which are written by their numbers, optional
 """
@@ -22,7 +23,7 @@ sys.path.insert(0, os.path.join(os.path.dirname(os.path.abspath(__file__)), ".."
 from formats import Struct, delta, packed_runs, varint, word, zigzag
 
 GROUP, PAGE, ENTRIES = 20_000, 1_000, 1_000
-INT32, BYTE_ARRAY = 1, 6
+INT32, INT64, BYTE_ARRAY = 1, 2, 6
 REQUIRED, OPTIONAL = 0, 1
 PLAIN, DELTA_LENGTH_BYTE_ARRAY, RLE_DICTIONARY = 0, 6, 8
 ODD_LETTERS = 'abcdefghijklm \\"\0\t\n\x1f\x7fäöüß€\u0800\uffff\U00010000\U0010ffff'
@@ -68,6 +69,15 @@ class Numbers:
         return data_page(rows, PLAIN, struct.pack(f"<{rows}i", *range(first, first + rows)))
 
 
+class Times:
+    physical, repetition, dictionary = INT64, REQUIRED, b""
+    first_time, step = 1_577_836_800_000_000, 1_500_000
+
+    def page(self, first, rows):
+        start = self.first_time + first * self.step
+        return data_page(rows, PLAIN, struct.pack(f"<{rows}q", *range(start, start + rows * self.step, self.step)))
+
+
 class Texts:
     """A column of texts that are drawn, stored by an encoding; half of an optional column is null."""
 
@@ -111,6 +121,7 @@ COLUMNS = {
     "named": lambda: Texts(REQUIRED, RLE_DICTIONARY, entries),
     "joined": lambda: Texts(REQUIRED, DELTA_LENGTH_BYTE_ARRAY, texts_of(8)),
     "half_null": lambda: Texts(OPTIONAL, PLAIN, texts_of(8)),
+    "times": Times,
     "odd": lambda: Texts(OPTIONAL, PLAIN, odd_texts),
     "odd_named": lambda: Texts(OPTIONAL, RLE_DICTIONARY, odd_texts),
     "odd_joined": lambda: Texts(OPTIONAL, DELTA_LENGTH_BYTE_ARRAY, odd_texts),
@@ -162,6 +173,9 @@ def write(path, rows, kind):
     leaf = Struct().i32(1, column.physical).i32(3, column.repetition).binary(4, b"a")
     if column.physical == BYTE_ARRAY:
         leaf.i32(6, 0)
+    if column.physical == INT64:
+        microseconds = Struct().struct(2, Struct())
+        leaf.struct(10, Struct().struct(8, Struct().truth(1, True).struct(2, microseconds)))
     schema = [Struct().binary(4, b"schema").i32(5, 1).end(), leaf.end()]
     write_footer(path, out, schema, rows, stored)
 

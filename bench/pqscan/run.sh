@@ -1,17 +1,17 @@
 #!/bin/sh
-# Times whole scans beside a plain Rust scan, and compares the memory that both take: of one column of numbers of 32 bits or of texts, all rows,
+# Times whole scans beside a plain Rust scan, and compares the memory that both take: of one column of numbers of 32 bits, of times or of texts, all rows,
 # a few of them, in chunks, and counted alone, and of the columns of the sample file, which have other types and pages of other lengths. Both programs must write the same text for each request, and for each of a table of
-# requests on small files. Each time is the best of so many runs. Proves and builds pqscan first where that is not done yet, unless a
+# requests on small files. What is counted alone is compared with a copy of the file, too. Each time is the best of so many runs. Proves and builds pqscan first where that is not done yet, unless a
 # program is named. Inputs are kept in the folder, bench/data where none is named.
 # Usage: [RUNS=NUMBER] [PQSCAN=PROGRAM] bench/pqscan/run.sh [FOLDER]
 . "$(dirname "$0")/shared.sh"
 runs=${RUNS:-21}
 
-for kind in numbers indexed short named joined half_null; do
+for kind in numbers indexed times short named joined half_null; do
     write $kind 2000000 $kind
 done
 write long 500000 long
-for kind in numbers indexed short long named joined half_null odd odd_named odd_joined; do
+for kind in numbers indexed times short long named joined half_null odd odd_named odd_joined; do
     write few_$kind 45000 $kind
 done
 compile "$here/../parquet_sample/twin.rs" "$work/sample"
@@ -34,6 +34,8 @@ requests = [
     ("numbers, 1 row in 1000", "indexed", ["a>=1000000", "a<=1001999"]),
     ("numbers, first 10", "numbers", ["--limit", "10"]),
     ("numbers in chunks of 1000", "numbers", ["--chunk", "1000"]),
+    ("times", "times", []),
+    ("times, counted", "times", ["--summary"]),
     ("texts of 8", "short", []),
     ("texts of 8, counted", "short", ["--summary"]),
     ("texts of 8, first 10", "short", ["--limit", "10"]),
@@ -55,7 +57,7 @@ requests = [
     ("sample, its names as bytes", "sample_2000000 name:Binary", []),
 ]
 # What is compared alone: each of these on a small file of each kind.
-kinds = [f"few_{kind}" for kind in ("numbers", "indexed", "short", "long", "named", "joined", "half_null", "odd", "odd_named", "odd_joined")]
+kinds = [f"few_{kind}" for kind in ("numbers", "indexed", "times", "short", "long", "named", "joined", "half_null", "odd", "odd_named", "odd_joined")]
 kinds += ["sample_45000", "sample_45000 name:Utf8 qty:Int32 qty<=50", "sample_45000 name:Binary qty:Int32"]
 small = ["", "--summary", "--limit 0", "--limit 10", "--chunk 7", "--chunk 1000", "--limit 20007 --chunk 999", "--limit 44999 --chunk 30000 --summary"]
 
@@ -66,7 +68,7 @@ def command(program, file, words):
         items = items or ["id:Int64", "qty:Int32", "name:Utf8"]
     else:
         assert not items, items
-        items = ["a:Int32" if file.endswith(("numbers", "indexed")) else "a:Utf8"]
+        items = ["a:" + ("Int32" if file.endswith(("numbers", "indexed")) else "Timestamp(ms)" if file.endswith("times") else "Utf8")]
     return [program, f"{work}/{file}.parquet", *items, *words]
 
 
@@ -79,9 +81,9 @@ def compare(file, words):
     assert digest(ours, file, words) == digest(twin, file, words), (file, words)
 
 
-def run(program, file, words):
+def run(*command):
     """The processor milliseconds of one run, and the most MiB that it had."""
-    said = subprocess.run([timed, *command(program, file, words)], capture_output=True, check=True)
+    said = subprocess.run([timed, *command], capture_output=True, check=True)
     time, most = map(int, said.stdout.split())
     return time / 1e3, most / 1024
 
@@ -92,8 +94,15 @@ for kind in kinds:
 print(f"{'request':30} {'ms':>8} {'Rust ms':>8} {'ratio':>6} {'MiB':>7} {'Rust MiB':>8}", flush=True)
 for name, file, words in requests:
     compare(file, words)
-    each = [(*run(ours, file, words), *run(twin, file, words)) for _ in range(runs)]
+    each = [(*run(*command(ours, file, words)), *run(*command(twin, file, words))) for _ in range(runs)]
     mine, its = min(a for a, _, _, _ in each), min(b for _, _, b, _ in each)
     most = [max(it[i] for it in each) for i in (1, 3)]
     print(f"{name:30} {mine:8.2f} {its:8.2f} {mine / max(its, 1e-6):6.2f} {most[0]:7.1f} {most[1]:8.1f}", flush=True)
+# What counting takes beside reading the file and keeping a copy of it.
+print(f"\n{'counted':30} {'ms':>8} {'copy ms':>8} {'ratio':>6}", flush=True)
+for name, file, words in requests:
+    if words == ["--summary"]:
+        each = [(run(*command(ours, file, words))[0], run(twin, "--copy", f"{work}/{file}.parquet")[0]) for _ in range(runs)]
+        mine, its = (min(times) for times in zip(*each))
+        print(f"{name:30} {mine:8.2f} {its:8.2f} {mine / max(its, 1e-6):6.2f}", flush=True)
 PY

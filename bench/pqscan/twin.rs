@@ -1,7 +1,8 @@
 //! `twin FILE ITEM.. [--limit N] [--chunk N] [--summary] [--no-print]`: a pruned flat Parquet scan in plain Rust, by the standard
 //! library alone. It reads uncompressed files with pages of the first form of INT32, INT64 and BYTE_ARRAY columns, required or optional,
 //! plain, with dictionaries or, for texts and bytes, joined behind their lengths, prunes by statistics and page indexes, and writes what
-//! `pqscan` writes.
+//! `pqscan` writes. Timestamps come in milliseconds.
+//! `twin --copy FILE` reads a file part by part and keeps a copy of it in memory: the least that a scan of all of it has to do.
 
 use std::fs::File;
 use std::io::Write;
@@ -177,6 +178,8 @@ enum Physical {
 struct Column {
     name: String,
     physical: Physical,
+    /// How many of its time steps a second has, of a column of timestamps.
+    steps: Option<i64>,
     optional: bool,
     repeated: bool,
 }
@@ -284,6 +287,33 @@ fn parse_chunk(c: &mut Compact) -> Result<ChunkMeta> {
     Ok(m)
 }
 
+/// How many steps a second has of the unit that a logical type names, if it is that of timestamps.
+fn parse_steps(c: &mut Compact) -> Result<Option<i64>> {
+    let mut steps = None;
+    c.fields(|c, id, _| {
+        if id != 8 {
+            return Ok(false);
+        }
+        c.fields(|c, id, _| {
+            if id != 2 {
+                return Ok(false);
+            }
+            c.fields(|_, id, _| {
+                steps = match id {
+                    1 => Some(1_000),
+                    2 => Some(1_000_000),
+                    3 => Some(1_000_000_000),
+                    _ => None,
+                };
+                Ok(false)
+            })?;
+            Ok(true)
+        })?;
+        Ok(true)
+    })?;
+    Ok(steps)
+}
+
 fn parse_meta(bytes: &[u8]) -> Result<Meta> {
     let mut columns = Vec::new();
     let mut groups = Vec::new();
@@ -297,6 +327,7 @@ fn parse_meta(bytes: &[u8]) -> Result<Meta> {
                     let mut physical = None;
                     let mut repetition = 0;
                     let mut name = String::new();
+                    let mut steps = None;
                     c.fields(|c, id, _| {
                         match id {
                             1 => {
@@ -312,6 +343,7 @@ fn parse_meta(bytes: &[u8]) -> Result<Meta> {
                                 name = String::from_utf8(c.binary()?.to_vec())
                                     .map_err(|_| Error::Damaged)?
                             }
+                            10 => steps = parse_steps(c)?,
                             _ => return Ok(false),
                         }
                         Ok(true)
@@ -323,6 +355,7 @@ fn parse_meta(bytes: &[u8]) -> Result<Meta> {
                     columns.push(Column {
                         name,
                         physical,
+                        steps,
                         optional: repetition == 1,
                         repeated: repetition == 2,
                     });
@@ -409,6 +442,7 @@ impl Input {
 enum Type {
     Int32,
     Int64,
+    Milliseconds,
     Utf8,
     Binary,
 }
@@ -516,6 +550,7 @@ fn request(words: &[String]) -> Result<Request> {
                     let kind = match kind {
                         "Int32" => Type::Int32,
                         "Int64" => Type::Int64,
+                        "Timestamp(ms)" => Type::Milliseconds,
                         "Utf8" => Type::Utf8,
                         "Binary" => Type::Binary,
                         _ => return Err(Error::Words),
@@ -530,7 +565,7 @@ fn request(words: &[String]) -> Result<Request> {
         let field = r.fields.iter_mut().find(|f| f.name == name).ok_or(Error::Words)?;
         let value = match field.kind {
             Type::Utf8 => Scalar::Bytes(value.as_bytes().to_vec()),
-            Type::Binary => return Err(Error::Words),
+            Type::Binary | Type::Milliseconds => return Err(Error::Words),
             Type::Int32 => Scalar::Int(value.parse::<i32>().map_err(|_| Error::Words)? as i64),
             Type::Int64 => Scalar::Int(value.parse::<i64>().map_err(|_| Error::Words)?),
         };
@@ -850,6 +885,15 @@ fn extend_numbers<T: Native>(
     Ok(())
 }
 
+/// Makes milliseconds of times of which a second has so many.
+fn to_milliseconds(times: &mut [i64], steps: Option<i64>) {
+    match steps {
+        Some(1_000_000) => times.iter_mut().for_each(|time| *time /= 1_000),
+        Some(1_000_000_000) => times.iter_mut().for_each(|time| *time /= 1_000_000),
+        _ => {}
+    }
+}
+
 /// Puts the present values at their rows, and 0 elsewhere.
 fn spread<T: Native>(
     out: &mut Vec<T>,
@@ -1100,7 +1144,7 @@ impl<'a> ColumnReader<'a> {
     fn new(column: &'a Column, kind: Type, rows: usize) -> Self {
         let values = match kind {
             Type::Int32 => Values::Int32(Vec::with_capacity(rows)),
-            Type::Int64 => Values::Int64(Vec::with_capacity(rows)),
+            Type::Int64 | Type::Milliseconds => Values::Int64(Vec::with_capacity(rows)),
             Type::Utf8 | Type::Binary => {
                 let mut offsets = Vec::with_capacity(rows + 1);
                 offsets.push(0);
@@ -1161,7 +1205,12 @@ impl<'a> ColumnReader<'a> {
                     Some(Dict::Int64(d)) => Some(d),
                     _ => None,
                 };
-                extend_numbers(out, validity, level, present, &stored, dict, selected)
+                let held = out.len();
+                extend_numbers(out, validity, level, present, &stored, dict, selected)?;
+                if self.kind == Type::Milliseconds {
+                    to_milliseconds(&mut out[held..], self.column.steps);
+                }
+                Ok(())
             }
             (Values::Bytes { offsets, data, text }, dict) => {
                 let dict = match dict {
@@ -1376,7 +1425,7 @@ fn scan(input: &Input, request: &Request) -> Result<Scan> {
         let column = &meta.columns[at];
         let carried = match f.kind {
             Type::Int32 => column.physical == Physical::Int32,
-            Type::Int64 => column.physical == Physical::Int64,
+            Type::Int64 | Type::Milliseconds => column.physical == Physical::Int64,
             Type::Utf8 | Type::Binary => column.physical == Physical::ByteArray,
         };
         if !carried || column.repeated {
@@ -1707,7 +1756,30 @@ fn print(scan: &Scan, request: &Request) -> Result<()> {
     out.flush()
 }
 
+/// Reads a file in parts of 160 KiB, and keeps all of them side by side.
+fn copy(path: &str) -> Result<()> {
+    const PART: u64 = 160 << 10;
+    let input = Input::open(path)?;
+    let (mut part, mut all) = (Vec::new(), Vec::with_capacity(input.size as usize));
+    let mut at = 0;
+    while at < input.size {
+        let length = PART.min(input.size - at);
+        input.read_to(&mut part, at, length)?;
+        all.extend_from_slice(&part);
+        at += length;
+    }
+    std::hint::black_box(&all);
+    Ok(())
+}
+
 fn run(words: &[String]) -> Result<()> {
+    match words {
+        [word, path] if word == "--copy" => copy(path),
+        _ => print_scan(words),
+    }
+}
+
+fn print_scan(words: &[String]) -> Result<()> {
     let request = request(words)?;
     let input = Input::open(&request.file)?;
     let scan = scan(&input, &request)?;
