@@ -1,7 +1,7 @@
 -- Lists that are given a part at a time.
 use Rattle.std.proofs.Common.{◌≡◌, ℕ, ◌+◌, ◌-◌, ◌≤◌, min, List, [], ◌++◌, length, take, drop, Option, Some, None, refl, sym, ap, ◌∙◌, arith, length-append}
-use Rattle.std.proofs.Math.Seq.{take-add}
-use Rattle.std.proofs.lemmas.List.{length-drop, length-take, drop-drop, take-take, drop_min}
+use Rattle.std.proofs.Math.Seq.{take-add, take-append_seam, drop-append_seam}
+use Rattle.std.proofs.lemmas.List.{length-drop, length-take, drop-drop, take-take, drop_min, take_all, append_assoc}
 use Rattle.std.specs.Prelude.{IsSome, IfSome, unwrap_or}
 use Rattle.std.proofs.lemmas.Slice.{take-put_mid, drop-put_mid}
 use borrow.Rule.Slice.PartMut.{put_mid}
@@ -54,3 +54,27 @@ passes_none (Some values) h = refl
 -- some more are passed over
 pub passes_more : {A : Type 0} (before after : Option (List A)) (values : List A) (done count : ℕ) → before ≡ Some (drop done values) → after ≡ Some (drop count (unwrap_or before [])) → after ≡ Some (drop (done + count) values)
 passes_more before after values done count e step = step ∙ ap (λ o. Some (drop count (unwrap_or o []))) e ∙ ap Some (drop-drop count done values)
+
+-- a list that is filled up to a place is filled further by a part
+pub fills_more : {A : Type 0} (values first now left part before : List A) (done count k : ℕ) → now ≡ take done values ++ drop done first → done ≤ length values → done ≤ length first → left ≡ drop done values
+    → before ≡ drop done now → part ≡ take count left ++ drop count before → count ≤ length left → count ≤ length before → k ≡ length now - done
+    → put_mid done k now part ≡ take (done + count) values ++ drop (done + count) first
+fills_more values first now left part before done count k is few room is-left is-before is-part enough fits size =
+    let head = take done values in
+    let tail = drop done first in
+    let long : length head ≡ done = length-take done values ∙ omega arith in
+    let front : take done now ≡ head = ap (take done) is ∙ ap (λ n. take n (head ++ tail)) (sym long) ∙ take-append_seam head tail in
+    let back : drop done now ≡ tail = ap (drop done) is ∙ ap (λ n. drop n (head ++ tail)) (sym long) ∙ drop-append_seam head tail in
+    let rest : drop count before ≡ drop (done + count) first = ap (drop count) (is-before ∙ back) ∙ drop-drop count done first in
+    let whole : part ≡ take count (drop done values) ++ drop (done + count) first =
+    is-part ∙ ap (λ xs. take count xs ++ drop count before) is-left ∙ ap (λ ys. take count (drop done values) ++ ys) rest in
+    let wide : done ≤ length now = omega (arith, ap length is, length-append head tail) in
+    let same : length part ≡ length now - done =
+    omega (arith, ap length is-part, length-append (take count left) (drop count before), length-take count left, length-drop count before, ap length is-before, length-drop done now) in
+    let n = done + length part in
+    let all : length (put_mid done k now part) ≤ n = omega (arith, length-put_mid done k now part) in
+    sym (take_all n (put_mid done k now part) all)
+    ∙ take-put_mid done k now part n refl wide
+    ∙ ap (λ xs. xs ++ part) front ∙ ap (λ ys. head ++ ys) whole
+    ∙ sym (append_assoc head (take count (drop done values)) (drop (done + count) first))
+    ∙ ap (λ xs. xs ++ drop (done + count) first) (sym (take-add done count values))
