@@ -217,6 +217,7 @@ impl HybridRun {
     }
 
     /// The first values, as many as `out` has room for.
+    #[inline(always)]
     pub fn unpack(&self, bytes: &[u8], out: &mut [u32])
         requires enough { length out.old ≤ count_of self.now }
         requires lies { IsIn bytes.now self.now }
