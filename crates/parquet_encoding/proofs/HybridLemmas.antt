@@ -9,7 +9,7 @@ use Rattle.parquet_base.specs.Varint.{varint, varint_within}
 use Rattle.parquet_base.proofs.TakeLemmas.{varint-takes}
 use Rattle.parquet_encoding.specs.Hybrid.{hybrid, Run, Groups, Copies, first_run, runs, run_length, run_of, run_size, first_values}
 use Rattle.parquet_encoding.specs.HybridRun.{count_of, run_values, Opens}
-use Rattle.parquet_encoding.specs.ShortRun.{Passes}
+use Rattle.parquet_encoding.specs.ShortRun.{PassesRun}
 use Rattle.parquet_encoding.specs.declared.run.OpenedRun.{OpenedRun}
 use Rattle.parquet_encoding.proofs.StepLemmas.{bind_some, given_some, some_is, same_steps}
 use Rattle.parquet_encoding.proofs.BitsLemmas.{length-packed}
@@ -108,7 +108,7 @@ is_some-with : (front : List ℕ) (r : Option (List ℕ)) → is_some (r >>= λ 
 is_some-with front None = refl
 is_some-with front (Some x) = refl
 
-pub walks_on : (width : ℕ) (bytes : List ℕ) (place left : ℕ) (passed : ℕ × ℕ) → 0 < left → Passes bytes place width left passed
+pub walks_on : (width : ℕ) (bytes : List ℕ) (place left : ℕ) (passed : ℕ × ℕ) → 0 < left → PassesRun bytes place width left passed
     → is_some (runs (length bytes) width (drop passed.1 bytes) (left - passed.0)) ≡ is_some (runs (length bytes) width (drop place bytes) left)
 walks_on width bytes place left passed positive passes =
     let step = runs_step (length bytes) width (drop place bytes) left (passes.values, drop passed.1 bytes) (omega (arith, length-drop place bytes)) positive passes.is_first in
@@ -116,7 +116,7 @@ walks_on width bytes place left passed positive passes =
     sym (ap is_some step ∙ is_some-with passes.values others ∙ ap (λ n. is_some (runs (length bytes) width (drop passed.1 bytes) (left - n))) passes.count)
 
 -- an opened run is passed
-pub passes_opened : (bytes : List ℕ) (place width wanted count : ℕ) (opened : OpenedRun) → Opens bytes place width wanted opened → count ≡ count_of opened.run → Passes bytes place width wanted (count, opened.end)
+pub passes_opened : (bytes : List ℕ) (place width wanted count : ℕ) (opened : OpenedRun) → Opens bytes place width wanted opened → count ≡ count_of opened.run → PassesRun bytes place width wanted (count, opened.end)
 passes_opened bytes place width wanted count opened opens is = record {
   values = run_values opened.run bytes;
   is_first = opens.is_first;

@@ -4,7 +4,7 @@ use Rattle.parquet_encoding.specs.HybridLeft.{hybrid_left, hybrid_values}
 use Rattle.parquet_encoding.specs.declared.hybrid.HybridRle.{HybridRle}
 
 -- So many of the values that are left stand at the front of a list, and the others are left. It is none only where none is left.
-pub record Fills (old new : HybridRle) (bytes before now : List ℕ) (count : ℕ) : Type 0 where
+pub record FillsSome (old new : HybridRle) (bytes before now : List ℕ) (count : ℕ) : Type 0 where
   pub ended : count ≡ 0 → hybrid_values old bytes ≡ []
   pub few : count ≤ length (hybrid_values old bytes)
   pub room : count ≤ length before

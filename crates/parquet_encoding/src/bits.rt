@@ -13,7 +13,7 @@ const HALF: u32 = 14;
 const WINDOW: usize = 36;
 
 /// The most bits of a number that lies in the word that begins with its first byte.
-const INSIDE: u32 = 57;
+pub(crate) const INSIDE: u32 = 57;
 
 /// So many bytes hold the words that begin in eight numbers of up to 57 bits.
 const WIDE_WINDOW: usize = 58;
@@ -277,7 +277,7 @@ fn eight_wide_in_words(bytes: &[u8], place: usize, bit: usize, width: u32) -> [u
 
 /// The same where a number may lie in two words, or words may reach past the end of the bytes.
 #[inline(always)]
-fn eight_wide_anywhere(bytes: &[u8], place: usize, bit: usize, width: u32) -> [u64; 8]
+pub(crate) fn eight_wide_anywhere(bytes: &[u8], place: usize, bit: usize, width: u32) -> [u64; 8]
     requires wide { width ≤ 64 }
     requires within { 8 * place + (bit + 8 * width) ≤ 8 * length bytes.now }
     requires low { bit < 8 }

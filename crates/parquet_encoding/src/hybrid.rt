@@ -2,7 +2,7 @@
 ghost use Rattle.std.specs.Prelude.{◌≡◌, ℕ, List, ◌+◌, ◌-◌, ◌*◌, ◌^◌, ◌<◌, ◌≤◌, ◌++◌, [], min, length, take, drop, slice_get, is_ok, is_some, None, Some, IsSome, IfNone, IfSome, IfOk, OnErr};
 ghost use Rattle.parquet_encoding.specs.Hybrid.{hybrid, runs, first_run};
 ghost use Rattle.parquet_encoding.specs.HybridRun.{count_of, run_values, IsIn};
-ghost use Rattle.parquet_encoding.specs.ShortRun.{Passes};
+ghost use Rattle.parquet_encoding.specs.ShortRun.{PassesRun};
 
 use crate::run::{HybridRun, open_run, short_run};
 use parquet_base::Unspelled;
@@ -29,7 +29,7 @@ pub struct HybridRle {
 
 impl HybridRle {
     ghost use Rattle.parquet_encoding.specs.HybridLeft.{hybrid_left, hybrid_values, given_count};
-    ghost use Rattle.parquet_encoding.specs.HybridFills.{Fills};
+    ghost use Rattle.parquet_encoding.specs.HybridFills.{FillsSome};
 
     /// Before the first of `count` numbers of `width` bits.
     pub fn try_new(bytes: &[u8], width: u32, count: usize) -> Result<Self, Unspelled>
@@ -92,7 +92,7 @@ impl HybridRle {
         Some(run)
     }
 
-    /// Passes over `n` numbers, or over all that are left. The bytes are those of `try_new`.
+    /// PassesRun over `n` numbers, or over all that are left. The bytes are those of `try_new`.
     #[inline(always)]
     pub fn skip(&mut self, bytes: &[u8], n: usize)
         requires { IsSome (hybrid_left self.old bytes.now) }
@@ -132,7 +132,7 @@ impl HybridRle {
     fn fill_run(&mut self, bytes: &[u8], out: &mut [u32]) -> usize
         requires spelled { IsSome (hybrid_left self.old bytes.now) }
         requires room { 0 < length out.old }
-        ensures { Fills self.old self.new bytes.now out.old out.new result }
+        ensures { FillsSome self.old self.new bytes.now out.old out.new result }
     {
         if self.run.len() > 0 || self.behind == 0 {
             return self.fill_part(bytes, out);
@@ -154,7 +154,7 @@ impl HybridRle {
     fn fill_part(&mut self, bytes: &[u8], out: &mut [u32]) -> usize
         requires spelled { IsSome (hybrid_left self.old bytes.now) }
         requires room { 0 < length out.old }
-        ensures { Fills self.old self.new bytes.now out.old out.new result }
+        ensures { FillsSome self.old self.new bytes.now out.old out.new result }
     {
         let Some(run) = self.next_run(bytes, out.len()) else {
             return 0;
@@ -230,7 +230,7 @@ fn passed_run(
     requires some_bits { 0 < width }
     requires narrow { width ≤ 32 }
     requires within { place ≤ length bytes.now }
-    ensures ok { IfOk result (Passes bytes.now place width wanted) }
+    ensures ok { IfOk result (PassesRun bytes.now place width wanted) }
     ensures err { OnErr result (first_run width wanted (drop place bytes.now) ≡ None) }
 {
     if let Some(opened) = short_run(bytes, place, width, wanted) {

@@ -2,7 +2,7 @@
 ghost use Rattle.std.specs.Prelude.{◌≡◌, ℕ, List, min, ◌+◌, ◌-◌, ◌*◌, ◌/◌, ◌^◌, ◌<◌, ◌≤◌, ◌↔◌, length, take, drop, slice_get, None, Some, IsSome, IfSome, IfOk, OnErr};
 ghost use Rattle.parquet_encoding.specs.Hybrid.{first_run};
 ghost use Rattle.parquet_encoding.specs.HybridRun.{count_of, run_values, IsIn, Opens, OpensPacked, OpensRepeated};
-ghost use Rattle.parquet_encoding.specs.ShortRun.{IsShort};
+ghost use Rattle.parquet_encoding.specs.ShortRun.{IsShortRun};
 
 use crate::bits::value_at;
 use crate::packed_run::PackedRun;
@@ -57,7 +57,7 @@ pub(crate) fn open_run(
 pub(crate) fn short_run(bytes: &[u8], place: usize, width: u32, most: usize) -> Option<OpenedRun>
     requires some_bits { 0 < width }
     requires narrow { width ≤ 32 }
-    ensures short { IsSome result ↔ IsShort bytes.now place width most }
+    ensures short { IsSome result ↔ IsShortRun bytes.now place width most }
     ensures opens { IfSome result (λ opened. (wanted : ℕ) → most ≤ wanted
         → Opens bytes.now place width wanted opened) }
     ensures some { IfSome result (λ opened. 0 < count_of opened.run) }

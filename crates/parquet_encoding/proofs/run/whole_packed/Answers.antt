@@ -1,4 +1,4 @@
-use Rattle.std.proofs.Common.{◌≡◌, ℕ, ◌+◌, ◌-◌, ◌*◌, ◌/◌, ◌≤◌, min, ap, sym, length, arith}
+use Rattle.std.proofs.Common.{◌≡◌, ◌+◌, ◌-◌, ◌*◌, ◌/◌, ◌≤◌, ap, sym, length, arith}
 use Rattle.std.proofs.lemmas.List.{drop-drop}
 use Rattle.parquet_encoding.specs.Bits.{packed}
 use Rattle.parquet_encoding.proofs.RunLemmas.{all_lie}

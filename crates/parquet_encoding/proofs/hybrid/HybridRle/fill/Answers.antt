@@ -1,5 +1,5 @@
-use Rattle.std.proofs.Common.{◌≡◌, ◌+◌, ◌-◌, ◌∙◌, length, take, drop, Some, unwrap_or, [], ap, arith}
-use Rattle.std.proofs.lemmas.List.{length-take, length-drop, take_all, drop-drop}
+use Rattle.std.proofs.Common.{◌≡◌, ◌-◌, ◌∙◌, length, take, drop, Some, unwrap_or, [], ap, arith}
+use Rattle.std.proofs.lemmas.List.{length-drop, take_all, drop-drop}
 use Rattle.parquet_encoding.specs.HybridLeft.{hybrid_values}
 use Rattle.parquet_encoding.proofs.WalkLemmas.{fills_more}
 use Rattle.parquet_encoding.proofs.hybrid.HybridRle.fill.Goals as goal

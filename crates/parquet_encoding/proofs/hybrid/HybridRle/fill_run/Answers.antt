@@ -1,4 +1,4 @@
-use Rattle.std.proofs.Common.{◌≡◌, ◌++◌, ◌∙◌, sym, ap, length, take, drop, arith}
+use Rattle.std.proofs.Common.{◌≡◌, ◌++◌, ◌∙◌, ap, length, take, drop, arith}
 use Rattle.std.proofs.lemmas.List.{length-take, take_all}
 use Rattle.parquet_encoding.specs.HybridRun.{count_of, run_values}
 use Rattle.parquet_encoding.specs.HybridLeft.{hybrid_left}
