@@ -8,32 +8,8 @@ use borrow.Rule.Slice.PartMut.{put_mid}
 
 -- ---- a list is filled from its front on
 
--- what a part is filled with
 pub length-put_mid : {A : Type 0} (a k : ℕ) (xs ys : List A) → length (put_mid a k xs ys) ≡ min a (length xs) + (length ys + (length xs - a - k))
 length-put_mid a k xs ys = simp (length-append, length-take, length-drop) refl
-
--- ---- a list is passed over
-
--- one more is passed over
-pub passes_one : {A : Type 0} (before after : Option (List A)) (values : List A) (i : ℕ) → before ≡ Some (drop i values) → after ≡ Some (drop 1 (unwrap_or before [])) → after ≡ Some (drop (i + 1) values)
-passes_one before after values i e step = step ∙ ap (λ o. Some (drop 1 (unwrap_or o []))) e ∙ ap Some (drop-drop 1 i values)
-
--- more than there are is all that there are
-pub passes_most : {A : Type 0} (left : Option (List A)) (values : List A) (i n count : ℕ) → left ≡ Some (drop i values) → i ≡ min n count → count ≡ length values → left ≡ Some (drop n values)
-passes_most left values i n count e is long = e ∙ ap Some (ap (λ k. drop k values) (is ∙ ap (min n) long) ∙ drop_min n values)
-
-pub of_some : {A : Type 0} (o : Option (List A)) (P : List A → Type 0) → IsSome o → IfSome o P → P (unwrap_or o [])
-of_some None P h p = absurd cc
-of_some (Some values) P h p = p
-
--- nothing is passed over yet
-pub passes_none : {A : Type 0} (o : Option (List A)) → IsSome o → o ≡ Some (unwrap_or o [])
-passes_none None h = absurd cc
-passes_none (Some values) h = refl
-
--- some more are passed over
-pub passes_more : {A : Type 0} (before after : Option (List A)) (values : List A) (done count : ℕ) → before ≡ Some (drop done values) → after ≡ Some (drop count (unwrap_or before [])) → after ≡ Some (drop (done + count) values)
-passes_more before after values done count e step = step ∙ ap (λ o. Some (drop count (unwrap_or o []))) e ∙ ap Some (drop-drop count done values)
 
 -- a list that is filled up to a place is filled further by a part
 pub fills_more : {A : Type 0} (values first now left part before : List A) (done count k : ℕ) → now ≡ take done values ++ drop done first → done ≤ length values → done ≤ length first → left ≡ drop done values
@@ -58,3 +34,26 @@ fills_more values first now left part before done count k is few room is-left is
     ∙ ap (λ xs. xs ++ part) front ∙ ap (λ ys. head ++ ys) whole
     ∙ sym (append_assoc head (take count (drop done values)) (drop (done + count) first))
     ∙ ap (λ xs. xs ++ drop (done + count) first) (sym (take-add done count values))
+
+-- ---- a list is passed over
+
+-- one more is passed over
+pub passes_one : {A : Type 0} (before after : Option (List A)) (values : List A) (i : ℕ) → before ≡ Some (drop i values) → after ≡ Some (drop 1 (unwrap_or before [])) → after ≡ Some (drop (i + 1) values)
+passes_one before after values i e step = step ∙ ap (λ o. Some (drop 1 (unwrap_or o []))) e ∙ ap Some (drop-drop 1 i values)
+
+-- more than there are is all that there are
+pub passes_most : {A : Type 0} (left : Option (List A)) (values : List A) (i n count : ℕ) → left ≡ Some (drop i values) → i ≡ min n count → count ≡ length values → left ≡ Some (drop n values)
+passes_most left values i n count e is long = e ∙ ap Some (ap (λ k. drop k values) (is ∙ ap (min n) long) ∙ drop_min n values)
+
+pub of_some : {A : Type 0} (o : Option (List A)) (P : List A → Type 0) → IsSome o → IfSome o P → P (unwrap_or o [])
+of_some None P h p = absurd cc
+of_some (Some values) P h p = p
+
+-- nothing is passed over yet
+pub passes_none : {A : Type 0} (o : Option (List A)) → IsSome o → o ≡ Some (unwrap_or o [])
+passes_none None h = absurd cc
+passes_none (Some values) h = refl
+
+-- some more are passed over
+pub passes_more : {A : Type 0} (before after : Option (List A)) (values : List A) (done count : ℕ) → before ≡ Some (drop done values) → after ≡ Some (drop count (unwrap_or before [])) → after ≡ Some (drop (done + count) values)
+passes_more before after values done count e step = step ∙ ap (λ o. Some (drop count (unwrap_or o []))) e ∙ ap Some (drop-drop count done values)
