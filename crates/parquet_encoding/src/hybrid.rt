@@ -92,7 +92,7 @@ impl HybridRle {
         Some(run)
     }
 
-    /// PassesRun over `n` numbers, or over all that are left. The bytes are those of `try_new`.
+    /// Passes over `n` numbers, or over all that are left. The bytes are those of `try_new`.
     #[inline(always)]
     pub fn skip(&mut self, bytes: &[u8], n: usize)
         requires { IsSome (hybrid_left self.old bytes.now) }
@@ -127,7 +127,7 @@ impl HybridRle {
         done
     }
 
-    /// Writes numbers of one run, some of those that are next, to the front of `out`.
+    /// Writes the next numbers that lie in one run to the front of `out`, and gives how many they are: none only where none is left.
     #[inline(always)]
     fn fill_run(&mut self, bytes: &[u8], out: &mut [u32]) -> usize
         requires spelled { IsSome (hybrid_left self.old bytes.now) }
