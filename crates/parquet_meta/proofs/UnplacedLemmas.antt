@@ -1,6 +1,6 @@
 -- Chunks in the memory of their columns: one more, and one after the other beside leaves.
 use Rattle.std.proofs.Common.{◌≡◌, ℕ, suc, ◌+◌, ◌<◌, ◌≤◌, ◌≢◌, List, [], ◌∷◌, ◌++◌, Option, Some, None, refl, sym, ap, ap₂, ◌∙◌, arith, length, take, drop, get_or, set}
-use Rattle.std.proofs.lemmas.List.{append-nil, drop_more, drop_all, take_all, take_more_set, drop-set-lt, length-set}
+use Rattle.std.proofs.lemmas.List.{append-nil, drop_all, take_all, take_more_set, drop-set-lt, length-set}
 use Rattle.parquet_meta.specs.File.{column_data_of, columns_of}
 use Rattle.parquet_meta.specs.Unplaced.{chunk_in, chunks_in}
 use Rattle.parquet_meta.specs.declared.code.TypeCode.{TypeCode}

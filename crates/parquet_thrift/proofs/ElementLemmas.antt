@@ -1,5 +1,5 @@
 -- Passing over elements that hold no other values.
-use Rattle.std.proofs.Common.{◌≡◌, ℕ, zero, suc, ◌+◌, ◌≤◌, ◌<◌, ◌-◌, List, Option, Some, None, refl, sym, ap, ◌∙◌, arith}
+use Rattle.std.proofs.Common.{◌≡◌, ℕ, suc, ◌+◌, ◌≤◌, ◌<◌, ◌-◌, List, Option, Some, None, refl, sym, ap, ◌∙◌, arith}
 use Rattle.parquet_base.specs.Reading.{◌>>=◌, IsEnd, after}
 use Rattle.parquet_thrift.specs.Values.{Value, Values, in_list, elements, value_within}
 use Rattle.parquet_thrift.specs.Skipping.{after_part}

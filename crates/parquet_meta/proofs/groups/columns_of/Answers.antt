@@ -1,4 +1,4 @@
-use Rattle.std.proofs.Common.{◌≡◌, sym, ap, ◌∙◌, true, None, arith, length, List}
+use Rattle.std.proofs.Common.{sym, ap, ◌∙◌, true, arith}
 use Rattle.std.proofs.lemmas.Result.{err_from_is_err_and}
 use Rattle.parquet_meta.specs.File.{columns_of}
 use Rattle.parquet_meta.proofs.Steps.{refuses-on}
