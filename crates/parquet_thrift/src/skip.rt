@@ -180,8 +180,27 @@ pub(crate) fn skip_at(bytes: &[u8], kind: u8) -> Result<&[u8], Unspelled>
     let (begun, rest) = begin(bytes, false, kind)?;
     match begun {
         None => Ok(rest),
+        Some(Part::Elements { kind, left }) => skip_elements(rest, kind, left),
         Some(part) => skip_part(rest, part),
     }
+}
+
+/// Passes over the elements of a list. As long as they hold no other values, they need no room for parts.
+#[inline(never)]
+fn skip_elements(bytes: &[u8], kind: u8, count: usize) -> Result<&[u8], Unspelled>
+    ensures spelled { Gives (λ x. x.now) result (after_part 31 (Part.Elements kind count) bytes.now) }
+    ensures ends { IfOk result (λ x. IsEnd bytes.now x.now) }
+{
+    let mut rest = bytes;
+    'elements: for passed in 0..count {
+        let (begun, after) = begin(rest, true, kind)?;
+        let None = begun else {
+            let left = count - passed;
+            return skip_part(rest, Part::Elements { kind, left });
+        };
+        rest = after;
+    }
+    Ok(rest)
 }
 
 /// Passes over the outermost part of a value. It is out of line, so that a value that holds no other needs no room for parts.
