@@ -1,5 +1,5 @@
 //! Cells as text.
-ghost use Rattle.std.specs.Prelude.{◌≡◌, ◌<◌, ◌≤◌, ◌++◌, [], true, codes, flat_map, length, take, IfNone, IfSome};
+ghost use Rattle.std.specs.Prelude.{◌≡◌, ◌+◌, ◌<◌, ◌≤◌, ◌++◌, [], true, codes, flat_map, length, take, IfNone, IfSome};
 ghost use Rattle.columns_core.specs.Array.{column_of};
 ghost use Rattle.columns_core.specs.Lent.{cell_lent};
 ghost use Rattle.pq_common.specs.CellText as spec;
@@ -136,7 +136,7 @@ fn push_digits<K: Sink>(block: &mut Block, out: &mut K, bytes: &[u8]) -> Result<
 }
 
 /// The two hexadecimal digits of a byte.
-fn digits_of(byte: u8) -> [u8; 2]
+pub(crate) fn digits_of(byte: u8) -> [u8; 2]
     ensures { result ≡ hexadecimal byte }
 {
     let high = DIGITS[(byte / 16) as usize];
@@ -171,7 +171,22 @@ fn escape_of(byte: u8) -> [u8; 4]
 pub(crate) fn is_plain(bytes: &[u8]) -> bool
     ensures { result ≡ true → flat_map quoted_byte bytes.now ≡ bytes.now }
 {
-    plain_length(bytes, 0) == bytes.len()
+    match bytes.len() {
+        0..=3 => are_plain(bytes),
+        4..=8 => are_ends_plain(bytes, 4),
+        9..=16 => are_ends_plain(bytes, SHORT_BLOCK),
+        17..=32 => are_ends_plain(bytes, BLOCK),
+        _ => plain_length(bytes, 0) == bytes.len(),
+    }
+}
+
+/// Whether the first block of a text stands for itself, and the last one, which may begin inside the first: so two blocks are
+/// compared, of whatever length the text is.
+fn are_ends_plain(bytes: &[u8], block: usize) -> bool
+    requires { (block ≤ length bytes.now) × (length bytes.now ≤ block + block) }
+    ensures { result ≡ true → flat_map quoted_byte bytes.now ≡ bytes.now }
+{
+    are_plain(&bytes[..block]) && are_plain(&bytes[bytes.len() - block..])
 }
 
 /// How many bytes from the first on stand for themselves, where so many do.

@@ -3,7 +3,7 @@ use Rattle.std.specs.List.{flat_map, range_with_len}
 use Rattle.columns_core.specs.Array.{column_of}
 use Rattle.pq_common.specs.Rows.{row_line}
 use Rattle.pq_common.proofs.TakenLemmas.{Leaves}
-use Rattle.scan_program.proofs.chunks.push_rows.Given as goal
+use Rattle.pq_common.proofs.rows.push_row_lines.Given as goal
 
 -- what is held and the lines of the rows that are left are not yet written
 abbrev pub invariant-loop-row : goal.invariant-loop-row

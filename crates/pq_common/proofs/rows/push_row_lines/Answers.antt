@@ -3,7 +3,7 @@ use Rattle.columns_core.specs.Array.{column_of}
 use Rattle.pq_common.specs.Rows.{row_line}
 use Rattle.pq_common.proofs.RowLemmas.{row_left}
 use Rattle.pq_common.proofs.TakenLemmas.{piece_refused, piece_taken}
-use Rattle.scan_program.proofs.chunks.push_rows.Goals as goal
+use Rattle.pq_common.proofs.rows.push_row_lines.Goals as goal
 
 pub returns-in_err-push_row : goal.returns-in_err-push_row
 returns-in_err-push_row g c =
