@@ -29,15 +29,15 @@ plain_behind zero bytes e = e
 plain_behind (suc n) [] e = refl
 plain_behind (suc n) (byte ∷ bytes) e = plain_behind n bytes (by_first byte bytes (is_escaped byte) e)
 
--- two blocks that stand for themselves, which together have all bytes
-pub plain_ends : (n : ℕ) (bytes : List ℕ) → n ≤ length bytes → length bytes ≤ n + n
+-- the first bytes and the last ones stand for themselves, which together are all
+pub plain_ends : (n m : ℕ) (bytes : List ℕ) → m ≤ length bytes → length bytes ≤ n + m
     → flat_map quoted_byte (take n bytes) ≡ take n bytes
-    → flat_map quoted_byte (drop (length bytes - n) bytes) ≡ drop (length bytes - n) bytes → flat_map quoted_byte bytes ≡ bytes
-plain_ends n bytes some most first last =
-    let behind = n + n - length bytes in
-    let place : length bytes - n + behind ≡ n = omega (arith, some, most) in
-    let rest : drop behind (drop (length bytes - n) bytes) ≡ drop n bytes =
-    drop-drop behind (length bytes - n) bytes ∙ ap (λ m. drop m bytes) place in
-    let others = subst (λ (xs : List ℕ). flat_map quoted_byte xs ≡ xs) rest (plain_behind behind (drop (length bytes - n) bytes) last) in
+    → flat_map quoted_byte (drop (length bytes - m) bytes) ≡ drop (length bytes - m) bytes → flat_map quoted_byte bytes ≡ bytes
+plain_ends n m bytes some most first last =
+    let behind = n + m - length bytes in
+    let place : length bytes - m + behind ≡ n = omega (arith, some, most) in
+    let rest : drop behind (drop (length bytes - m) bytes) ≡ drop n bytes =
+    drop-drop behind (length bytes - m) bytes ∙ ap (λ k. drop k bytes) place in
+    let others = subst (λ (xs : List ℕ). flat_map quoted_byte xs ≡ xs) rest (plain_behind behind (drop (length bytes - m) bytes) last) in
     ap (flat_map quoted_byte) (sym (take-append-drop n bytes)) ∙ flat_map-append quoted_byte (take n bytes) (drop n bytes)
     ∙ (λ i. first i ++ others i) ∙ take-append-drop n bytes

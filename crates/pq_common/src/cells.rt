@@ -175,12 +175,21 @@ pub(crate) fn is_plain(bytes: &[u8]) -> bool
         0..=3 => are_plain(bytes),
         4..=8 => are_ends_plain(bytes, 4),
         9..=16 => are_ends_plain(bytes, SHORT_BLOCK),
-        17..=32 => are_ends_plain(bytes, BLOCK),
-        _ => plain_length(bytes, 0) == bytes.len(),
+        _ => is_long_plain(bytes),
     }
 }
 
-/// Whether the first block of a text stands for itself, and the last one, which may begin inside the first: so two blocks are
+/// Whether a text stands for itself that is as long as a block: whole blocks of it, and its last block, which may begin inside them.
+fn is_long_plain(bytes: &[u8]) -> bool
+    requires { 16 ≤ length bytes.now }
+    ensures { result ≡ true → flat_map quoted_byte bytes.now ≡ bytes.now }
+{
+    let long = plain_blocks(bytes, 0, LONG_BLOCK);
+    let most = plain_blocks(bytes, long, BLOCK);
+    bytes.len() - most <= BLOCK && are_plain(&bytes[bytes.len() - BLOCK..])
+}
+
+/// Whether the first block of a text and its last one, which may begin inside the first, stand for themselves. So two blocks are
 /// compared, of whatever length the text is.
 fn are_ends_plain(bytes: &[u8], block: usize) -> bool
     requires { (block ≤ length bytes.now) × (length bytes.now ≤ block + block) }

@@ -1,5 +1,6 @@
-//! Rows of columns of any types as lines of text. A line is written in place where it fits, and else piece by piece.
-ghost use Rattle.std.specs.Prelude.{◌≡◌, ◌≤◌, ◌++◌, ◌∷◌, [], drop, flat_map, length, map, IfSome};
+//! Rows of columns of any types as lines of text. Lines are written in place, many together, where they fit, and else piece by
+//! piece.
+ghost use Rattle.std.specs.Prelude.{◌≡◌, ◌-◌, ◌≤◌, ◌++◌, ◌∷◌, [], drop, flat_map, length, map, IfSome};
 ghost use Rattle.std.specs.List.{join_by, range_with_len};
 ghost use Rattle.columns_core.specs.Array.{column_of};
 ghost use Rattle.pq_common.specs.Rows.{cell_at, row_line};
@@ -12,10 +13,14 @@ use crate::sink::Sink;
 use columns_core::Array;
 use parquet_meta::Failed;
 
-/// The most bytes of a line that is written in place.
-const LINE_BYTES: usize = 512;
+/// How many bytes of lines are written before they go to the sink's block.
+const LINES_BYTES: usize = 4096;
 
-/// Takes the lines of rows: of each the cells of all columns, with tabs between them.
+/// How many rows are written together at most.
+const MOST_ROWS: usize = 32;
+
+/// Takes the lines of rows: of each the cells of all columns, with tabs between them. Fewer rows are written together where some have
+/// not fitted.
 pub fn push_row_lines<K: Sink>(
     block: &mut Block,
     out: &mut K,
@@ -25,29 +30,58 @@ pub fn push_row_lines<K: Sink>(
     ensures { let lines = flat_map (row_line (map column_of arrays.now)) (range_with_len 0 rows) in
         TakesBytes K.Sink out.old out.new (block.old ++ lines) block.new result }
 {
-    let mut line = [0; LINE_BYTES];
-    for row in 0..rows {
-        push_row(block, out, &mut line, arrays, row)?;
+    let mut lines = [0; LINES_BYTES];
+    let mut count = MOST_ROWS;
+    let mut row = 0;
+    while row < rows {
+        let to = row + count.min(rows - row);
+        if !push_some(block, out, &mut lines, arrays, row, to)? {
+            count = (count / 2).max(1);
+        }
+        row = to;
     }
     Ok(())
 }
 
-/// Takes the line of a row. What it writes of it stands in `line`.
-fn push_row<K: Sink>(
+/// Takes the lines of some rows, which are written in `lines` together, or else piece by piece. Says whether they are together.
+fn push_some<K: Sink>(
     block: &mut Block,
     out: &mut K,
-    line: &mut [u8],
+    lines: &mut [u8],
     arrays: &[Array],
-    row: usize,
-) -> Result<(), Failed>
-    ensures { let text = row_line (map column_of arrays.now) row in
-        TakesBytes K.Sink out.old out.new (block.old ++ text) block.new result }
+    from: usize,
+    to: usize,
+) -> Result<bool, Failed>
+    requires { from ≤ to }
+    ensures { let rows = range_with_len from (to - from) in
+        let lines = flat_map (row_line (map column_of arrays.now)) rows in
+        TakesBytes K.Sink out.old out.new (block.old ++ lines) block.new result }
 {
-    let end = line.len();
-    match write_row(line, end, arrays, row) {
-        Some(start) => block.push(out, &line[start..]),
-        None => push_pieces(block, out, arrays, row),
+    match write_rows(lines, arrays, from, to) {
+        Some(start) => {
+            block.push(out, &lines[start..])?;
+            Ok(true)
+        }
+        None => {
+            push_each(block, out, arrays, from, to)?;
+            Ok(false)
+        }
     }
+}
+
+/// Writes the lines of rows at the end of a block, and says where they begin, if they fit and each of their cells is written in place.
+fn write_rows(lines: &mut [u8], arrays: &[Array], from: usize, to: usize) -> Option<usize>
+    requires { from ≤ to }
+    ensures start { IfSome result (λ start. start ≤ length lines.new) }
+    ensures written { let rows = range_with_len from (to - from) in
+        IfSome result (λ start. drop start lines.new
+        ≡ flat_map (row_line (map column_of arrays.now)) rows) }
+{
+    let mut start = lines.len();
+    for row in (from..to).rev() {
+        start = write_row(lines, start, arrays, row)?;
+    }
+    Some(start)
 }
 
 /// Writes the line of a row before a place, and says where it begins, if each of its cells is written in place and it fits.
@@ -91,6 +125,25 @@ fn write_other(line: &mut [u8], end: usize, array: &Array, row: usize) -> Option
 {
     let start = write_cell(line, end, array, row)?;
     write_piece_before(line, start, b"\t")
+}
+
+/// Takes the lines of rows piece by piece.
+fn push_each<K: Sink>(
+    block: &mut Block,
+    out: &mut K,
+    arrays: &[Array],
+    from: usize,
+    to: usize,
+) -> Result<(), Failed>
+    requires { from ≤ to }
+    ensures { let rows = range_with_len from (to - from) in
+        let lines = flat_map (row_line (map column_of arrays.now)) rows in
+        TakesBytes K.Sink out.old out.new (block.old ++ lines) block.new result }
+{
+    for row in from..to {
+        push_pieces(block, out, arrays, row)?;
+    }
+    Ok(())
 }
 
 /// Takes the line of a row piece by piece.

@@ -8,4 +8,4 @@ returns-then-are_plain c = λ is.
     let bytes = c.args.bytes.now in
     let place = length bytes - c.args.block in
     let whole = take_all (length bytes - place) (drop place bytes) (omega (arith, length-drop place bytes)) in
-    plain_ends c.args.block bytes c.requires.0 c.requires.1 (c.are_plain.ensures c.if-are_plain.true) (rw whole at (c.are_plain-then-are_plain.ensures is))
+    plain_ends c.args.block c.args.block bytes c.requires.0 c.requires.1 (c.are_plain.ensures c.if-are_plain.true) (rw whole at (c.are_plain-then-are_plain.ensures is))

@@ -10,6 +10,11 @@ abbrev pub invariant-loop-row : goal.invariant-loop-row
 invariant-loop-row g l =
     let lines = row_line (map column_of l.arrays) in
     record {
+      some : 1 ≤ l.count;
       within : l.row ≤ l.rows;
-      left : Leaves g.K.Sink l.initial.out l.out (l.initial.block ++ flat_map lines (range_with_len 0 l.rows)) (l.block ++ flat_map lines (range_with_len l.row (l.rows - l.row)));
+      left : Leaves g.K.Sink l.initial.out l.out (l.initial.block ++ flat_map lines (range_with_len 0 l.rows))
+          (l.block ++ flat_map lines (range_with_len l.row (l.rows - l.row)));
     }
+
+abbrev pub decreases-loop-row : goal.decreases-loop-row
+decreases-loop-row g l = l.rows - l.row
