@@ -15,12 +15,14 @@ use parquet_meta::Failed;
 
 const DIGITS: [u8; 16] = *b"0123456789abcdef";
 
-/// How many bytes of a text are compared side by side: of a long stretch, of what is left of it, and of what is left of that.
+/// How many bytes of a text are compared side by side: of a long stretch, of what is left of it, and of short texts.
 const LONG_BLOCK: usize = 64;
 
 const BLOCK: usize = 16;
 
 const SHORT_BLOCK: usize = 8;
+
+const SHORTEST_BLOCK: usize = 4;
 
 /// A piece of a text as it is written: a stretch of bytes that stand for themselves, or one byte by its number.
 #[derive(Drop)]
@@ -173,13 +175,13 @@ pub(crate) fn is_plain(bytes: &[u8]) -> bool
 {
     match bytes.len() {
         0..=3 => are_plain(bytes),
-        4..=8 => are_ends_plain(bytes, 4),
+        4..=8 => are_ends_plain(bytes, SHORTEST_BLOCK),
         9..=16 => are_ends_plain(bytes, SHORT_BLOCK),
         _ => is_long_plain(bytes),
     }
 }
 
-/// Whether a text stands for itself that is as long as a block: whole blocks of it, and its last block, which may begin inside them.
+/// Whether a text of a block or more stands for itself: whole blocks of it, and its last block, which may begin inside them.
 fn is_long_plain(bytes: &[u8]) -> bool
     requires { 16 ≤ length bytes.now }
     ensures { result ≡ true → flat_map quoted_byte bytes.now ≡ bytes.now }

@@ -121,14 +121,14 @@ fn write_number(line: &mut [u8], end: usize, number: i64) -> Option<usize>
     Some(write_i64(line, end, number))
 }
 
-/// Writes a text in quotes, if its bytes stand for themselves.
+/// Writes a text in quotes, if there is room and its bytes stand for themselves.
 fn write_quoted(line: &mut [u8], end: usize, bytes: &[u8]) -> Option<usize>
     requires { end ≤ length line.old }
     ensures start { IfSome result (λ start. start ≤ end) }
     ensures written { let text = quoted bytes.now in
         IfSome result (λ start. drop start line.new ≡ text ++ drop end line.old) }
 {
-    if !is_plain(bytes) {
+    if bytes.len() > end || !is_plain(bytes) {
         return None;
     }
     let behind = write_piece_before(line, end, b"\"")?;

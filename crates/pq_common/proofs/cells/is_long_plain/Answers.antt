@@ -1,4 +1,4 @@
-use Rattle.std.proofs.Common.{◌≡◌, ◌-◌, arith, drop, length, length-drop}
+use Rattle.std.proofs.Common.{◌-◌, arith, drop, length, length-drop}
 use Rattle.std.proofs.lemmas.List.{take_all}
 use Rattle.pq_common.proofs.PlainLemmas.{plain_ends}
 use Rattle.pq_common.proofs.cells.is_long_plain.Goals as goal

@@ -1,4 +1,4 @@
-use Rattle.std.proofs.Common.{◌≡◌, ◌∙◌, ℕ, ◌+◌, ◌-◌, ◌≤◌, List, ◌++◌, ap, arith, map, sym}
+use Rattle.std.proofs.Common.{◌≡◌, ◌∙◌, ℕ, ◌+◌, ◌-◌, ◌≤◌, List, ◌++◌, ap, arith, map}
 use Rattle.std.specs.List.{flat_map, range_with_len}
 use Rattle.columns_core.specs.Array.{column_of}
 use Rattle.pq_common.specs.Rows.{row_line}
