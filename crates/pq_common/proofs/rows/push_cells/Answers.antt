@@ -2,8 +2,8 @@ use Rattle.std.proofs.Common.{[], ◌∷◌}
 use Rattle.columns_core.specs.Array.{column_of}
 use Rattle.pq_common.specs.Rows.{cell_at}
 use Rattle.pq_common.proofs.TakenLemmas.{begun, last_taken, piece_refused, piece_taken}
-use Rattle.scan_program.proofs.Joined.{first_of_joined}
-use Rattle.scan_program.proofs.chunks.push_cells.Goals as goal
+use Rattle.pq_common.proofs.Joined.{first_of_joined}
+use Rattle.pq_common.proofs.rows.push_cells.Goals as goal
 
 pub returns-in_err-push_cell-in-Some : goal.returns-in_err-push_cell-in-Some
 returns-in_err-push_cell-in-Some g c =

@@ -3,7 +3,7 @@ use Rattle.std.specs.List.{flat_map}
 use Rattle.columns_core.specs.Array.{column_of}
 use Rattle.pq_common.specs.Rows.{cell_at}
 use Rattle.pq_common.proofs.TakenLemmas.{Leaves}
-use Rattle.scan_program.proofs.chunks.push_others.Given as goal
+use Rattle.pq_common.proofs.rows.push_others.Given as goal
 
 -- what is held and the cells that are left are not yet written
 abbrev pub invariant-loop-array : goal.invariant-loop-array

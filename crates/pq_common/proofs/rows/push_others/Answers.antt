@@ -2,7 +2,7 @@ use Rattle.std.proofs.Common.{◌∷◌, arith}
 use Rattle.columns_core.specs.Array.{column_of}
 use Rattle.pq_common.specs.Rows.{cell_at}
 use Rattle.pq_common.proofs.TakenLemmas.{next_item, piece_refused, piece_taken}
-use Rattle.scan_program.proofs.chunks.push_others.Goals as goal
+use Rattle.pq_common.proofs.rows.push_others.Goals as goal
 
 pub returns-in_err-push_other : goal.returns-in_err-push_other
 returns-in_err-push_other g c =
