@@ -63,7 +63,8 @@ fn put_beside(
     column: &mut ColumnChunkMetaData,
 ) -> Result<(), Fault>
     ensures placed { OnOk result (column_data_of leaf.now (chunk_in column.old told) ≡ Some column.new) }
-    ensures refused { IfErr result (λ e. IsFaultOf true e (column_data_of leaf.now (chunk_in column.old told))) }
+    ensures refused { IfErr result (λ e.
+        IsFaultOf true e (column_data_of leaf.now (chunk_in column.old told))) }
 {
     match told {
         Some(code) => {
