@@ -157,7 +157,9 @@ fn take_each<W: StringWalk, O: Offset>(
     Ok(walk)
 }
 
-/// Appends the next strings, at most as many as there is room for lengths: together where all of them are short.
+/// Appends the next strings, at most as many as there is room for lengths: together where all of them are short. It stands by itself, so that
+/// its loops have the registers.
+#[inline(never)]
 fn take_chunk<W: StringWalk, O: Offset>(
     walk: W,
     bytes: &[u8],

@@ -97,6 +97,7 @@ impl<O: Offset> Strings<O> {
     }
 
     /// Strings of these lengths more, whose bytes are joined, and may be known to be ASCII.
+    #[inline(always)]
     pub(crate) fn push_joined(
         &mut self,
         joined: &[u8],
