@@ -40,8 +40,8 @@ pub(crate) fn join_word<W: StringWalk>(
         IfSome result (λ found. W.places found.0 bytes.now ≡ Some (drop count left)) }
     ensures lengths { let left = unwrap_or (W.places walk bytes.now) [] in
         let items = take (present_count (word_places word)) left in
-        IfSome result (λ _. lengths.new
-        ≡ spread_over (pos 0) (word_places word) (map (λ item. pos (length (bytes_in bytes.now item))) items)) }
+        let each = map (λ item. pos (length (bytes_in bytes.now item))) items in
+        IfSome result (λ _. lengths.new ≡ spread_over (pos 0) (word_places word) each) }
     ensures joined { let left = unwrap_or (W.places walk bytes.now) [] in
         let items = take (present_count (word_places word)) left in
         IfSome result (λ found. take found.1 block.new ≡ flat_map (bytes_in bytes.now) items) }

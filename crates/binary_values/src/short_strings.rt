@@ -24,7 +24,8 @@ fn padded(bytes: &[u8]) -> [u8; SHORT_BYTES]
 
 /// The first bytes, as many as are copied of a short string, or all, with zeros behind them.
 fn first_bytes(bytes: &[u8]) -> u8x16
-    ensures front { (long : ℕ) → long ≤ 16 → long ≤ length bytes.now → take long result ≡ take long bytes.now }
+    ensures front { (long : ℕ) → long ≤ 16 → long ≤ length bytes.now
+        → take long result ≡ take long bytes.now }
     ensures counted { length result ≡ 16 }
 {
     match bytes.first_chunk::<SHORT_BYTES>() {
