@@ -1,5 +1,7 @@
+pub mod AsciiLemmas
 pub mod DictLemmas
 pub mod EndLemmas
+pub mod FirstRowLemmas
 pub mod JoinedLemmas
 pub mod NamedLemmas
 pub mod OwnLemmas

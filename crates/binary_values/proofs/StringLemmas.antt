@@ -1,13 +1,15 @@
 -- Byte strings one behind another, with one more at the end, and those behind some of them.
 use Rattle.std.proofs.Common.{◌≡◌, ℕ, zero, suc, ◌+◌, ◌-◌, ◌<◌, ◌≤◌, List, [], ◌∷◌, ◌++◌, length, get_or, take, drop, map, refl, sym, ap, ◌∙◌, subst, arith}
 use Rattle.std.specs.Prelude.{All, IsUtf8, slice_get, slice_range, sum_by, Some}
+use Rattle.std.specs.Str.{IsAscii}
 use Rattle.std.proofs.lemmas.List.{length-drop, length-map, length-take-le, drop-append-le, take-append-le, take_all}
 use Rattle.std.proofs.lemmas.List.Sums.{sum_by-cons}
 use Rattle.std.proofs.lemmas.Grind.{common_steps}
+use Rattle.std.proofs.lemmas.Str.{IsUtf8-from_ascii}
 use Rattle.std.proofs.Math.Seq.{drop-append_seam}
 use Rattle.columns_core.specs.Offsets.{AreOffsets, last, parts}
 use Rattle.columns_core.specs.Joined.{AreTexts, BeginAtCharacters}
-use Rattle.columns_core.proofs.TextLemmas.{together, begin-apart, cut}
+use Rattle.columns_core.proofs.TextLemmas.{together, begin-apart, begin-in_ascii, cut}
 use Rattle.columns_core.proofs.OffsetLemmas.{risen, some-offset}
 use Rattle.binary_values.specs.Rebased.{rebased}
 
@@ -171,3 +173,9 @@ module _ (offsets bytes : List ℕ) (from : ℕ) (shape : AreOffsets offsets) (a
   texts-cut text is utf8 begin =
       subst (λ (xs : List (List ℕ)). All IsUtf8 xs) (parts-rebased from offsets bytes shape inside)
       (cut (rebased from offsets) (drop (get_or offsets from 0) bytes) text (is ∙ sym all-taken) (rebased-AreOffsets from offsets shape inside) (omega (arith, rest-last)) utf8 begin)
+
+  -- all their bytes are ASCII
+  pub texts-ascii : IsAscii (drop (get_or offsets from 0) bytes) → All IsUtf8 (drop from (parts offsets bytes))
+  texts-ascii ascii =
+      let text = drop (get_or offsets from 0) bytes in
+      texts-cut text refl (IsUtf8-from_ascii text ascii) (begin-in_ascii (rebased from offsets) text (rebased-AreOffsets from offsets shape inside) (sym rest-last) ascii)

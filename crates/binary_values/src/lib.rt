@@ -7,6 +7,7 @@ mod byte_place;
 mod byte_values;
 mod into_array;
 mod named;
+mod short_rows;
 mod short_strings;
 mod string_rows;
 mod string_walk;

@@ -1,49 +1,86 @@
 //! Short strings, joined in a block before they are appended.
-ghost use Rattle.std.specs.Prelude.{◌≡◌, ◌+◌, ◌-◌, ◌≤◌, ◌++◌, [], drop, take, length, map, nat_abs, pos, replicate, unwrap_or, Some, IsSome, IfSome};
+ghost use Rattle.std.specs.Prelude.{◌≡◌, ◌+◌, ◌*◌, ◌-◌, ◌≤◌, ◌++◌, ℕ, [], IsTrue, drop, take, length, map, nat_abs, replicate, unwrap_or, Some, IsSome, IfSome};
 ghost use Rattle.std.specs.List.{flat_map};
+ghost use Rattle.std.specs.Str.{IsAscii};
 ghost use Rattle.parquet_encoding.specs.Places.{bytes_in};
-ghost use Rattle.parquet_page.specs.Levels.{present_count};
-ghost use Rattle.parquet_page.specs.ValidityParts.{word_places};
-ghost use Rattle.flat_values.specs.Decoded.{spread_over};
 
 use crate::string_walk::StringWalk;
-use parquet_page::ValidityWord;
+use std::simd::prelude::*;
 
 /// A string of so many bytes at most is short. So many are copied of each, since that takes no call.
 pub(crate) const SHORT_BYTES: usize = 16;
 
-/// Writes a string of the bytes behind the first bytes of a block, and says where it ends, if it is short and there is room.
-fn write_short(
+/// Few bytes, with zeros behind them.
+#[cold]
+#[inline(never)]
+fn padded(bytes: &[u8]) -> [u8; SHORT_BYTES]
+    requires { length bytes.now ≤ 16 }
+    ensures { result ≡ bytes.now ++ replicate (16 - length bytes.now) 0 }
+{
+    let mut window = [0; SHORT_BYTES];
+    window[..bytes.len()].copy_from_slice(bytes);
+    window
+}
+
+/// The first bytes, as many as are copied of a short string, or all, with zeros behind them.
+fn first_bytes(bytes: &[u8]) -> u8x16
+    ensures front { (long : ℕ) → long ≤ 16 → long ≤ length bytes.now
+        → take long result ≡ take long bytes.now }
+    ensures counted { length result ≡ 16 }
+{
+    match bytes.first_chunk::<SHORT_BYTES>() {
+        Some(window) => u8x16::from_array(*window),
+        None => u8x16::from_array(padded(bytes)),
+    }
+}
+
+/// Writes a string of the bytes behind the first bytes of a block, if it is short: what was written.
+pub(crate) fn write_short(
     block: &mut [u8],
     end: usize,
     bytes: &[u8],
     start: usize,
     long: usize,
-) -> Option<usize>
-    requires end { end ≤ length block.old }
+) -> Option<[u8; SHORT_BYTES]>
+    requires room { end + 16 ≤ length block.old }
     requires within { start + long ≤ length bytes.now }
-    ensures written { IfSome result (λ n.
-        take n block.new ≡ take end block.old ++ bytes_in bytes.now (start, long)) }
-    ensures within { IfSome result (λ n. n ≤ length block.new) }
+    ensures written { IfSome result (λ _.
+        take (end + long) block.new ≡ take end block.old ++ bytes_in bytes.now (start, long)) }
+    ensures copied { IfSome result (λ window. take long window ≡ bytes_in bytes.now (start, long)) }
     ensures short { IfSome result (λ _. long ≤ 16) }
     ensures same { length block.new ≡ length block.old }
 {
-    if long > SHORT_BYTES || block.len() - end < SHORT_BYTES || bytes.len() - start < SHORT_BYTES {
+    if long > SHORT_BYTES {
         return None;
     }
-    block[end..end + SHORT_BYTES].copy_from_slice(&bytes[start..start + SHORT_BYTES]);
-    Some(end + long)
+    let window = first_bytes(&bytes[start..]);
+    window.copy_to_slice(&mut block[end..]);
+    Some(window.to_array())
+}
+
+/// Bytes and others that were seen: where these are ASCII together, all of them are.
+pub(crate) fn both(seen: u8x16, window: u8x16) -> u8x16
+    ensures { IsAscii result → IsAscii seen × IsAscii window }
+{
+    seen | window
+}
+
+pub(crate) fn are_ascii(seen: u8x16) -> bool
+    ensures { IsTrue result → IsAscii seen }
+{
+    seen.to_array().is_ascii()
 }
 
 /// Joins the next strings at the front of a block, as many as there is room for lengths, if all of them are short: the place behind
-/// them, and how many bytes they have.
+/// them, how many bytes they have, and whether these were seen to be ASCII.
 pub(crate) fn join_short<W: StringWalk>(
     walk: W,
     bytes: &[u8],
     block: &mut [u8],
     lengths: &mut [i64],
-) -> Option<(W, usize)>
-    requires { IsSome (W.places walk bytes.now) }
+) -> Option<(W, usize, bool)>
+    requires spelled { IsSome (W.places walk bytes.now) }
+    requires room { 16 * length lengths.old ≤ length block.old }
     ensures rest { let left = unwrap_or (W.places walk bytes.now) [] in
         IfSome result (λ found. W.places found.0 bytes.now ≡ Some (drop (length lengths.old) left)) }
     ensures lengths { let items = take (length lengths.old) (unwrap_or (W.places walk bytes.now) []) in
@@ -52,33 +89,18 @@ pub(crate) fn join_short<W: StringWalk>(
     ensures joined { let items = take (length lengths.old) (unwrap_or (W.places walk bytes.now) []) in
         IfSome result (λ found. take found.1 block.new ≡ flat_map (bytes_in bytes.now) items) }
     ensures within { IfSome result (λ found. found.1 ≤ length block.new) }
+    ensures ascii { IfSome result (λ found. IsTrue found.2 → IsAscii (take found.1 block.new)) }
     ensures same { length lengths.new ≡ length lengths.old }
 {
     let mut walk = walk;
-    let mut end = 0;
+    let mut filled = 0;
+    let mut seen = u8x16::splat(0);
     for i in 0..lengths.len() {
         let (start, long) = walk.next_string(bytes)?;
-        end = write_short(block, end, bytes, start, long)?;
+        let window = write_short(block, filled, bytes, start, long)?;
         lengths[i] = long as i64;
+        seen = both(seen, u8x16::from_array(window));
+        filled += long;
     }
-    Some((walk, end))
-}
-
-/// Moves the items at the front to the rows of a word that have one, from the last on. The other rows stand on `null`, as what is
-/// behind the items does. A place is chosen and not an item, since a choice of numbers becomes a branch.
-pub(crate) fn spread_items<T: Copy>(items: &mut [T], word: ValidityWord, null: T)
-    requires rows { length items.old ≡ word.rows }
-    requires nulls { drop (present_count (word_places word)) items.old
-        ≡ replicate (word.rows - present_count (word_places word)) null }
-    ensures { items.new ≡ spread_over null (word_places word) items.old }
-{
-    let mut stored = word.present();
-    for row in (0..word.rows).rev() {
-        let present = word.bits >> row & 1;
-        stored -= present as usize;
-        let from = if present == 1 { stored } else { row };
-        let item = items[from];
-        items[stored] = null;
-        items[row] = item;
-    }
+    Some((walk, filled, are_ascii(seen)))
 }

@@ -8,7 +8,8 @@ ghost use Rattle.flat_values.specs.Decoded.{spread_over};
 ghost use Rattle.binary_values.specs.ByteStrings.{AreJudged, IsCausedByBytes, stored_outcomes};
 
 use crate::Strings;
-use crate::short_strings::{SHORT_BYTES, join_short, spread_items};
+use crate::short_rows::join_word;
+use crate::short_strings::SHORT_BYTES;
 use crate::string_walk::{StringWalk, are_judged, are_judged_from};
 use columns_core::{Error, Offset, Part};
 use parquet_page::ValidityWord;
@@ -43,11 +44,10 @@ fn take_rows<W: StringWalk, O: Offset>(
 {
     let mut block = [0; WORD_BYTES];
     let mut lengths = [0; WORD_ROWS];
-    match join_short(walk, bytes, &mut block, &mut lengths[..word.present()]) {
+    match join_word(walk, bytes, word, &mut block, &mut lengths[..word.rows]) {
         None => take_each_row(walk, bytes, strings, word),
-        Some((behind, end)) => {
-            spread_items(&mut lengths[..word.rows], word, 0);
-            strings.push_joined(&block[..end], &lengths[..word.rows])?;
+        Some((behind, end, are_ascii)) => {
+            strings.push_joined(&block[..end], &lengths[..word.rows], are_ascii)?;
             Ok(behind)
         }
     }

@@ -1,5 +1,5 @@
 //! Byte strings of a page, one after another.
-ghost use Rattle.std.specs.Prelude.{◌≡◌, ◌⊎◌, ◌↔◌, ◌≤◌, ◌<◌, ◌+◌, ◌++◌, ℕ, Bool, IsTrue, IsUtf8, All, List, [], drop, take, length, map, sum_by, slice_get, unwrap_or, Option, Some, IsSome, IfOk, IfErr, IfSome, OnOk};
+ghost use Rattle.std.specs.Prelude.{◌≡◌, ◌⊎◌, ◌↔◌, ◌≤◌, ◌<◌, ◌+◌, ◌*◌, ◌++◌, ℕ, Bool, IsTrue, IsUtf8, All, List, [], drop, take, length, map, sum_by, slice_get, unwrap_or, Option, Some, IsSome, IfOk, IfErr, IfSome, OnOk};
 ghost use Rattle.columns_core.specs.Causes.{IsWantOfMemory, Overflow, cause_of};
 ghost use Rattle.parquet_encoding.specs.Places.{bytes_in};
 ghost use Rattle.page_decoding.specs.Outcome.{causes_in};
@@ -120,7 +120,7 @@ impl TakeStrings for DeltaLength {
             if found == 0 {
                 return Ok(walk);
             }
-            strings.push_joined(joined, &room[..found])?;
+            strings.push_joined(joined, &room[..found], false)?;
             left -= found;
         }
         Ok(walk)
@@ -157,7 +157,9 @@ fn take_each<W: StringWalk, O: Offset>(
     Ok(walk)
 }
 
-/// Appends the next strings, at most as many as there is room for lengths: together where all of them are short.
+/// Appends the next strings, at most as many as there is room for lengths: together where all of them are short. It stands by itself, so that
+/// its loops have the registers.
+#[inline(never)]
 fn take_chunk<W: StringWalk, O: Offset>(
     walk: W,
     bytes: &[u8],
@@ -167,6 +169,7 @@ fn take_chunk<W: StringWalk, O: Offset>(
 ) -> Result<W, Error>
     requires spelled { IsSome (W.places walk bytes.now) }
     requires fits { sum_by length strings.old ≤ O.greatest }
+    requires room { 16 * length lengths.old ≤ length block.old }
     ensures added { let left = unwrap_or (W.places walk bytes.now) [] in
         let items = map (bytes_in bytes.now) (take (length lengths.old) left) in
         OnOk result (strings.new ≡ strings.old ++ items) }
@@ -180,8 +183,8 @@ fn take_chunk<W: StringWalk, O: Offset>(
 {
     match join_short(walk, bytes, block, lengths) {
         None => take_each(walk, bytes, strings, lengths.len()),
-        Some((behind, end)) => {
-            strings.push_joined(&block[..end], lengths)?;
+        Some((behind, end, are_ascii)) => {
+            strings.push_joined(&block[..end], lengths, are_ascii)?;
             Ok(behind)
         }
     }

@@ -1,5 +1,6 @@
 //! Byte strings one behind another, in vectors that grow.
 ghost use Rattle.std.specs.Prelude.{◌≡◌, ◌⊎◌, ◌↔◌, ◌≤◌, ◌<◌, ◌+◌, ◌-◌, ◌++◌, ◌∷◌, ℕ, IsTrue, IsUtf8, All, [], drop, length, replicate, sum_by, slice_get, slice_index, option_copied, map, nat_abs, IfOk, IfErr, OnOk};
+ghost use Rattle.std.specs.Str.{IsAscii};
 ghost use Rattle.columns_core.specs.Causes.{IsWantOfMemory};
 ghost use Rattle.columns_core.specs.Joined.{BeginAtCharacters};
 ghost use Rattle.columns_core.specs.Offsets.{AreOffsets, last, parts};
@@ -10,18 +11,18 @@ use columns_core::{Error, Offset, Offsets};
 use std::alloc::Global;
 use std::marker::Model;
 
-/// Where texts have so many bytes, to test where each begins takes less than to test whether all bytes are ASCII.
-const LONG_TEXT: usize = 32;
-
 /// Byte strings that are appended one by one. Contracts see their list.
 #[derive(Drop)]
 pub struct Strings<O: Offset> {
     offsets: Offsets<O>,
     values: Vec<u8>,
+    /// From here on all bytes are known to be ASCII.
+    ascii_from: usize,
 }
 
 impl<O: Offset> Model for Strings<O> {
-    ghost use Rattle.std.specs.Prelude.{◌≡◌, ◌≤◌, ℕ, List, length};
+    ghost use Rattle.std.specs.Prelude.{◌≡◌, ◌≤◌, ℕ, List, drop, length};
+    ghost use Rattle.std.specs.Str.{IsAscii};
     ghost use Rattle.columns_core.specs.Offsets.{AreOffsets, last, parts};
 
     ghost Value = { List (List ℕ) };
@@ -30,7 +31,7 @@ impl<O: Offset> Model for Strings<O> {
 
     ghost invariant = { λ strings.
         AreOffsets strings.offsets × (last strings.offsets ≡ length strings.values.items) ×
-        (last strings.offsets ≤ O.greatest) };
+        (last strings.offsets ≤ O.greatest) × IsAscii (drop strings.ascii_from strings.values.items) };
 }
 
 impl<O: Offset> Strings<O> {
@@ -42,6 +43,7 @@ impl<O: Offset> Strings<O> {
         Ok(Strings {
             offsets: Offsets::new(alloc)?,
             values: Vec::new(alloc),
+            ascii_from: 0,
         })
     }
 
@@ -83,7 +85,10 @@ impl<O: Offset> Strings<O> {
         let held = self.values.len();
         self.values.extend_from_slice(value)?;
         match self.offsets.try_push(value.len()) {
-            Ok(()) => Ok(()),
+            Ok(()) => {
+                self.ascii_from = self.values.len();
+                Ok(())
+            }
             Err(error) => {
                 self.values.truncate(held);
                 Err(error)
@@ -91,9 +96,16 @@ impl<O: Offset> Strings<O> {
         }
     }
 
-    /// Strings of these lengths more, whose bytes are joined.
-    pub(crate) fn push_joined(&mut self, joined: &[u8], lengths: &[i64]) -> Result<(), Error>
-        requires { sum_by nat_abs lengths.now ≡ length joined.now }
+    /// Strings of these lengths more, whose bytes are joined, and may be known to be ASCII.
+    #[inline(always)]
+    pub(crate) fn push_joined(
+        &mut self,
+        joined: &[u8],
+        lengths: &[i64],
+        are_ascii: bool,
+    ) -> Result<(), Error>
+        requires sum { sum_by nat_abs lengths.now ≡ length joined.now }
+        requires ascii { IsTrue are_ascii → IsAscii joined.now }
         ensures ok { OnOk result (self.new ≡ self.old ++ cut_into (map nat_abs lengths.now) joined.now) }
         ensures fits { OnOk result (sum_by length self.old + length joined.now ≤ O.greatest) }
         ensures err { let sum = sum_by length self.old + length joined.now in
@@ -103,7 +115,14 @@ impl<O: Offset> Strings<O> {
         let before = self.values.len();
         self.values.extend_from_slice(joined)?;
         match self.offsets.try_extend_from_lengths(lengths) {
-            Ok(()) => Ok(()),
+            Ok(()) => {
+                self.ascii_from = if are_ascii {
+                    self.ascii_from
+                } else {
+                    self.values.len()
+                };
+                Ok(())
+            }
             Err(error) => {
                 self.values.truncate(before);
                 Err(error)
@@ -132,13 +151,21 @@ impl<O: Offset> Strings<O> {
         Ok(())
     }
 
-    /// Whether the strings behind the first `from` are texts: all of them together are, and none begins inside a character.
+    /// Whether the strings behind the first `from` are texts: all of them together are, and none begins inside a character. Where all of
+    /// their bytes are ASCII it is known at once.
     pub fn are_texts_from(&self, from: usize) -> bool
         requires { from ≤ length self.now }
         ensures { IsTrue result ↔ All IsUtf8 (drop from self.now) }
     {
         let start = start_of(&self.offsets, from);
-        match simdutf8::basic::from_utf8(&self.values[start..]) {
+        if self.ascii_from <= start {
+            return true;
+        }
+        let added = &self.values[start..];
+        if added.is_ascii() {
+            return true;
+        }
+        match simdutf8::basic::from_utf8(added) {
             Err(_) => false,
             Ok(text) => begin_at_characters(&self.offsets, text, from, start),
         }
@@ -150,7 +177,11 @@ impl<O: Offset> Strings<O> {
         ensures shape { AreOffsets result.0 }
         ensures end { last result.0 ≡ length result.1.items }
     {
-        let Strings { offsets, values } = self;
+        let Strings {
+            offsets,
+            values,
+            ..
+        } = self;
         (offsets, values)
     }
 }
@@ -179,11 +210,7 @@ fn begin_at_characters<O: Offset>(
     requires length { length text.now ≡ last offsets.now - start }
     ensures { IsTrue result ↔ BeginAtCharacters (rebased from offsets.now) text.now }
 {
-    let count = offsets.len_proxy();
-    if text.len() / LONG_TEXT <= count - from && text.is_ascii() {
-        return true;
-    }
-    for i in from..count {
+    for i in from..offsets.len_proxy() {
         if !text.is_char_boundary(offsets.start_end(i).0 - start) {
             return false;
         }

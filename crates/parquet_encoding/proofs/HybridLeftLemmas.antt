@@ -2,7 +2,7 @@
 use Rattle.std.proofs.Common.{◌≡◌, ℕ, ◌+◌, ◌-◌, ◌*◌, ◌<◌, ◌≤◌, leb, List, [], ◌++◌, length, take, drop, Option, Some, None, refl, sym, ap, ◌∙◌, arith, length-append, inl, inr}
 use Rattle.std.specs.Prelude.{IsSome, IfSome, unwrap_or}
 use Rattle.std.proofs.lemmas.Bool.{cases_lt, le-leb, leb-true}
-use Rattle.std.proofs.lemmas.List.{length-drop, take-append-le, drop-append-le, drop_all, nil_from_length}
+use Rattle.std.proofs.lemmas.List.{length-drop, length-take, take_all, take-append-le, drop-append-le, drop_all, nil_from_length}
 use Rattle.parquet_base.specs.Reading.{◌>>=◌}
 use Rattle.parquet_base.specs.Varint.{varint, varint_within}
 use Rattle.parquet_encoding.specs.Hybrid.{first_run, runs}
@@ -11,7 +11,7 @@ use Rattle.parquet_encoding.specs.PackedRun.{packed_values}
 use Rattle.parquet_encoding.specs.declared.run.OpenedRun.{OpenedRun}
 use Rattle.parquet_encoding.specs.declared.run.HybridRun.{HybridRun}
 use Rattle.parquet_encoding.specs.declared.run.HybridRun.TheVariants.{Packed, Repeated}
-use Rattle.parquet_encoding.proofs.StepLemmas.{bind_some, given_some, some_is, is_something, nothing_is, if_some}
+use Rattle.parquet_encoding.proofs.StepLemmas.{bind_some, given_some, some_is, is_something, nothing_is, if_some, same_some}
 use Rattle.parquet_encoding.proofs.RunLemmas.{length-run_values}
 use Rattle.parquet_encoding.proofs.HybridLemmas.{runs_step, runs_none, length-runs}
 
@@ -116,3 +116,31 @@ left_behind run rest width bytes behind next n h few lies is =
     together rest width bytes behind next parts.others lies parts.has_others
     ∙ ap (λ here. Some (here ++ parts.others)) is
     ∙ ap Some (sym (drop-append-le n (run_values run bytes) parts.others (omega (arith, length-run_values bytes run))) ∙ ap (λ o. drop n (unwrap_or o [])) (sym parts.both))
+
+-- a run that is opened and given whole
+pub record GivesWhole (run : HybridRun) (width : ℕ) (bytes : List ℕ) (behind next count : ℕ) (opened : OpenedRun) : Type 0 where
+  pub values : run_values opened.run bytes ≡ take count (unwrap_or (left_of run width bytes behind next) [])
+  pub few : count ≤ length (unwrap_or (left_of run width bytes behind next) [])
+  pub rest : left_of run width bytes (behind - count) opened.end ≡ Some (drop count (unwrap_or (left_of run width bytes behind next) []))
+
+pub gives_whole : (run : HybridRun) (width : ℕ) (bytes : List ℕ) (behind next count : ℕ) (opened : OpenedRun) → count_of run ≡ 0 → IsSome (left_of run width bytes behind next) → 0 < behind → Opens bytes next width behind opened
+    → count ≡ count_of opened.run → GivesWhole run width bytes behind next count opened
+gives_whole run width bytes behind next count opened done h positive opens e =
+    let own = run_values opened.run bytes in
+    let long : length own ≡ count = length-run_values bytes opened.run ∙ sym e in
+    let later = behind - count in
+    let same : left_of opened.run width bytes later opened.end ≡ left_of run width bytes behind next =
+    ap (λ n. left_of opened.run width bytes (behind - n) opened.end) e ∙ left_opens run width bytes behind next opened done h positive opens in
+    let there = same_some (left_of opened.run width bytes later opened.end) (left_of run width bytes behind next) same h in
+    let all : own ≡ take count own = sym (take_all count own (omega arith)) in
+    let front = left_front opened.run opened.run width bytes later opened.end count there (omega arith) all in
+    let none : run_values run bytes ≡ [] = nil_from_length (run_values run bytes) (length-run_values bytes run ∙ done) in
+    let nothing_behind : run_values run bytes ≡ drop count own = none ∙ sym (drop_all count own (omega arith)) in
+    let lies = (parts_of run width bytes behind next h).lies in
+    let rest = left_behind opened.run run width bytes later opened.end count there (omega arith) lies nothing_behind in
+    let is : own ≡ take count (unwrap_or (left_of run width bytes behind next) []) = front ∙ ap (λ o. take count (unwrap_or o [])) same in
+    record {
+      values = is;
+      few = omega (arith, long, ap length is, length-take count (unwrap_or (left_of run width bytes behind next) []));
+      rest = rest ∙ ap (λ o. Some (drop count (unwrap_or o []))) same;
+    }

@@ -9,6 +9,7 @@ use Rattle.parquet_base.specs.Varint.{varint, varint_within}
 use Rattle.parquet_base.proofs.TakeLemmas.{varint-takes}
 use Rattle.parquet_encoding.specs.Hybrid.{hybrid, Run, Groups, Copies, first_run, runs, run_length, run_of, run_size, first_values}
 use Rattle.parquet_encoding.specs.HybridRun.{count_of, run_values, Opens}
+use Rattle.parquet_encoding.specs.ShortRun.{PassesRun}
 use Rattle.parquet_encoding.specs.declared.run.OpenedRun.{OpenedRun}
 use Rattle.parquet_encoding.proofs.StepLemmas.{bind_some, given_some, some_is, same_steps}
 use Rattle.parquet_encoding.proofs.BitsLemmas.{length-packed}
@@ -107,12 +108,23 @@ is_some-with : (front : List ℕ) (r : Option (List ℕ)) → is_some (r >>= λ 
 is_some-with front None = refl
 is_some-with front (Some x) = refl
 
-pub walks_on : (width : ℕ) (bytes : List ℕ) (place left : ℕ) (opened : OpenedRun) → 0 < left → Opens bytes place width left opened
-    → is_some (runs (length bytes) width (drop opened.end bytes) (left - (count_of opened.run))) ≡ is_some (runs (length bytes) width (drop place bytes) left)
-walks_on width bytes place left opened positive opens =
-    let step = runs_step (length bytes) width (drop place bytes) left ((run_values opened.run bytes), drop opened.end bytes) (omega (arith, length-drop place bytes)) positive opens.is_first in
-    let others = runs (length bytes) width (drop opened.end bytes) (left - length (run_values opened.run bytes)) in
-    sym (ap is_some step ∙ is_some-with (run_values opened.run bytes) others ∙ ap (λ n. is_some (runs (length bytes) width (drop opened.end bytes) (left - n))) (length-run_values bytes opened.run))
+pub walks_on : (width : ℕ) (bytes : List ℕ) (place left : ℕ) (passed : ℕ × ℕ) → 0 < left → PassesRun bytes place width left passed
+    → is_some (runs (length bytes) width (drop passed.1 bytes) (left - passed.0)) ≡ is_some (runs (length bytes) width (drop place bytes) left)
+walks_on width bytes place left passed positive passes =
+    let step = runs_step (length bytes) width (drop place bytes) left (passes.values, drop passed.1 bytes) (omega (arith, length-drop place bytes)) positive passes.is_first in
+    let others = runs (length bytes) width (drop passed.1 bytes) (left - length passes.values) in
+    sym (ap is_some step ∙ is_some-with passes.values others ∙ ap (λ n. is_some (runs (length bytes) width (drop passed.1 bytes) (left - n))) passes.count)
+
+-- an opened run is passed
+pub passes_opened : (bytes : List ℕ) (place width wanted count : ℕ) (opened : OpenedRun) → Opens bytes place width wanted opened → count ≡ count_of opened.run → PassesRun bytes place width wanted (count, opened.end)
+passes_opened bytes place width wanted count opened opens is = record {
+  values = run_values opened.run bytes;
+  is_first = opens.is_first;
+  count = length-run_values bytes opened.run ∙ sym is;
+  most = omega (arith, is, opens.most);
+  after = opens.after;
+  within = opens.within;
+}
 
 pub walk_stops : (width : ℕ) (bytes : List ℕ) (place left : ℕ) → 0 < left → first_run width left (drop place bytes) ≡ None → is_some (runs (length bytes) width (drop place bytes) left) ≡ false
 walk_stops width bytes place left positive e = ap is_some (runs_none (length bytes) width (drop place bytes) left positive e)

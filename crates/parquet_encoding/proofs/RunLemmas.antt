@@ -1,10 +1,13 @@
 -- Runs that begin at a place.
-use Rattle.std.proofs.Common.{◌≡◌, ◌≢◌, ℕ, ◌+◌, ◌-◌, ◌*◌, ◌/◌, ◌%◌, ◌^◌, ◌<◌, ◌≤◌, min, leb, true, false, List, length, take, drop, replicate, Option, None, refl, sym, ap, ◌∙◌, arith, inl, inr}
+use Rattle.std.proofs.Common.{◌≡◌, ◌≢◌, ℕ, suc, ◌+◌, ◌-◌, ◌*◌, ◌/◌, ◌%◌, ◌^◌, ◌<◌, ◌≤◌, min, leb, true, false, List, ◌∷◌, length, take, drop, replicate, Option, None, refl, sym, ap, ◌∙◌, arith, inl, inr}
 use Rattle.std.proofs.Math.Nat.{mul-add-div, div-add-mod, div-le_of_le-mul}
 use Rattle.std.proofs.lemmas.Bool.{cases_lt, le-leb, lt-leb, eq-eqb}
 use Rattle.std.proofs.lemmas.Bool.Decides.{eqb_tells}
 use Rattle.std.proofs.lemmas.List.{length-drop, length-replicate, drop-drop, drop_all}
 use Rattle.std.proofs.lemmas.Nat.{le-div}
+use Rattle.std.proofs.Math.Seq.{drop-cons}
+use Rattle.std.specs.Prelude.{get_or}
+use Rattle.parquet_base.proofs.VarintLemmas.{short}
 use Rattle.parquet_base.specs.Reading.{◌>>=◌}
 use Rattle.parquet_base.specs.Bytes.{little_endian}
 use Rattle.parquet_base.specs.Varint.{varint}
@@ -55,6 +58,14 @@ groups_header header odd = rw (eq-eqb _ _ odd) refl
 
 copies_header : (header : ℕ) → header % 2 ≢ 1 → run_of header ≡ Copies (header / 2)
 copies_header header even = elim (eqb_tells (header % 2) 1) [ inl same ↦ absurd (even same.1) | inr other ↦ rw other.0 refl ]
+
+-- a header of one byte
+pub short_header : (bytes : List ℕ) (place header : ℕ) → place < length bytes → get_or bytes place 0 ≡ header → header < 128 → VarintAt bytes place (header, place + 1)
+short_header bytes place header there is low =
+    let next : suc place ≡ place + 1 = omega arith in
+    let split : drop place bytes ≡ header ∷ drop (place + 1) bytes =
+    drop-cons bytes place 0 there ∙ ap (λ byte. byte ∷ drop (suc place) bytes) is ∙ ap (λ n. header ∷ drop n bytes) next in
+    record { value = ap varint split ∙ short header (drop (place + 1) bytes) low; after = omega arith; within = omega arith }
 
 pub opens_packed : (bytes : List ℕ) (place width wanted header body : ℕ) (opened : OpenedRun) → AreBytes bytes → VarintAt bytes place (header, body) → header % 2 ≡ 1
     → OpensPacked bytes body width (header / 2) wanted opened → Opens bytes place width wanted opened

@@ -102,9 +102,6 @@ by_least now result least same number step e = step ∙ ap (λ n. int_wrap w64 (
 pub behind_by_least : (now result least same : ℤ) (numbers : List ℕ) → result ≡ number_behind now (deltas_of least numbers) → least ≡ same → result ≡ number_behind now (deltas_of same numbers)
 behind_by_least now result least same numbers step e = step ∙ ap (λ n. number_behind now (deltas_of n numbers)) e
 
-pub before_by_least : (now least same : ℤ) (numbers : List ℕ) (out : List ℤ) → out ≡ numbers_before now (deltas_of least numbers) → least ≡ same → out ≡ numbers_before now (deltas_of same numbers)
-before_by_least now least same numbers out written e = written ∙ ap (λ n. numbers_before now (deltas_of n numbers)) e
-
 -- ---- deltas, some at a time
 
 -- the number behind some more

@@ -4,7 +4,7 @@ use Rattle.std.proofs.lemmas.List.{take_more_set, take_all}
 use Rattle.std.proofs.lemmas.Slice.{take-put_mid}
 use borrow.Rule.Slice.PartMut.{put_mid}
 use Rattle.parquet_encoding.specs.Bits.{bits_at, packed}
-use Rattle.parquet_encoding.proofs.BitsLemmas.{packed-add, length-packed, take-packed}
+use Rattle.parquet_encoding.proofs.BitsLemmas.{packed-add, length-packed}
 
 -- one more number
 packed_more : (bytes : List ℕ) (width place count : ℕ) → packed bytes width place (count + 1) ≡ packed bytes width place count ++ bits_at bytes (place + count * width) width ∷ []
@@ -35,8 +35,6 @@ eight_unpacked bytes out eight width start at group k inside done there is =
     ∙ sym (packed-add bytes width start (8 * group) 8)
     ∙ ap (packed bytes width start) (sym whole)
 
-pub all_unpacked : (bytes out : List ℕ) (width start i n count : ℕ) → take i out ≡ packed bytes width start i → length out ≡ n → i ≡ n → n ≤ count → out ≡ take n (packed bytes width start count)
-all_unpacked bytes out width start i n count done long end few =
-    sym (take_all n out (omega arith))
-    ∙ ap (λ k. take k out) (sym end) ∙ done ∙ ap (packed bytes width start) end
-    ∙ sym (take-packed n bytes width start count few)
+pub all_unpacked : (bytes out : List ℕ) (width start i n : ℕ) → take i out ≡ packed bytes width start i → length out ≡ n → i ≡ n → out ≡ packed bytes width start n
+all_unpacked bytes out width start i n done long end =
+    sym (take_all n out (omega arith)) ∙ ap (λ k. take k out) (sym end) ∙ done ∙ ap (packed bytes width start) end

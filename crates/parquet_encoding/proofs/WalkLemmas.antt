@@ -1,36 +1,39 @@
 -- Lists that are given a part at a time.
 use Rattle.std.proofs.Common.{◌≡◌, ℕ, ◌+◌, ◌-◌, ◌≤◌, min, List, [], ◌++◌, length, take, drop, Option, Some, None, refl, sym, ap, ◌∙◌, arith, length-append}
-use Rattle.std.proofs.Math.Seq.{take-add}
-use Rattle.std.proofs.lemmas.List.{length-drop, length-take, drop-drop, take-take, drop_min}
+use Rattle.std.proofs.Math.Seq.{take-add, take-append_seam, drop-append_seam}
+use Rattle.std.proofs.lemmas.List.{length-drop, length-take, drop-drop, drop_min, take_all, append_assoc}
 use Rattle.std.specs.Prelude.{IsSome, IfSome, unwrap_or}
-use Rattle.std.proofs.lemmas.Slice.{take-put_mid, drop-put_mid}
+use Rattle.std.proofs.lemmas.Slice.{take-put_mid}
 use borrow.Rule.Slice.PartMut.{put_mid}
 
 -- ---- a list is filled from its front on
 
--- what a part is filled with
-pub part_filled : {A : Type 0} (values left own part : List A) (done count k n : ℕ) → left ≡ drop done values → own ≡ take k left → part ≡ take n own → k ≡ count → n ≡ count → part ≡ take count (drop done values)
-part_filled values left own part done count k n is-left is-own is-part same-k same-n =
-    is-part ∙ ap (take n) is-own ∙ take-take n k left (omega arith) ∙ ap (λ m. take m left) same-n ∙ ap (take count) is-left
-
-pub length-part_filled : {A : Type 0} (values part : List A) (done count : ℕ) → part ≡ take count (drop done values) → done + count ≤ length values → length part ≡ count
-length-part_filled values part done count is few =
-    ap length is ∙ length-take count (drop done values) ∙ omega (arith, length-drop done values)
-
-pub fills_front : {A : Type 0} (values now part : List A) (done count k : ℕ) → take done now ≡ take done values → done ≤ length now → part ≡ take count (drop done values) → length part ≡ count
-    → take (done + count) (put_mid done k now part) ≡ take (done + count) values
-fills_front values now part done count k front room is long =
-    take-put_mid done k now part (done + count) (omega arith) room
-    ∙ ap (λ before. before ++ part) front ∙ ap (λ after. take done values ++ after) is ∙ sym (take-add done count values)
-
-pub fills_back : {A : Type 0} (first now part : List A) (done count k : ℕ) → drop done now ≡ drop done first → done ≤ length now → length part ≡ k → k ≡ count
-    → drop (done + count) (put_mid done k now part) ≡ drop (done + count) first
-fills_back first now part done count k back room long same =
-    drop-put_mid done k now part (done + count) (omega arith) room long
-    ∙ sym (drop-drop count done now) ∙ ap (drop count) back ∙ drop-drop count done first
-
 pub length-put_mid : {A : Type 0} (a k : ℕ) (xs ys : List A) → length (put_mid a k xs ys) ≡ min a (length xs) + (length ys + (length xs - a - k))
 length-put_mid a k xs ys = simp (length-append, length-take, length-drop) refl
+
+-- a list that is filled up to a place is filled further by a part
+pub fills_more : {A : Type 0} (values first now left part before : List A) (done count k : ℕ) → now ≡ take done values ++ drop done first → done ≤ length values → done ≤ length first → left ≡ drop done values
+    → before ≡ drop done now → part ≡ take count left ++ drop count before → count ≤ length left → count ≤ length before → k ≡ length now - done
+    → put_mid done k now part ≡ take (done + count) values ++ drop (done + count) first
+fills_more values first now left part before done count k is few room is-left is-before is-part enough fits size =
+    let head = take done values in
+    let tail = drop done first in
+    let long : length head ≡ done = length-take done values ∙ omega arith in
+    let front : take done now ≡ head = ap (take done) is ∙ ap (λ n. take n (head ++ tail)) (sym long) ∙ take-append_seam head tail in
+    let back : drop done now ≡ tail = ap (drop done) is ∙ ap (λ n. drop n (head ++ tail)) (sym long) ∙ drop-append_seam head tail in
+    let rest : drop count before ≡ drop (done + count) first = ap (drop count) (is-before ∙ back) ∙ drop-drop count done first in
+    let whole : part ≡ take count (drop done values) ++ drop (done + count) first =
+    is-part ∙ ap (λ xs. take count xs ++ drop count before) is-left ∙ ap (λ ys. take count (drop done values) ++ ys) rest in
+    let wide : done ≤ length now = omega (arith, ap length is, length-append head tail) in
+    let same : length part ≡ length now - done =
+    omega (arith, ap length is-part, length-append (take count left) (drop count before), length-take count left, length-drop count before, ap length is-before, length-drop done now) in
+    let n = done + length part in
+    let all : length (put_mid done k now part) ≤ n = omega (arith, length-put_mid done k now part) in
+    sym (take_all n (put_mid done k now part) all)
+    ∙ take-put_mid done k now part n refl wide
+    ∙ ap (λ xs. xs ++ part) front ∙ ap (λ ys. head ++ ys) whole
+    ∙ sym (append_assoc head (take count (drop done values)) (drop (done + count) first))
+    ∙ ap (λ xs. xs ++ drop (done + count) first) (sym (take-add done count values))
 
 -- ---- a list is passed over
 

@@ -3,7 +3,9 @@ pub mod PackedRun
 pub mod Places
 pub mod Hybrid
 pub mod HybridRun
+pub mod ShortRun
 pub mod HybridLeft
+pub mod HybridFills
 pub mod Plain
 pub mod PlainLeft
 pub mod DeltaBinary

@@ -9,6 +9,15 @@ const WORD: usize = 64;
 /// The most bits of numbers of which four lie in one word, whichever bit of a byte they begin at.
 const HALF: u32 = 14;
 
+/// So many bytes hold the words that begin in eight numbers of up to 32 bits.
+const WINDOW: usize = 36;
+
+/// The most bits of a number that lies in the word that begins with its first byte.
+pub(crate) const INSIDE: u32 = 57;
+
+/// So many bytes hold the words that begin in eight numbers of up to 57 bits.
+const WIDE_WINDOW: usize = 58;
+
 /// The eight bytes from a place on as one number, the first byte lowest. Bytes past the end count as 0.
 pub(crate) fn word_at(bytes: &[u8], place: usize) -> u64
     requires { place ≤ length bytes.now }
@@ -51,6 +60,28 @@ pub(crate) fn value_at(bytes: &[u8], place: usize, bit: usize, width: u32) -> u3
     field(word_at(bytes, place + bit / 8), bit % 8, width)
 }
 
+/// The eight bytes from a place on as one number, the first byte lowest, where there are so many.
+#[inline(always)]
+fn word_inside(bytes: &[u8], place: usize) -> u64
+    requires { place + 8 ≤ length bytes.now }
+    ensures { result ≡ little_endian (drop place bytes.now) % 2 ^ 64 }
+{
+    let Some(word) = bytes[place..place + 8].first_chunk::<8>() else {
+        unreachable!()
+    };
+    u64::from_le_bytes(*word)
+}
+
+/// The number in the `width` bits from bit `bit` behind a place, where the word that begins with its first byte lies in the bytes.
+#[inline(always)]
+fn value_inside(bytes: &[u8], place: usize, bit: usize, width: u32) -> u32
+    requires narrow { width ≤ 32 }
+    requires within { place + bit / 8 + 8 ≤ length bytes.now }
+    ensures { result ≡ bits_at bytes.now (8 * place + bit) width }
+{
+    field(word_inside(bytes, place + bit / 8), bit % 8, width)
+}
+
 /// Writes the eight numbers in the bits from bit `bit` behind a place on. Each way writes them itself, so that they need not meet in
 /// memory before.
 #[inline(always)]
@@ -68,12 +99,15 @@ pub(crate) fn unpack_eight(bytes: &[u8], place: usize, bit: usize, width: u32, o
         *eight = eight_in_word(bytes, place, bit, width);
     } else if width <= HALF {
         *eight = eight_in_halves(bytes, place, bit, width);
-    } else {
+    } else if bytes.len() - place >= WINDOW {
         *eight = eight_in_words(bytes, place, bit, width);
+    } else {
+        *eight = eight_at_end(bytes, place, bit, width);
     }
 }
 
 /// Eight numbers that lie in one word.
+#[inline(always)]
 fn eight_in_word(bytes: &[u8], place: usize, bit: usize, width: u32) -> [u32; 8]
     requires low { bit < 8 }
     requires fits { bit + 8 * width ≤ 64 }
@@ -95,6 +129,7 @@ fn eight_in_word(bytes: &[u8], place: usize, bit: usize, width: u32) -> [u32; 8]
 }
 
 /// Eight numbers, of which four lie in one word and four in another.
+#[inline(always)]
 fn eight_in_halves(bytes: &[u8], place: usize, bit: usize, width: u32) -> [u32; 8]
     requires low { bit < 8 }
     requires few { width ≤ 14 }
@@ -119,7 +154,30 @@ fn eight_in_halves(bytes: &[u8], place: usize, bit: usize, width: u32) -> [u32; 
 }
 
 /// Eight numbers, each of them from the word that begins with its first byte.
+#[inline(always)]
 fn eight_in_words(bytes: &[u8], place: usize, bit: usize, width: u32) -> [u32; 8]
+    requires narrow { width ≤ 32 }
+    requires low { bit < 8 }
+    requires window { place + 36 ≤ length bytes.now }
+    ensures { result ≡ packed bytes.now width (8 * place + bit) 8 }
+{
+    let step = width as usize;
+    [
+        value_inside(bytes, place, bit, width),
+        value_inside(bytes, place, bit + step, width),
+        value_inside(bytes, place, bit + 2 * step, width),
+        value_inside(bytes, place, bit + 3 * step, width),
+        value_inside(bytes, place, bit + 4 * step, width),
+        value_inside(bytes, place, bit + 5 * step, width),
+        value_inside(bytes, place, bit + 6 * step, width),
+        value_inside(bytes, place, bit + 7 * step, width),
+    ]
+}
+
+/// The same wherever they lie in the bytes, since those words may reach past the end.
+#[cold]
+#[inline(never)]
+fn eight_at_end(bytes: &[u8], place: usize, bit: usize, width: u32) -> [u32; 8]
     requires narrow { width ≤ 32 }
     requires within { 8 * place + (bit + 8 * width) ≤ 8 * length bytes.now }
     requires low { bit < 8 }
@@ -166,6 +224,16 @@ pub(crate) fn wide_at(bytes: &[u8], place: usize, bit: usize, width: u32) -> u64
     }
 }
 
+/// The number of up to 57 bits from bit `bit` behind a place on, where the word that begins with its first byte lies in the bytes.
+#[inline(always)]
+fn wide_inside(bytes: &[u8], place: usize, bit: usize, width: u32) -> u64
+    requires inside { width ≤ 57 }
+    requires within { place + bit / 8 + 8 ≤ length bytes.now }
+    ensures { result ≡ bits_at bytes.now (8 * place + bit) width }
+{
+    low_bits(word_inside(bytes, place + bit / 8) >> (bit % 8), width)
+}
+
 /// The eight numbers of up to 64 bits from bit `bit` behind a place on.
 #[inline(always)]
 pub(crate) fn eight_wide_at(bytes: &[u8], place: usize, bit: usize, width: u32) -> [u64; 8]
@@ -184,7 +252,32 @@ pub(crate) fn eight_wide_at(bytes: &[u8], place: usize, bit: usize, width: u32) 
 }
 
 /// Eight numbers of up to 64 bits, each of them from the word that begins with its first byte.
+#[inline(always)]
 fn eight_wide_in_words(bytes: &[u8], place: usize, bit: usize, width: u32) -> [u64; 8]
+    requires wide { width ≤ 64 }
+    requires within { 8 * place + (bit + 8 * width) ≤ 8 * length bytes.now }
+    requires low { bit < 8 }
+    ensures { result ≡ packed bytes.now width (8 * place + bit) 8 }
+{
+    if width > INSIDE || bytes.len() - place < WIDE_WINDOW {
+        return eight_wide_anywhere(bytes, place, bit, width);
+    }
+    let step = width as usize;
+    [
+        wide_inside(bytes, place, bit, width),
+        wide_inside(bytes, place, bit + step, width),
+        wide_inside(bytes, place, bit + 2 * step, width),
+        wide_inside(bytes, place, bit + 3 * step, width),
+        wide_inside(bytes, place, bit + 4 * step, width),
+        wide_inside(bytes, place, bit + 5 * step, width),
+        wide_inside(bytes, place, bit + 6 * step, width),
+        wide_inside(bytes, place, bit + 7 * step, width),
+    ]
+}
+
+/// The same where a number may lie in two words, or words may reach past the end of the bytes.
+#[inline(always)]
+pub(crate) fn eight_wide_anywhere(bytes: &[u8], place: usize, bit: usize, width: u32) -> [u64; 8]
     requires wide { width ≤ 64 }
     requires within { 8 * place + (bit + 8 * width) ≤ 8 * length bytes.now }
     requires low { bit < 8 }

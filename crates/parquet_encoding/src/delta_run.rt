@@ -1,8 +1,10 @@
 //! Deltas that lie side by side.
 ghost use Rattle.std.specs.Prelude.{◌≡◌, ℕ, List, ◌+◌, ◌*◌, ◌-◌, ◌^◌, ◌<◌, ◌≤◌, length, take, drop};
+ghost use Rattle.parquet_encoding.specs.Bits.{packed};
+ghost use Rattle.parquet_encoding.specs.DeltaBinary.{deltas_of};
 ghost use Rattle.parquet_encoding.specs.Sums.{number_behind, numbers_before};
 
-use crate::bits::{eight_wide_at, moved, wide_at};
+use crate::bits::{INSIDE, eight_wide_anywhere, eight_wide_at, moved, wide_at};
 use crate::sums::{added, added_all, sums_all, sums_of_steps};
 
 /// `count` deltas: numbers of `width` bits, the first of them from bit `bit` of the byte at `place` on. Each delta is
@@ -80,13 +82,8 @@ impl DeltaRun {
         let mut value = value;
         let mut place = self.place;
         for group in 0..groups {
-            let eight = eight_wide_at(bytes, place, self.bit, self.width);
-            value = sums_all(
-                value,
-                self.least,
-                &eight,
-                &mut out[8 * group..8 * group + 8],
-            );
+            let eight = &mut out[8 * group..8 * group + 8];
+            value = self.sums_of_eight(bytes, place, value, eight);
             place += self.width as usize;
         }
         let mut bit = self.bit;
@@ -96,6 +93,24 @@ impl DeltaRun {
             bit += self.width as usize;
         }
         value
+    }
+
+    /// The same for eight deltas at a place. The widest are read apart, so that the others need no registers for them.
+    #[inline(always)]
+    fn sums_of_eight(&self, bytes: &[u8], place: usize, value: i64, out: &mut [i64]) -> i64
+        requires room { length out.old ≡ 8 }
+        requires lies { 8 * place + (self.now.bit + 8 * self.now.width) ≤ 8 * length bytes.now }
+        ensures sums { out.new ≡ numbers_before value
+            (deltas_of self.now.least (packed bytes.now self.now.width (8 * place + self.now.bit) 8)) }
+        ensures behind { result ≡ number_behind value
+            (deltas_of self.now.least (packed bytes.now self.now.width (8 * place + self.now.bit) 8)) }
+    {
+        if self.width > INSIDE {
+            let eight = eight_wide_anywhere(bytes, place, self.bit, self.width);
+            return sums_all(value, self.least, &eight, out);
+        }
+        let eight = eight_wide_at(bytes, place, self.bit, self.width);
+        sums_all(value, self.least, &eight, out)
     }
 
     /// The run of the first `n` deltas.

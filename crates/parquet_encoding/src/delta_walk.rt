@@ -10,7 +10,7 @@ use crate::places::number_at;
 use parquet_base::{Unspelled, from_zigzag};
 
 /// The most bits of a stored number.
-const MOST_BITS: usize = 64;
+const MOST_BITS: u8 = 64;
 
 /// Walks deltas.
 #[derive(Clone, Copy)]
@@ -255,9 +255,12 @@ fn body_size(size: usize, width: u8, room: usize) -> Result<usize, Unspelled>
     ensures narrow { OnOk result (width ≤ 64) }
     ensures err { OnErr result ((64 < width) ⊎ (room < size * width / 8)) }
 {
-    let width = width as usize;
-    match (size / 8).checked_mul(width) {
-        Some(body) if body <= room && width <= MOST_BITS => Ok(body),
-        _ => Err(Unspelled),
+    if width > MOST_BITS {
+        return Err(Unspelled);
     }
+    let body = (size / 8) as u128 * width as u128;
+    if body > room as u128 {
+        return Err(Unspelled);
+    }
+    Ok(body as usize)
 }

@@ -1,9 +1,10 @@
 //! The hybrid of run-length runs and bit-packed runs.
-ghost use Rattle.std.specs.Prelude.{◌≡◌, ℕ, List, ◌+◌, ◌-◌, ◌*◌, ◌^◌, ◌<◌, ◌≤◌, ◌++◌, [], min, length, take, drop, slice_get, is_ok, is_some, Some, None, IsSome, IfNone, IfSome, IfOk, OnErr};
-ghost use Rattle.parquet_encoding.specs.Hybrid.{hybrid, runs};
+ghost use Rattle.std.specs.Prelude.{◌≡◌, ℕ, List, ◌+◌, ◌-◌, ◌*◌, ◌^◌, ◌<◌, ◌≤◌, ◌++◌, [], min, length, take, drop, slice_get, is_ok, is_some, None, Some, IsSome, IfNone, IfSome, IfOk, OnErr};
+ghost use Rattle.parquet_encoding.specs.Hybrid.{hybrid, runs, first_run};
 ghost use Rattle.parquet_encoding.specs.HybridRun.{count_of, run_values, IsIn};
+ghost use Rattle.parquet_encoding.specs.ShortRun.{PassesRun};
 
-use crate::run::{HybridRun, open_run};
+use crate::run::{HybridRun, open_run, short_run};
 use parquet_base::Unspelled;
 
 /// The most bits of a number.
@@ -28,6 +29,7 @@ pub struct HybridRle {
 
 impl HybridRle {
     ghost use Rattle.parquet_encoding.specs.HybridLeft.{hybrid_left, hybrid_values, given_count};
+    ghost use Rattle.parquet_encoding.specs.HybridFills.{FillsSome};
 
     /// Before the first of `count` numbers of `width` bits.
     pub fn try_new(bytes: &[u8], width: u32, count: usize) -> Result<Self, Unspelled>
@@ -116,14 +118,50 @@ impl HybridRle {
     {
         let mut done = 0;
         while done < out.len() {
-            let Some(run) = self.next_run(bytes, out.len() - done) else {
+            let count = self.fill_run(bytes, &mut out[done..]);
+            if count == 0 {
                 return done;
-            };
-            let end = done + run.len();
-            run.unpack(bytes, &mut out[done..end]);
-            done = end;
+            }
+            done += count;
         }
         done
+    }
+
+    /// Writes the next numbers that lie in one run to the front of `out`, and gives how many they are: none only where none is left.
+    #[inline(always)]
+    fn fill_run(&mut self, bytes: &[u8], out: &mut [u32]) -> usize
+        requires spelled { IsSome (hybrid_left self.old bytes.now) }
+        requires room { 0 < length out.old }
+        ensures { FillsSome self.old self.new bytes.now out.old out.new result }
+    {
+        if self.run.len() > 0 || self.behind == 0 {
+            return self.fill_part(bytes, out);
+        }
+        let most = self.behind.min(out.len());
+        let Some(opened) = short_run(bytes, self.next, self.width, most) else {
+            return self.fill_part(bytes, out);
+        };
+        let count = opened.run.len();
+        opened.run.unpack(bytes, &mut out[..count]);
+        self.behind -= count;
+        self.next = opened.end;
+        count
+    }
+
+    /// The same for any run, or for a part of one.
+    // It is out of line, so that short runs are read where they are wanted.
+    #[inline(never)]
+    fn fill_part(&mut self, bytes: &[u8], out: &mut [u32]) -> usize
+        requires spelled { IsSome (hybrid_left self.old bytes.now) }
+        requires room { 0 < length out.old }
+        ensures { FillsSome self.old self.new bytes.now out.old out.new result }
+    {
+        let Some(run) = self.next_run(bytes, out.len()) else {
+            return 0;
+        };
+        let count = run.len();
+        run.unpack(bytes, &mut out[..count]);
+        count
     }
 
     /// How many numbers are left.
@@ -174,9 +212,30 @@ fn check_runs(bytes: &[u8], width: u32, count: usize) -> Result<(), Unspelled>
     let mut place = 0;
     let mut left = count;
     while left > 0 {
-        let opened = open_run(bytes, place, width, left)?;
-        place = opened.end;
-        left -= opened.run.len();
+        let (count, end) = passed_run(bytes, place, width, left)?;
+        place = end;
+        left -= count;
     }
     Ok(())
+}
+
+/// How many of the wanted values the run at a place gives, and the place after it.
+#[inline(always)]
+fn passed_run(
+    bytes: &[u8],
+    place: usize,
+    width: u32,
+    wanted: usize,
+) -> Result<(usize, usize), Unspelled>
+    requires some_bits { 0 < width }
+    requires narrow { width ≤ 32 }
+    requires within { place ≤ length bytes.now }
+    ensures ok { IfOk result (PassesRun bytes.now place width wanted) }
+    ensures err { OnErr result (first_run width wanted (drop place bytes.now) ≡ None) }
+{
+    if let Some(opened) = short_run(bytes, place, width, wanted) {
+        return Ok((opened.run.len(), opened.end));
+    }
+    let opened = open_run(bytes, place, width, wanted)?;
+    Ok((opened.run.len(), opened.end))
 }

@@ -29,23 +29,13 @@ impl PackedRun {
     }
 
     /// The first numbers, as many as `out` has room for.
+    #[inline(always)]
     pub fn unpack(&self, bytes: &[u8], out: &mut [u32])
         requires lies { LiesIn bytes.now self.now }
         requires enough { length out.old ≤ self.now.count }
         ensures { out.new ≡ take (length out.old) (packed_values self.now bytes.now) }
     {
-        let groups = out.len() / 8;
-        let mut place = self.place;
-        for group in 0..groups {
-            let eight = &mut out[8 * group..8 * group + 8];
-            unpack_eight(bytes, place, self.bit, self.width, eight);
-            place += self.width as usize;
-        }
-        let mut bit = self.bit;
-        for i in 8 * groups..out.len() {
-            out[i] = value_at(bytes, place, bit, self.width);
-            bit += self.width as usize;
-        }
+        unpack_at(bytes, self.place, self.bit, self.width, out);
     }
 
     /// What is left behind the first `n` numbers.
@@ -65,5 +55,26 @@ impl PackedRun {
             width: self.width,
             count: self.count - n,
         }
+    }
+}
+
+/// Fills `out` with the numbers of `width` bits from bit `bit` behind a place on.
+fn unpack_at(bytes: &[u8], place: usize, bit: usize, width: u32, out: &mut [u32])
+    requires low { bit < 8 }
+    requires narrow { width ≤ 32 }
+    requires within { 8 * place + (bit + length out.old * width) ≤ 8 * length bytes.now }
+    ensures { out.new ≡ packed bytes.now width (8 * place + bit) (length out.old) }
+{
+    let groups = out.len() / 8;
+    let mut at = place;
+    for group in 0..groups {
+        let eight = &mut out[8 * group..8 * group + 8];
+        unpack_eight(bytes, at, bit, width, eight);
+        at += width as usize;
+    }
+    let mut shift = bit;
+    for i in 8 * groups..out.len() {
+        out[i] = value_at(bytes, at, shift, width);
+        shift += width as usize;
     }
 }

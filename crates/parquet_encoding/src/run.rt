@@ -1,7 +1,8 @@
 //! Runs of the hybrid encoding, as places in the bytes.
-ghost use Rattle.std.specs.Prelude.{◌≡◌, ℕ, List, min, ◌+◌, ◌-◌, ◌*◌, ◌/◌, ◌^◌, ◌<◌, ◌≤◌, length, take, drop, slice_get, None, Some, IsSome, IfOk, OnErr};
+ghost use Rattle.std.specs.Prelude.{◌≡◌, ℕ, List, min, ◌+◌, ◌-◌, ◌*◌, ◌/◌, ◌^◌, ◌<◌, ◌≤◌, ◌↔◌, length, take, drop, slice_get, None, Some, IsSome, IfSome, IfOk, OnErr};
 ghost use Rattle.parquet_encoding.specs.Hybrid.{first_run};
 ghost use Rattle.parquet_encoding.specs.HybridRun.{count_of, run_values, IsIn, Opens, OpensPacked, OpensRepeated};
+ghost use Rattle.parquet_encoding.specs.ShortRun.{IsShortRun};
 
 use crate::bits::value_at;
 use crate::packed_run::PackedRun;
@@ -49,6 +50,86 @@ pub(crate) fn open_run(
     }
 }
 
+/// The run at a place, where it has at least one and at most `most` values, stands behind a header of one byte and lies whole in the
+/// bytes.
+// Most runs are so, and are opened where they are wanted.
+#[inline(always)]
+pub(crate) fn short_run(bytes: &[u8], place: usize, width: u32, most: usize) -> Option<OpenedRun>
+    requires some_bits { 0 < width }
+    requires narrow { width ≤ 32 }
+    ensures short { IsSome result ↔ IsShortRun bytes.now place width most }
+    ensures opens { IfSome result (λ opened. (wanted : ℕ) → most ≤ wanted
+        → Opens bytes.now place width wanted opened) }
+    ensures some { IfSome result (λ opened. 0 < count_of opened.run) }
+    ensures most { IfSome result (λ opened. count_of opened.run ≤ most) }
+{
+    let header = *bytes.get(place)?;
+    if header < 2 || header >= 128 {
+        return None;
+    }
+    let amount = (header / 2) as usize;
+    if header % 2 == 1 {
+        whole_packed(bytes, place + 1, width, amount, most)
+    } else {
+        whole_repeated(bytes, place + 1, width, amount, most)
+    }
+}
+
+/// Groups of eight values, where they lie whole in the bytes and are at most `most` values.
+#[inline(always)]
+fn whole_packed(
+    bytes: &[u8],
+    body: usize,
+    width: u32,
+    groups: usize,
+    most: usize,
+) -> Option<OpenedRun>
+    requires some_bits { 0 < width }
+    requires narrow { width ≤ 32 }
+    requires within { body ≤ length bytes.now }
+    requires short { groups < 64 }
+    ensures whole { IsSome result ↔ (body + groups * width ≤ length bytes.now) × (8 * groups ≤ most) }
+    ensures opens { IfSome result (λ opened. (wanted : ℕ) → most ≤ wanted
+        → OpensPacked bytes.now body width groups wanted opened) }
+    ensures count { IfSome result (λ opened. count_of opened.run ≡ 8 * groups) }
+{
+    let size = groups * width as usize;
+    if size > bytes.len() - body || 8 * groups > most {
+        return None;
+    }
+    Some(OpenedRun {
+        run: HybridRun::Packed(PackedRun {
+            place: body,
+            bit: 0,
+            width,
+            count: 8 * groups,
+        }),
+        end: body + size,
+    })
+}
+
+/// Copies of one value, where it stands in the bytes and they are at most `most`.
+#[inline(always)]
+fn whole_repeated(
+    bytes: &[u8],
+    body: usize,
+    width: u32,
+    copies: usize,
+    most: usize,
+) -> Option<OpenedRun>
+    requires narrow { width ≤ 32 }
+    requires within { body ≤ length bytes.now }
+    ensures whole { IsSome result ↔ (body + (width + 7) / 8 ≤ length bytes.now) × (copies ≤ most) }
+    ensures opens { IfSome result (λ opened. (wanted : ℕ) → most ≤ wanted
+        → OpensRepeated bytes.now body width copies wanted opened) }
+    ensures count { IfSome result (λ opened. count_of opened.run ≡ copies) }
+{
+    if copies > most {
+        return None;
+    }
+    open_repeated(bytes, body, width, copies, copies).ok()
+}
+
 /// Groups of eight values. Where the bytes end early, the values that lie whole in them.
 fn open_packed(bytes: &[u8], body: usize, width: u32, groups: usize, wanted: usize) -> OpenedRun
     requires some_bits { 0 < width }
@@ -84,6 +165,7 @@ fn whole_values(groups: usize, width: usize, room: usize) -> usize
 }
 
 /// Copies of one value, which stands in whole bytes.
+#[inline(always)]
 fn open_repeated(
     bytes: &[u8],
     body: usize,
@@ -135,6 +217,7 @@ impl HybridRun {
     }
 
     /// The first values, as many as `out` has room for.
+    #[inline(always)]
     pub fn unpack(&self, bytes: &[u8], out: &mut [u32])
         requires enough { length out.old ≤ count_of self.now }
         requires lies { IsIn bytes.now self.now }

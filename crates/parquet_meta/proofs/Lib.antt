@@ -2,7 +2,7 @@ pub mod Steps
 pub mod Rules
 pub mod Filling
 pub mod ListLemmas
-pub mod GroupLemmas
+pub mod UnplacedLemmas
 pub mod TreeLemmas
 pub mod FooterLemmas
 pub mod FileRows

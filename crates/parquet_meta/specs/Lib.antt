@@ -13,6 +13,7 @@ pub mod Tree
 pub mod OpenGroups
 pub mod Footer
 pub mod File
+pub mod Unplaced
 pub mod Chunks
 pub mod StoredEnds
 pub mod TypedStatistics

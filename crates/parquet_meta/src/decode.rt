@@ -11,6 +11,9 @@ use columns_core::{Name, Seq};
 use parquet_thrift::{BINARY, Compact, FALSE, I32, I64, LIST, STRUCT, TRUE};
 use std::alloc::Global;
 
+/// For how many elements of a list memory is taken before they are read. A count that no elements follow takes no more.
+pub(crate) const MOST_RESERVED: usize = 1024;
+
 /// A type that a value is read as, in a field or in a list.
 pub(crate) trait Decode<M: Memory> {
     /// What a value of some kind is read as.
@@ -217,7 +220,7 @@ fn decode_elements<T: Decode<Global> + Drop>(
 ) -> Result<Seq<T>, Fault>
     ensures { ReadsOr true (λ s. s) (elements_by_rule T.rule kind count) compact.old result compact.new }
 {
-    let mut items = Vec::new(alloc);
+    let mut items = Vec::with_capacity(alloc, count.min(MOST_RESERVED))?;
     'elements: for _ in 0..count {
         items.push(T::decode(alloc, kind, compact)?)?;
     }

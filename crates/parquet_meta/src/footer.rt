@@ -3,13 +3,15 @@
 ghost use Rattle.std.specs.Prelude.{◌≡◌, true};
 ghost use Rattle.parquet_thrift.specs.Values.{in_struct};
 ghost use Rattle.parquet_meta.specs.Fault.{MakesOr, ReadsOr};
-ghost use Rattle.parquet_meta.specs.Footer.{file_meta_data, is_foreign, place_of, schema};
+ghost use Rattle.parquet_meta.specs.Footer.{column_chunk, file_meta_data, is_foreign, place_of, schema};
 ghost use Rattle.parquet_meta.specs.Front.{value_in};
-ghost use Rattle.parquet_meta.specs.Meaning.{by_rule};
+ghost use Rattle.parquet_meta.specs.Meaning.{by_rule, elements_by_rule};
 
+use crate::chunks::Chunks;
 use crate::code::TypeCode;
 use crate::decode::{
-    Decode, Make, decode_field, decode_list_field, decode_made_struct, decode_struct, pass_over,
+    Decode, MOST_RESERVED, Make, decode_field, decode_list_field, decode_made_struct,
+    decode_struct, pass_over,
 };
 use crate::fault::Fault;
 use crate::front::decode_front;
@@ -18,7 +20,7 @@ use crate::schema::{NoFields, SchemaElement};
 use crate::structure::Structure;
 use crate::tree::read_leaves;
 use columns_core::Seq;
-use parquet_thrift::{Compact, FieldHeader};
+use parquet_thrift::{Compact, FieldHeader, LIST};
 use std::alloc::Global;
 
 /// What a column chunk says of itself.
@@ -74,13 +76,13 @@ pub(crate) struct ColumnChunkFields {
 
 #[derive(Drop)]
 pub(crate) struct RowGroup {
-    pub columns: Seq<ColumnChunk>,
+    pub columns: Chunks,
     pub num_rows: u64,
 }
 
 #[derive(Drop)]
 pub(crate) struct RowGroupFields {
-    pub columns: Option<Seq<ColumnChunk>>,
+    pub columns: Option<Chunks>,
     pub num_rows: Option<u64>,
 }
 
@@ -248,8 +250,6 @@ impl Make<ColumnChunk, Global> for ColumnChunkFields {
 }
 
 impl Decode<Global> for ColumnChunk {
-    ghost use Rattle.parquet_meta.specs.Footer.{column_chunk};
-
     ghost rule = { column_chunk };
 
     #[tactic(auto, unfolding(crate::specs::Footer::column_chunk))]
@@ -267,6 +267,39 @@ impl Decode<Global> for ColumnChunk {
     }
 }
 
+impl Decode<Global> for Chunks {
+    ghost use Rattle.parquet_meta.specs.Meaning.{list_of};
+
+    ghost rule = { list_of column_chunk };
+
+    #[tactic(auto, using(crate::proofs::Rules::list_rules))]
+    fn decode(alloc: Global, kind: u8, compact: &mut Compact<'_>) -> Result<Chunks, Fault> {
+        if kind != LIST {
+            return Err(Fault::Unspelled);
+        }
+        let header = compact.read_list()?;
+        decode_chunks(alloc, header.count, header.kind, compact)
+    }
+}
+
+/// So many chunks.
+fn decode_chunks(
+    alloc: Global,
+    count: usize,
+    kind: u8,
+    compact: &mut Compact<'_>,
+) -> Result<Chunks, Fault>
+    ensures { ReadsOr true (λ chunks. chunks) (elements_by_rule column_chunk kind count)
+        compact.old result compact.new }
+{
+    let mut chunks = Chunks::with_capacity(alloc, count.min(MOST_RESERVED))?;
+    'chunks: for _ in 0..count {
+        let chunk = ColumnChunk::decode(alloc, kind, compact)?;
+        chunks.push(alloc, chunk)?;
+    }
+    Ok(chunks)
+}
+
 impl Structure<Global> for RowGroupFields {
     ghost use Rattle.parquet_meta.specs.Footer.{row_group_field};
 
@@ -280,7 +313,7 @@ impl Structure<Global> for RowGroupFields {
         compact: &mut Compact<'_>,
     ) -> Result<(), Fault> {
         match header.id {
-            1 => self.columns = Some(decode_list_field(alloc, header.kind, compact)?),
+            1 => self.columns = Some(decode_field(alloc, header.kind, compact)?),
             3 => self.num_rows = Some(decode_field(alloc, header.kind, compact)?),
             _ => pass_over(alloc, header.kind, compact)?,
         }

@@ -1,32 +1,24 @@
 //! Puts the chunks of each row group beside the leaves of the schema.
 
-ghost use Rattle.std.specs.Prelude.{◌≡◌, ◌^◌, nat_lt, Some, true};
-ghost use Rattle.parquet_meta.specs.Fault.{MakesOr};
-ghost use Rattle.parquet_meta.specs.File.{column_data_of, columns_of, group_of, has_code, meta_data_of, numbers_of, rows_in_groups};
+ghost use Rattle.std.specs.Prelude.{◌≡◌, ◌^◌, nat_lt, IfErr, None, OnOk, Some, true};
+ghost use Rattle.parquet_meta.specs.Fault.{IsFaultOf, MakesOr};
+ghost use Rattle.parquet_meta.specs.File.{column_data_of, column_with, columns_of, group_of, has_code, meta_data_of, no_numbers, rows_in_groups};
 ghost use Rattle.parquet_meta.specs.Lists.{all_of};
+ghost use Rattle.parquet_meta.specs.Unplaced.{chunk_in};
 
+use crate::chunks::{Chunks, NO_NUMBERS};
 use crate::code::TypeCode;
 use crate::fault::Fault;
-use crate::footer::{ChunkMetaData, ChunkNumbers, ColumnChunk, Footer, RowGroup};
+use crate::footer::{ChunkNumbers, Footer, RowGroup};
 use crate::metadata::{
     ColumnChunkMetaData, ColumnDescriptor, FileMetaData, PhysicalType, RowGroupMetaData,
 };
-use crate::tree::copy_of;
+use crate::tree::copy_of_leaf;
 use columns_core::Seq;
 use std::alloc::Global;
 
 /// The rows of all groups together are at most so many.
 const MOST_ROWS: u64 = i64::MAX as u64;
-
-/// What an encrypted chunk tells that says nothing of itself.
-const NO_NUMBERS: ChunkNumbers = ChunkNumbers {
-    codec: 0,
-    num_values: 0,
-    total_compressed_size: 0,
-    data_page_offset: 0,
-    dictionary_page_offset: None,
-    statistics: None,
-};
 
 fn has_code(physical_type: PhysicalType, code: TypeCode) -> bool
     ensures { result ≡ has_code physical_type code }
@@ -43,87 +35,63 @@ fn has_code(physical_type: PhysicalType, code: TypeCode) -> bool
     }
 }
 
-fn copy_of_leaf(alloc: Global, leaf: &ColumnDescriptor) -> Result<ColumnDescriptor, Fault>
-    ensures { MakesOr true result (Some leaf.now) }
+/// The column without numbers.
+fn forget_numbers(column: &mut ColumnChunkMetaData)
+    ensures { column.new ≡ column_with column.old.descriptor (chunk_in column.old None) no_numbers }
 {
-    let mut path = Vec::new(alloc);
-    'names: for name in leaf.path_in_schema.as_slice() {
-        path.push(copy_of(alloc, name)?)?;
-    }
-    Ok(ColumnDescriptor {
-        path_in_schema: Seq::new(path),
-        primitive_type: leaf.primitive_type,
-        flat: leaf.flat,
-    })
+    let ChunkNumbers {
+        codec,
+        num_values,
+        total_compressed_size,
+        data_page_offset,
+        dictionary_page_offset,
+        statistics,
+    } = NO_NUMBERS;
+    column.codec = codec;
+    column.num_values = num_values;
+    column.total_compressed_size = total_compressed_size;
+    column.data_page_offset = data_page_offset;
+    column.dictionary_page_offset = dictionary_page_offset;
+    column.statistics_bytes = statistics;
 }
 
-/// The chunk's own words, which agree with the type of its leaf.
-fn numbers_of(
-    physical_type: PhysicalType,
-    meta_data: Option<ChunkMetaData>,
-) -> Result<ChunkNumbers, Fault>
-    ensures { MakesOr true result (numbers_of physical_type meta_data) }
-{
-    let Some(meta_data) = meta_data else {
-        return Ok(NO_NUMBERS);
-    };
-    let ChunkMetaData { type_code, numbers } = meta_data;
-    if !has_code(physical_type, type_code) {
-        return Err(Fault::Unspelled);
-    }
-    Ok(numbers)
-}
-
-fn column_of(
+/// Puts a column beside its leaf, whose type it tells, if it says anything of itself.
+fn put_beside(
     alloc: Global,
     leaf: &ColumnDescriptor,
-    chunk: ColumnChunk,
-) -> Result<ColumnChunkMetaData, Fault>
-    ensures { MakesOr true result (column_data_of leaf.now chunk) }
+    told: Option<TypeCode>,
+    column: &mut ColumnChunkMetaData,
+) -> Result<(), Fault>
+    ensures placed { OnOk result (column_data_of leaf.now (chunk_in column.old told) ≡ Some column.new) }
+    ensures refused { IfErr result (λ e.
+        IsFaultOf true e (column_data_of leaf.now (chunk_in column.old told))) }
 {
-    let ColumnChunk {
-        meta_data,
-        offset_index,
-        column_index,
-        column_index_offset,
-        foreign,
-        encrypted,
-    } = chunk;
-    let numbers = numbers_of(leaf.primitive_type.physical_type, meta_data)?;
-    Ok(ColumnChunkMetaData {
-        descriptor: copy_of_leaf(alloc, leaf)?,
-        codec: numbers.codec,
-        num_values: numbers.num_values,
-        total_compressed_size: numbers.total_compressed_size,
-        data_page_offset: numbers.data_page_offset,
-        dictionary_page_offset: numbers.dictionary_page_offset,
-        statistics_bytes: numbers.statistics,
-        offset_index,
-        column_index,
-        column_index_offset,
-        foreign,
-        encrypted,
-    })
+    match told {
+        Some(code) => {
+            if !has_code(leaf.primitive_type.physical_type, code) {
+                return Err(Fault::Unspelled);
+            }
+        }
+        None => forget_numbers(column),
+    }
+    column.descriptor = copy_of_leaf(alloc, leaf)?;
+    Ok(())
 }
 
-/// As many chunks as leaves, in their order.
+/// As many chunks as leaves, in their order. They stay where they are.
 fn columns_of(
     alloc: Global,
     leaves: &[ColumnDescriptor],
-    chunks: Vec<ColumnChunk>,
+    chunks: Chunks,
 ) -> Result<Seq<ColumnChunkMetaData>, Fault>
-    ensures { MakesOr true result (columns_of leaves.now chunks.items) }
+    ensures { MakesOr true result (columns_of leaves.now chunks) }
 {
-    let mut columns = Vec::new(alloc);
-    let mut rest = chunks.into_iter();
-    'leaves: for leaf in leaves {
-        let Some(chunk) = rest.next() else {
-            return Err(Fault::Unspelled);
-        };
-        columns.push(column_of(alloc, leaf, chunk)?)?;
-    }
-    if rest.len() > 0 {
+    let (mut columns, types) = chunks.into_parts();
+    if columns.len() != leaves.len() {
         return Err(Fault::Unspelled);
+    }
+    'leaves: for index in 0..leaves.len() {
+        put_beside(alloc, &leaves[index], types[index], &mut columns[index])?;
     }
     Ok(Seq::new(columns))
 }
@@ -137,7 +105,7 @@ fn group_of(
 {
     let RowGroup { columns, num_rows } = group;
     Ok(RowGroupMetaData {
-        columns: columns_of(alloc, leaves, columns.into_vec())?,
+        columns: columns_of(alloc, leaves, columns)?,
         num_rows: num_rows as usize,
     })
 }
@@ -149,7 +117,7 @@ fn groups_of(
 ) -> Result<Seq<RowGroupMetaData>, Fault>
     ensures { MakesOr true result (all_of (group_of leaves.now) groups.items) }
 {
-    let mut found = Vec::new(alloc);
+    let mut found = Vec::with_capacity(alloc, groups.len())?;
     'groups: for group in groups {
         found.push(group_of(alloc, leaves, group)?)?;
     }

@@ -2,6 +2,7 @@
 #![tactic(auto)]
 
 mod chunk;
+mod chunks;
 mod code;
 mod column_index;
 mod decode;

@@ -21,12 +21,13 @@ const LEAST_SIZE: u64 = 12;
 /// How many bytes at the file's end tell the footer's length.
 const END_SIZE: u64 = 8;
 
-/// The metadata in the struct that the bytes begin with.
+/// The metadata in the struct that the bytes begin with. The bytes are given back before the leaves are copied beside the chunks.
 #[tactic(auto, unfolding(crate::specs::File::meta_data_in))]
-fn meta_data_in(alloc: Global, bytes: &[u8]) -> Result<FileMetaData, Fault>
-    ensures { MakesOr true result (meta_data_in bytes.now) }
+fn meta_data_in(alloc: Global, bytes: Vec<u8>) -> Result<FileMetaData, Fault>
+    ensures { MakesOr true result (meta_data_in bytes.items) }
 {
-    let stored = decode_footer(alloc, bytes)?;
+    let stored = decode_footer(alloc, bytes.as_slice())?;
+    drop(bytes);
     meta_data_of(alloc, stored)
 }
 
@@ -78,7 +79,7 @@ pub fn read_metadata<S: Source>(alloc: Global, source: &mut S) -> Result<FileMet
         length,
     };
     let bytes = read_exact_at(alloc, source, place)?;
-    match meta_data_in(alloc, bytes.as_slice()) {
+    match meta_data_in(alloc, bytes) {
         Ok(metadata) => Ok(metadata),
         Err(fault) => Err(fault.at(Part::Footer)),
     }

@@ -60,10 +60,28 @@ fn is_flat(path: &[Name], repetition: Repetition) -> bool
     }
 }
 
-pub(crate) fn copy_of(alloc: Global, name: &Name) -> Result<Name, Fault>
+fn copy_of(alloc: Global, name: &Name) -> Result<Name, Fault>
     ensures { MakesOr true result (Some name.now) }
 {
     Ok(Name::new(String::from_str(alloc, name.as_str())?))
+}
+
+pub(crate) fn copy_of_leaf(
+    alloc: Global,
+    leaf: &ColumnDescriptor,
+) -> Result<ColumnDescriptor, Fault>
+    ensures { MakesOr true result (Some leaf.now) }
+{
+    let names = leaf.path_in_schema.as_slice();
+    let mut path = Vec::with_capacity(alloc, names.len())?;
+    'names: for name in names {
+        path.push(copy_of(alloc, name)?)?;
+    }
+    Ok(ColumnDescriptor {
+        path_in_schema: Seq::new(path),
+        primitive_type: leaf.primitive_type,
+        flat: leaf.flat,
+    })
 }
 
 /// The names of the open groups, and one more.

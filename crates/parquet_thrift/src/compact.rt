@@ -7,7 +7,7 @@ ghost use Rattle.parquet_thrift.specs.Numbers.{signed, signed_byte, bytes_of_len
 ghost use Rattle.parquet_thrift.specs.Values.{field_header, list_start, list_truth, no_deeper, in_struct};
 
 use crate::header::{FieldHeader, ListHeader, field_header_at, list_header_at};
-use crate::number::{binary_at, bool_at, i8_at, i32_at, i64_at};
+use crate::number::{binary_at, bool_at, end_of, i8_at, i32_at, i64_at};
 use crate::skip::skip_at;
 use parquet_base::Unspelled;
 use std::marker::Model;
@@ -126,7 +126,7 @@ impl<'a> Compact<'a> {
     pub fn skip(&mut self, kind: u8) -> Result<(), Unspelled>
         ensures { Passes (no_deeper 32 in_struct kind) self.old result self.new }
     {
-        self.rest = skip_at(self.rest, kind)?;
+        self.rest = end_of(self.rest, skip_at(self.rest, kind)?);
         Ok(())
     }
 }

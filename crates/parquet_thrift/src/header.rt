@@ -4,9 +4,9 @@ ghost use Rattle.std.specs.Prelude.{◌≡◌, ◌<◌, length, IfOk, IsTrue, op
 ghost use Rattle.parquet_base.specs.Reading.{Gives, IsEnd};
 ghost use Rattle.parquet_thrift.specs.Values.{field_header, list_header, map_header, is_kind};
 
-use crate::number::i16_at;
+use crate::number::{i16_at, unsigned_at};
 use crate::{STRUCT, TRUE};
-use parquet_base::{Unspelled, varint_at};
+use parquet_base::Unspelled;
 
 /// A field's id and the kind of its value.
 #[derive(Clone, Copy, Debug, PartialEq, Eq)]
@@ -81,7 +81,7 @@ pub(crate) fn list_header_at(bytes: &[u8]) -> Result<(ListHeader, &[u8]), Unspel
     };
     let kind = *byte % 16;
     let (count, rest) = match *byte / 16 {
-        15 => varint_at(rest)?,
+        15 => unsigned_at(rest)?,
         count => (u64::from(count), rest),
     };
     if count > 0 && !is_a_kind(kind) {
@@ -103,7 +103,7 @@ pub(crate) fn map_header_at(bytes: &[u8]) -> Result<(MapHeader, &[u8]), Unspelle
     ensures ends { IfOk result (λ x. IsEnd bytes.now x.1.now) }
     ensures takes { IfOk result (λ x. length x.1.now < length bytes.now) }
 {
-    let (count, rest) = varint_at(bytes)?;
+    let (count, rest) = unsigned_at(bytes)?;
     if count == 0 {
         return Ok((
             MapHeader {

@@ -8,6 +8,27 @@ ghost use Rattle.parquet_thrift.specs.Values.{list_truth};
 
 use parquet_base::{Unspelled, from_zigzag, varint_at};
 
+/// The end of the bytes that is as long as this one. A slice that comes by way of memory is read again in one piece right after it
+/// was written in two, for which processors wait; its length alone comes without waiting.
+#[inline(always)]
+pub(crate) fn end_of<'a>(bytes: &'a [u8], end: &[u8]) -> &'a [u8]
+    requires { IsEnd bytes.now end.now }
+    ensures { result.now ≡ end.now }
+{
+    &bytes[bytes.len() - end.len()..]
+}
+
+/// An unsigned number.
+#[inline(always)]
+pub(crate) fn unsigned_at(bytes: &[u8]) -> Result<(u64, &[u8]), Unspelled>
+    ensures spelled { Gives (λ x. (x.0, x.1.now)) result (varint bytes.now) }
+    ensures ends { IfOk result (λ x. IsEnd bytes.now x.1.now) }
+    ensures takes { IfOk result (λ x. length x.1.now < length bytes.now) }
+{
+    let (number, rest) = varint_at(bytes)?;
+    Ok((number, end_of(bytes, rest)))
+}
+
 /// A signed number of 64 bits.
 #[tactic(auto, unfolding(crate::specs::Numbers::signed))]
 pub(crate) fn i64_at(bytes: &[u8]) -> Result<(i64, &[u8]), Unspelled>
@@ -15,7 +36,7 @@ pub(crate) fn i64_at(bytes: &[u8]) -> Result<(i64, &[u8]), Unspelled>
     ensures ends { IfOk result (λ x. IsEnd bytes.now x.1.now) }
     ensures takes { IfOk result (λ x. length x.1.now < length bytes.now) }
 {
-    let (number, rest) = varint_at(bytes)?;
+    let (number, rest) = unsigned_at(bytes)?;
     Ok((from_zigzag(number), rest))
 }
 
@@ -26,7 +47,7 @@ pub(crate) fn i32_at(bytes: &[u8]) -> Result<(i32, &[u8]), Unspelled>
     ensures ends { IfOk result (λ x. IsEnd bytes.now x.1.now) }
     ensures takes { IfOk result (λ x. length x.1.now < length bytes.now) }
 {
-    let (number, rest) = varint_at(bytes)?;
+    let (number, rest) = unsigned_at(bytes)?;
     if number > u32::MAX as u64 {
         return Err(Unspelled);
     }
@@ -40,7 +61,7 @@ pub(crate) fn i16_at(bytes: &[u8]) -> Result<(i16, &[u8]), Unspelled>
     ensures ends { IfOk result (λ x. IsEnd bytes.now x.1.now) }
     ensures takes { IfOk result (λ x. length x.1.now < length bytes.now) }
 {
-    let (number, rest) = varint_at(bytes)?;
+    let (number, rest) = unsigned_at(bytes)?;
     if number > u16::MAX as u64 {
         return Err(Unspelled);
     }
@@ -80,7 +101,7 @@ pub(crate) fn binary_at(bytes: &[u8]) -> Result<(&[u8], &[u8]), Unspelled>
     ensures ends { IfOk result (λ x. IsEnd bytes.now x.1.now) }
     ensures takes { IfOk result (λ x. length x.1.now < length bytes.now) }
 {
-    let (length, rest) = varint_at(bytes)?;
+    let (length, rest) = unsigned_at(bytes)?;
     raw_at(rest, length)
 }
 

@@ -6,7 +6,7 @@ ghost use Rattle.parquet_thrift.specs.Values.{value_within, in_struct};
 ghost use Rattle.parquet_thrift.specs.Skipping.{context_of, after_part, BeginsValue, GivesNext, PaysBegun, PaysNext};
 
 use crate::header::{FieldHeader, field_header_at, list_header_at, map_header_at};
-use crate::number::{binary_at, bool_at, i8_at, i16_at, i32_at, i64_at, raw_at};
+use crate::number::{binary_at, bool_at, end_of, i8_at, i16_at, i32_at, i64_at, raw_at};
 use crate::{BINARY, BYTE, DOUBLE, FALSE, I16, I32, I64, LIST, MAP, SET, STRUCT, TRUE};
 use parquet_base::Unspelled;
 
@@ -172,8 +172,25 @@ fn room_for(part: Part) -> [Part; DEEPEST]
     [part; DEEPEST]
 }
 
-/// Passes over a field's value of this kind.
+/// Passes over a field's value of this kind. Those that are met most come first, so that they need no `Part`.
+#[tactic(auto, unfolding(crate::specs::Values::value_within))]
 pub(crate) fn skip_at(bytes: &[u8], kind: u8) -> Result<&[u8], Unspelled>
+    ensures spelled { Gives (λ x. x.now) result (after (value_within 32 in_struct kind bytes.now)) }
+    ensures ends { IfOk result (λ x. IsEnd bytes.now x.now) }
+{
+    match kind {
+        I64 => Ok(i64_at(bytes)?.1),
+        LIST => {
+            let (header, rest) = list_header_at(bytes)?;
+            Ok(end_of(bytes, skip_elements(rest, header.kind, header.count)?))
+        }
+        _ => skip_other(bytes, kind),
+    }
+}
+
+/// The same for any kind.
+#[inline(never)]
+fn skip_other(bytes: &[u8], kind: u8) -> Result<&[u8], Unspelled>
     ensures spelled { Gives (λ x. x.now) result (after (value_within 32 in_struct kind bytes.now)) }
     ensures ends { IfOk result (λ x. IsEnd bytes.now x.now) }
 {
@@ -182,6 +199,24 @@ pub(crate) fn skip_at(bytes: &[u8], kind: u8) -> Result<&[u8], Unspelled>
         None => Ok(rest),
         Some(part) => skip_part(rest, part),
     }
+}
+
+/// Passes over the elements of a list. As long as they hold no other values, they need no room for parts.
+#[inline(never)]
+fn skip_elements(bytes: &[u8], kind: u8, count: usize) -> Result<&[u8], Unspelled>
+    ensures spelled { Gives (λ x. x.now) result (after_part 31 (Part.Elements kind count) bytes.now) }
+    ensures ends { IfOk result (λ x. IsEnd bytes.now x.now) }
+{
+    let mut rest = bytes;
+    'elements: for passed in 0..count {
+        let (begun, after) = begin(rest, true, kind)?;
+        let None = begun else {
+            let left = count - passed;
+            return skip_part(rest, Part::Elements { kind, left });
+        };
+        rest = after;
+    }
+    Ok(rest)
 }
 
 /// Passes over the outermost part of a value. It is out of line, so that a value that holds no other needs no room for parts.

@@ -1,5 +1,5 @@
 //! Cells as text.
-ghost use Rattle.std.specs.Prelude.{◌≡◌, ◌<◌, ◌≤◌, ◌++◌, [], true, codes, flat_map, length, take, IfNone, IfSome};
+ghost use Rattle.std.specs.Prelude.{◌≡◌, ◌+◌, ◌<◌, ◌≤◌, ◌++◌, [], true, codes, flat_map, length, take, IfNone, IfSome};
 ghost use Rattle.columns_core.specs.Array.{column_of};
 ghost use Rattle.columns_core.specs.Lent.{cell_lent};
 ghost use Rattle.pq_common.specs.CellText as spec;
@@ -15,12 +15,14 @@ use parquet_meta::Failed;
 
 const DIGITS: [u8; 16] = *b"0123456789abcdef";
 
-/// How many bytes of a text are compared side by side: of a long stretch, of what is left of it, and of what is left of that.
+/// How many bytes of a text are compared side by side: of a long stretch, of what is left of it, and of short texts.
 const LONG_BLOCK: usize = 64;
 
 const BLOCK: usize = 16;
 
 const SHORT_BLOCK: usize = 8;
+
+const SHORTEST_BLOCK: usize = 4;
 
 /// A piece of a text as it is written: a stretch of bytes that stand for themselves, or one byte by its number.
 #[derive(Drop)]
@@ -136,7 +138,7 @@ fn push_digits<K: Sink>(block: &mut Block, out: &mut K, bytes: &[u8]) -> Result<
 }
 
 /// The two hexadecimal digits of a byte.
-fn digits_of(byte: u8) -> [u8; 2]
+pub(crate) fn digits_of(byte: u8) -> [u8; 2]
     ensures { result ≡ hexadecimal byte }
 {
     let high = DIGITS[(byte / 16) as usize];
@@ -171,7 +173,31 @@ fn escape_of(byte: u8) -> [u8; 4]
 pub(crate) fn is_plain(bytes: &[u8]) -> bool
     ensures { result ≡ true → flat_map quoted_byte bytes.now ≡ bytes.now }
 {
-    plain_length(bytes, 0) == bytes.len()
+    match bytes.len() {
+        0..=3 => are_plain(bytes),
+        4..=8 => are_ends_plain(bytes, SHORTEST_BLOCK),
+        9..=16 => are_ends_plain(bytes, SHORT_BLOCK),
+        _ => is_long_plain(bytes),
+    }
+}
+
+/// Whether a text of a block or more stands for itself: whole blocks of it, and its last block, which may begin inside them.
+fn is_long_plain(bytes: &[u8]) -> bool
+    requires { 16 ≤ length bytes.now }
+    ensures { result ≡ true → flat_map quoted_byte bytes.now ≡ bytes.now }
+{
+    let long = plain_blocks(bytes, 0, LONG_BLOCK);
+    let most = plain_blocks(bytes, long, BLOCK);
+    bytes.len() - most <= BLOCK && are_plain(&bytes[bytes.len() - BLOCK..])
+}
+
+/// Whether the first block of a text and its last one, which may begin inside the first, stand for themselves. So two blocks are
+/// compared, of whatever length the text is.
+fn are_ends_plain(bytes: &[u8], block: usize) -> bool
+    requires { (block ≤ length bytes.now) × (length bytes.now ≤ block + block) }
+    ensures { result ≡ true → flat_map quoted_byte bytes.now ≡ bytes.now }
+{
+    are_plain(&bytes[..block]) && are_plain(&bytes[bytes.len() - block..])
 }
 
 /// How many bytes from the first on stand for themselves, where so many do.

@@ -56,3 +56,17 @@ pub(crate) fn write_i32(block: &mut [u8], end: usize, number: i32) -> usize
     block[start - 1] = b'-';
     start - 1
 }
+
+/// Writes a number of 64 bits before a place, and says where it begins.
+pub(crate) fn write_i64(block: &mut [u8], end: usize, number: i64) -> usize
+    requires { (20 ≤ end) × (end ≤ length block.old) }
+    ensures start { (result ≤ end) × (end ≤ result + 20) }
+    ensures written { drop result block.new ≡ signed_decimal number ++ drop end block.old }
+{
+    let start = write_digits(number.unsigned_abs(), block, end);
+    if number >= 0 {
+        return start;
+    }
+    block[start - 1] = b'-';
+    start - 1
+}

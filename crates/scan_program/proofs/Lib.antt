@@ -1,6 +1,5 @@
 pub mod Examples
 pub mod ItemLemmas
-pub mod Joined
 pub mod Lexed
 pub mod Parses
 pub mod ReportLemmas

@@ -1,16 +1,15 @@
 //! The lines of chunks, on their way to a sink.
-ghost use Rattle.std.specs.Prelude.{◌++◌, ◌∷◌, [], codes, decimal, flat_map, map};
-ghost use Rattle.std.specs.List.{join_by, range_with_len};
-ghost use Rattle.columns_core.specs.Array.{column_of};
+ghost use Rattle.std.specs.Prelude.{◌++◌, codes, decimal, flat_map, map};
+ghost use Rattle.std.specs.List.{range_with_len};
 ghost use Rattle.columns_core.specs.Chunk.{array_rows};
 ghost use Rattle.parquet_scan.specs.Cells.{columns_of_chunk};
-ghost use Rattle.pq_common.specs.Rows.{cell_at, line, row_line};
+ghost use Rattle.pq_common.specs.Rows.{line, row_line};
 ghost use Rattle.pq_common.specs.Taken.{TakesBytes};
 ghost use Rattle.scan_program.specs.Report.{chunk_lines};
 
 use columns_core::{Array, Chunk};
 use parquet_meta::Failed;
-use pq_common::{Block, Sink, push_cell, push_number_lines, push_text_lines};
+use pq_common::{Block, Sink, push_number_lines, push_row_lines, push_text_lines};
 
 /// Takes the lines of chunks.
 pub(crate) fn push_chunks<K: Sink>(
@@ -45,7 +44,8 @@ fn push_chunk_line<K: Sink>(block: &mut Block, out: &mut K, rows: usize) -> Resu
     block.push(out, b"\n")
 }
 
-/// Takes the lines of the rows of a chunk: a lone column of numbers or of texts many rows at a time, and others cell by cell.
+/// Takes the lines of the rows of a chunk: a lone column of numbers or of texts many rows at a time, and others
+/// row by row.
 fn push_lines<K: Sink>(block: &mut Block, out: &mut K, chunk: &Chunk) -> Result<(), Failed>
     ensures { let rows = range_with_len 0 (array_rows chunk.now) in
         let lines = flat_map (row_line (columns_of_chunk chunk.now)) rows in
@@ -55,83 +55,6 @@ fn push_lines<K: Sink>(block: &mut Block, out: &mut K, chunk: &Chunk) -> Result<
         [Array::Int32(numbers)] => push_number_lines(block, out, numbers),
         [Array::Utf8(texts)] => push_text_lines(block, out, texts),
         [Array::LargeUtf8(texts)] => push_text_lines(block, out, texts),
-        arrays => push_rows(block, out, arrays, chunk.len()),
+        arrays => push_row_lines(block, out, arrays, chunk.len()),
     }
-}
-
-fn push_rows<K: Sink>(
-    block: &mut Block,
-    out: &mut K,
-    arrays: &[Array],
-    rows: usize,
-) -> Result<(), Failed>
-    ensures { let lines = flat_map (row_line (map column_of arrays.now)) (range_with_len 0 rows) in
-        TakesBytes K.Sink out.old out.new (block.old ++ lines) block.new result }
-{
-    for row in 0..rows {
-        push_row(block, out, arrays, row)?;
-    }
-    Ok(())
-}
-
-/// Takes the line of a row.
-fn push_row<K: Sink>(
-    block: &mut Block,
-    out: &mut K,
-    arrays: &[Array],
-    row: usize,
-) -> Result<(), Failed>
-    ensures { let text = row_line (map column_of arrays.now) row in
-        TakesBytes K.Sink out.old out.new (block.old ++ text) block.new result }
-{
-    push_cells(block, out, arrays, row)?;
-    block.push(out, b"\n")
-}
-
-/// Takes the cells of a row, with tabs between them.
-fn push_cells<K: Sink>(
-    block: &mut Block,
-    out: &mut K,
-    arrays: &[Array],
-    row: usize,
-) -> Result<(), Failed>
-    ensures { let text = join_by (cell_at row) (9 ∷ []) (map column_of arrays.now) in
-        TakesBytes K.Sink out.old out.new (block.old ++ text) block.new result }
-{
-    match arrays.split_first() {
-        None => Ok(()),
-        Some((first, others)) => {
-            push_cell(block, out, first, row)?;
-            push_others(block, out, others, row)
-        }
-    }
-}
-
-/// Takes cells of a row, each behind a tab.
-fn push_others<K: Sink>(
-    block: &mut Block,
-    out: &mut K,
-    arrays: &[Array],
-    row: usize,
-) -> Result<(), Failed>
-    ensures { let text = flat_map (λ array. 9 ∷ cell_at row (column_of array)) arrays.now in
-        TakesBytes K.Sink out.old out.new (block.old ++ text) block.new result }
-{
-    for array in arrays {
-        push_other(block, out, array, row)?;
-    }
-    Ok(())
-}
-
-fn push_other<K: Sink>(
-    block: &mut Block,
-    out: &mut K,
-    array: &Array,
-    row: usize,
-) -> Result<(), Failed>
-    ensures { let text = 9 ∷ cell_at row (column_of array.now) in
-        TakesBytes K.Sink out.old out.new (block.old ++ text) block.new result }
-{
-    block.push(out, b"\t")?;
-    push_cell(block, out, array, row)
 }

@@ -6,8 +6,8 @@ use Rattle.parquet_page.proofs.RefusalLemmas.{passed_on}
 use Rattle.binary_values.proofs.JoinedLemmas.{cut-of}
 use Rattle.binary_values.proofs.string_walk.take_chunk.Goals as goal
 
-pub push_joined-requires : goal.push_joined-requires
-push_joined-requires g c =
+pub push_joined-requires-clause-sum : goal.push_joined-requires-clause-sum
+push_joined-requires-clause-sum g c =
     let left = unwrap_or (g.W.StringWalk.places c.args.walk c.args.bytes.now) [] in
     (cut-of (bytes_in c.args.bytes.now) (take (length c.args.lengths.now) left) c.join_short.new.lengths _ c.in-Some.ensures.lengths c.in-Some.ensures.joined).sum
 

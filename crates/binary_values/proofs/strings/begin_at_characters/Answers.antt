@@ -1,26 +1,18 @@
-use Rattle.std.proofs.Common.{◌≡◌, ◌∙◌, refl, sym, ap, subst, inl, inr, ℕ, ◌+◌, ◌-◌, ◌<◌, true, List, length, get_or, arith}
+use Rattle.std.proofs.Common.{◌≡◌, ◌∙◌, sym, ap, subst, inl, inr, ℕ, ◌+◌, ◌-◌, ◌<◌, true, List, length, get_or, arith}
 use Rattle.std.specs.Str.{IsCharBoundary}
 use Rattle.std.proofs.lemmas.Bool.{cases_lt, true≢false}
 use Rattle.columns_core.proofs.OffsetLemmas.{risen}
-use Rattle.columns_core.specs.Offsets.{last}
-use Rattle.columns_core.proofs.TextLemmas.{begin-in_ascii}
 use Rattle.binary_values.specs.Rebased.{rebased}
-use Rattle.binary_values.proofs.StringLemmas.{get-rebased, last-rebased, length-rebased, rebased-AreOffsets}
+use Rattle.binary_values.proofs.StringLemmas.{get-rebased, length-rebased}
 use Rattle.binary_values.proofs.strings.begin_at_characters.Goals as goal
-
-pub returns-then-is_ascii : goal.returns-then-is_ascii
-returns-then-is_ascii g c =
-    let offsets = c.args.offsets.now in
-    let shape = c.len_proxy-count.ensures.shape in
-    (λ _. begin-in_ascii (rebased c.args.from offsets) c.args.text.now (rebased-AreOffsets c.args.from offsets shape c.requires.from) (c.requires.length ∙ ap (λ n. last offsets - n) c.requires.start ∙ sym (last-rebased c.args.from offsets c.requires.from)) c.if-is_ascii.ensures.cases, λ _. refl)
 
 pub overflow_sub-start_end : goal.overflow_sub-start_end
 overflow_sub-start_end g c =
     let offsets = c.args.offsets.now in
     let from = c.args.from in
     let there : from + (c.loop-i.i - from) ≡ c.loop-i.i = omega (arith, c.loop-i.auto.i) in
-    let inside : from + (c.loop-i.i - from) < length offsets = omega (arith, there, c.loop-i-test.true, c.len_proxy-count.ensures.len) in
-    omega (arith, c.start_end.ensures.start, c.requires.start, risen offsets from (c.loop-i.i - from) c.len_proxy-count.ensures.shape inside, ap (λ n. get_or offsets n 0) there)
+    let inside : from + (c.loop-i.i - from) < length offsets = omega (arith, there, c.loop-i-test.true, c.len_proxy-i-end.ensures.len) in
+    omega (arith, c.start_end.ensures.start, c.requires.start, risen offsets from (c.loop-i.i - from) c.len_proxy-i-end.ensures.shape inside, ap (λ n. get_or offsets n 0) there)
 
 -- the place in the text
 place : (from k i start at : ℕ) (offsets : List ℕ) → from + k ≡ i → start ≡ get_or offsets from 0 → at ≡ get_or offsets i 0 → get_or (rebased from offsets) k 0 ≡ at - start
@@ -41,7 +33,7 @@ returns-then-not-is_char_boundary g c =
     let offsets = c.args.offsets.now in
     let k = c.loop-i.i - from in
     let there : from + k ≡ c.loop-i.i = omega (arith, c.loop-i.auto.i) in
-    let inside : k < length (rebased from offsets) - 1 = omega (arith, there, c.loop-i-test.true, c.len_proxy-count.ensures.len, length-rebased from offsets) in (
+    let inside : k < length (rebased from offsets) - 1 = omega (arith, there, c.loop-i-test.true, c.len_proxy-i-end.ensures.len, length-rebased from offsets) in (
       λ t. absurd (grind (arith, t)),
       λ begin.
           let test : c.is_char_boundary.result ≡ true = c.is_char_boundary.ensures.test.1 (subst (IsCharBoundary c.args.text.now) (place from k c.loop-i.i c.args.start c.start_end.result.0 offsets there c.requires.start c.start_end.ensures.start) (begin k inside)) in

@@ -6,7 +6,7 @@ use Rattle.parquet_meta.proofs.decode.decode_elements.Goals as goal
 
 pub returns-in_err-decode : goal.returns-in_err-decode
 returns-in_err-decode g c =
-    let p = err_from_is_err_and c.from_residual.result c.from_residual.ensures.1 in
+    let p = err_from_is_err_and c.from_residual-in_err-decode.result c.from_residual-in_err-decode.ensures.1 in
     rw (p.1, p.2) (refuses-on _ _ _ _
     (λ none. list_fails g.T.Decode.rule c.args.kind c.args.count c.args.compact.now c.elements.counter c.elements.items.items c.elements.compact c.elements.invariant c.elements-test.true none)
     (c.in_err-decode.ensures in_list))

@@ -1,37 +1,35 @@
-use Rattle.std.proofs.Common.{sym, ◌∙◌, true, arith}
+use Rattle.std.proofs.Common.{sym, ap, ◌∙◌, true, arith}
 use Rattle.std.proofs.lemmas.Result.{err_from_is_err_and}
+use Rattle.parquet_meta.specs.File.{columns_of}
 use Rattle.parquet_meta.proofs.Steps.{refuses-on}
-use Rattle.parquet_meta.proofs.GroupLemmas.{makes, fails, lacks, exceeds, ends}
+use Rattle.parquet_meta.proofs.UnplacedLemmas.{goes_on, fails, ends, other_length}
 use Rattle.parquet_meta.proofs.groups.columns_of.Goals as goal
 
-pub returns-in_default : goal.returns-in_default
-returns-in_default c =
-    let steps = rw c.in_default.is at c.next.ensures.cases in
-    lacks c.args.leaves.now c.args.chunks.items c.leaves.leaf-index c.leaves.columns.items c.leaves.rest.rest.items c.leaf-item.result c.leaves.invariant c.leaves-test.true (sym c.leaves.rest.rest.ok.0 ∙ steps.0)
+pub returns-then-len-leaves : goal.returns-then-len-leaves
+returns-then-len-leaves c =
+    let parts = c.into_parts-columns in
+    ap (columns_of c.args.leaves.now) (sym parts.ensures.same)
+    ∙ other_length c.args.leaves.now parts.result.0.items parts.result.1.items parts.ensures.length (λ e. absurd (omega (arith, e, c.len.ensures, c.if-len-leaves.true, parts.result.0.ok.0)))
 
-pub returns-in_err-column_of : goal.returns-in_err-column_of
-returns-in_err-column_of c =
+pub returns-in_err-put_beside : goal.returns-in_err-put_beside
+returns-in_err-put_beside c =
+    let parts = c.into_parts-columns in
     let p = err_from_is_err_and c.from_residual.result c.from_residual.ensures.1 in
-    let steps = rw c.in-Some.is at c.next.ensures.cases in
     rw (p.1, p.2) (refuses-on true _ _ _
-    (λ none. fails c.args.leaves.now c.args.chunks.items c.leaves.leaf-index c.leaves.columns.items c.leaves.rest.rest.items c.next.new.self.rest.items c.leaf-item.result c.in-Some.chunk
-    c.leaves.invariant c.leaves-test.true c.leaf-item.is steps.0 none)
-    c.in_err-column_of.ensures)
+    (λ none. ap (columns_of c.args.leaves.now) (sym parts.ensures.same)
+    ∙ fails c.args.leaves.now parts.result.0.items parts.result.1.items c.leaves.index c.leaves.columns.items c.index-leaves-index.result c.index_mut.result.now c.index.result.now
+    c.leaves.invariant c.leaves-test.true c.index-leaves-index.is c.index_mut.ensures.value c.index.ensures none)
+    c.in_err-put_beside.ensures.refused)
 
 pub leaves-preserved : goal.leaves-preserved
 leaves-preserved c =
-    let steps = rw c.in-Some.is at c.next.ensures.cases in
-    rw c.in_ok-push.ensures.items
-    (makes c.args.leaves.now c.args.chunks.items c.leaves.leaf-index c.leaves.columns.items c.leaves.rest.rest.items c.next.new.self.rest.items c.leaf-item.result c.in-Some.chunk c.in_ok-column_of.field-0
-    c.leaves.invariant c.leaves-test.true c.leaf-item.is steps.0 c.in_ok-column_of.ensures)
-
-pub returns-then-len-gt0 : goal.returns-then-len-gt0
-returns-then-len-gt0 c =
-    exceeds c.args.leaves.now c.args.chunks.items c.leaves.leaf-index c.leaves.columns.items c.leaves.rest.rest.items c.leaves.invariant c.leaves-test.false
-    (omega (arith, c.leaves.rest.rest.ok.0, c.len.ensures, c.if-len-gt0.true))
+    let parts = c.into_parts-columns in
+    goes_on c.args.leaves.now parts.result.0.items parts.result.1.items c.leaves.index c.leaves.columns.items c.index-leaves-index.result c.index_mut.result.now c.put_beside.new.column c.index.result.now
+    c.leaves.invariant c.leaves-test.true c.index-leaves-index.is c.index_mut.ensures.value c.index.ensures c.in_ok-put_beside.ensures.placed
 
 pub returns : goal.returns
 returns c =
+    let parts = c.into_parts-columns in
     rw c.new.ensures
-    (ends c.args.leaves.now c.args.chunks.items c.leaves.leaf-index c.leaves.columns.items c.leaves.rest.rest.items c.leaves.invariant c.leaves-test.false
-    (omega (arith, c.leaves.rest.rest.ok.0, c.len.ensures, c.if-len-gt0.false)))
+    (ap (columns_of c.args.leaves.now) (sym parts.ensures.same)
+    ∙ ends c.args.leaves.now parts.result.0.items parts.result.1.items c.leaves.index c.leaves.columns.items c.leaves.invariant c.leaves-test.false)

@@ -7,7 +7,7 @@ use Rattle.parquet_meta.proofs.groups.groups_of.Goals as goal
 
 pub returns-in_err-group_of : goal.returns-in_err-group_of
 returns-in_err-group_of c =
-    let p = err_from_is_err_and c.from_residual.result c.from_residual.ensures.1 in
+    let p = err_from_is_err_and c.from_residual-in_err-group_of.result c.from_residual-in_err-group_of.ensures.1 in
     let steps = rw c.in-Some.is at c.next.ensures.steps in
     rw (p.1, p.2) (refuses-on true _ _ _
     (λ none. making-fails (group_of c.args.leaves.now) c.args.groups.items c.groups.group-iterator.rest.items c.next.new.self.rest.items c.in-Some.group c.groups.found.items c.groups.invariant steps.0 none)

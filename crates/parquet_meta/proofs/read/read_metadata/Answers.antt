@@ -24,7 +24,7 @@ returns-in-Ok-meta_data_in-clause-footer g c =
     let at = at_end.placed (g.S.Source.told c.args.source.now) c.in-Ok.size _ c.from-length.result c.in-Ok.ensures.size c.if-size-lt-LEAST_SIZE.false (rw c.size.ensures.same at c.in_ok-end.ensures.part)
     (sym (rw c.as_slice.ensures.value at c.in-Some.ensures) ∙ ap (λ (n : ℕ). Some n) (sym c.from-length.ensures)) c.if-before_end-length.false in
     at_end.says (g.S.Source.told c.args.source.now) (at_end.before_eight c.in-Ok.size c.from-length.result) _ _ at (rw (c.in_ok-end.ensures.keeps.same, c.size.ensures.same) at c.in_ok-bytes.ensures.part)
-    (rw c.as_slice-2.ensures.value at c.in-Ok-meta_data_in.ensures)
+    c.in-Ok-meta_data_in.ensures
 
 pub returns-in-Ok-meta_data_in-clause-taken : goal.returns-in-Ok-meta_data_in-clause-taken
 returns-in-Ok-meta_data_in-clause-taken g c =
@@ -39,7 +39,7 @@ returns-clause-footer g c =
     (sym (rw c.as_slice.ensures.value at c.in-Some.ensures) ∙ ap (λ (n : ℕ). Some n) (sym c.from-length.ensures)) c.if-before_end-length.false in
     rw c.at.ensures
     (at_end.refuses _ c.in-Err.fault (g.S.Source.told c.args.source.now) _ _ (at_end.before_eight c.in-Ok.size c.from-length.result) _ at (rw (c.in_ok-end.ensures.keeps.same, c.size.ensures.same) at c.in_ok-bytes.ensures.part)
-    (rw c.as_slice-2.ensures.value at c.in-Err.ensures))
+    c.in-Err.ensures)
 
 pub returns-clause-taken : goal.returns-clause-taken
 returns-clause-taken g c =

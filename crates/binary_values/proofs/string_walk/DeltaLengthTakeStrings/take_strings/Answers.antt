@@ -8,8 +8,8 @@ use Rattle.parquet_page.proofs.RefusalLemmas.{passed_on}
 use Rattle.binary_values.proofs.JoinedLemmas.{StringsLeft, chunk-cut, strings-more, strings-past}
 use Rattle.binary_values.proofs.string_walk.DeltaLengthTakeStrings.take_strings.Goals as goal
 
-pub push_joined-requires : goal.push_joined-requires
-push_joined-requires g c =
+pub push_joined-requires-clause-sum : goal.push_joined-requires-clause-sum
+push_joined-requires-clause-sum g c =
     let found = c.take-found.result.0 in
     (chunk-cut c.loop-left.walk c.args.bytes.now found _ c.take-found.new.lengths _ c.take-found.result.1.now c.loop-left.invariant.spelled c.take-found.ensures.count c.take-found.ensures.lengths c.take-found.ensures.joined).sum
 

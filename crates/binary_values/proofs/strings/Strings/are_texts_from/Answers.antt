@@ -1,8 +1,10 @@
-use Rattle.std.proofs.Common.{◌≡◌, ◌∙◌, ap, sym, subst, ℕ, ◌-◌, ◌<◌, List, All, length, drop, take, get_or, arith}
+use Rattle.std.proofs.Common.{◌≡◌, ◌∙◌, ap, refl, sym, subst, ℕ, ◌-◌, ◌<◌, List, All, length, drop, take, get_or, arith}
 use Rattle.std.specs.Prelude.{IsUtf8}
+use Rattle.std.specs.Str.{IsAscii}
 use Rattle.std.proofs.lemmas.List.{length-drop, take_all}
 use Rattle.columns_core.proofs.OffsetLemmas.{length-parts, some-offset}
-use Rattle.binary_values.proofs.StringLemmas.{below-last, texts-apart, texts-cut, texts-together}
+use Rattle.binary_values.proofs.AsciiLemmas.{ascii-further}
+use Rattle.binary_values.proofs.StringLemmas.{below-last, texts-apart, texts-ascii, texts-cut, texts-together}
 use Rattle.binary_values.proofs.strings.Strings.are_texts_from.Goals as goal
 
 pub start_of-start-requires : goal.start_of-start-requires
@@ -11,19 +13,37 @@ start_of-start-requires g c = omega (arith, c.requires, length-parts c.self.insi
 pub begin_at_characters-requires-clause-from : goal.begin_at_characters-requires-clause-from
 begin_at_characters-requires-clause-from g c = omega (arith, c.requires, length-parts c.self.inside.offsets c.self.inside.values.items, ap length c.self.view_is, some-offset c.self.inside.offsets c.self.invariant.0)
 
-pub slice_bounds-from_utf8-count : goal.slice_bounds-from_utf8-count
-slice_bounds-from_utf8-count g c =
+pub slice_bounds-added-count : goal.slice_bounds-added-count
+slice_bounds-added-count g c =
     let inside : c.args.from < length c.self.inside.offsets = omega (arith, c.requires, length-parts c.self.inside.offsets c.self.inside.values.items, ap length c.self.view_is, some-offset c.self.inside.offsets c.self.invariant.0) in
     omega (arith, c.start_of-start.ensures.start, below-last c.self.inside.offsets c.args.from c.self.invariant.0 inside, c.self.invariant.1, ap length c.deref.ensures.value)
 
-pub slice_bounds-from_utf8-start : goal.slice_bounds-from_utf8-start
-slice_bounds-from_utf8-start g c =
+pub slice_bounds-added-start : goal.slice_bounds-added-start
+slice_bounds-added-start g c =
     let inside : c.args.from < length c.self.inside.offsets = omega (arith, c.requires, length-parts c.self.inside.offsets c.self.inside.values.items, ap length c.self.view_is, some-offset c.self.inside.offsets c.self.invariant.0) in
     omega (arith, c.start_of-start.ensures.start, below-last c.self.inside.offsets c.args.from c.self.invariant.0 inside, c.self.invariant.1, ap length c.deref.ensures.value)
 
 -- the bytes behind a place
 rest : (lent bytes offsets : List ℕ) (from start : ℕ) → lent ≡ bytes → start ≡ get_or offsets from 0 → take (length lent - start) (drop start lent) ≡ drop (get_or offsets from 0) bytes
 rest lent bytes offsets from start is at = take_all (length lent - start) (drop start lent) (omega (arith, length-drop start lent)) ∙ ap (drop start) is ∙ ap (λ n. drop n bytes) at
+
+pub returns-then-self-start : goal.returns-then-self-start
+returns-then-self-start g c =
+    let offsets = c.self.inside.offsets in
+    let bytes = c.self.inside.values.items in
+    let inside : c.args.from < length offsets = omega (arith, c.requires, length-parts offsets bytes, ap length c.self.view_is, some-offset offsets c.self.invariant.0) in
+    let ascii = ascii-further bytes c.self.inside.ascii_from (get_or offsets c.args.from 0) (omega (arith, c.if-self-start.true, c.start_of-start.ensures.start)) c.self.invariant.3 in
+    let texts = texts-ascii offsets bytes c.args.from c.self.invariant.0 c.self.invariant.1 inside ascii in
+    (λ _. subst (λ (xs : List (List ℕ)). All IsUtf8 (drop c.args.from xs)) c.self.view_is texts, λ _. refl)
+
+pub returns-then-is_ascii : goal.returns-then-is_ascii
+returns-then-is_ascii g c =
+    let offsets = c.self.inside.offsets in
+    let bytes = c.self.inside.values.items in
+    let inside : c.args.from < length offsets = omega (arith, c.requires, length-parts offsets bytes, ap length c.self.view_is, some-offset offsets c.self.invariant.0) in
+    let is = rest c.deref.result.now bytes offsets c.args.from c.start_of-start.result c.deref.ensures.value c.start_of-start.ensures.start in
+    let texts = texts-ascii offsets bytes c.args.from c.self.invariant.0 c.self.invariant.1 inside (subst IsAscii is c.if-is_ascii.ensures.cases) in
+    (λ _. subst (λ (xs : List (List ℕ)). All IsUtf8 (drop c.args.from xs)) c.self.view_is texts, λ _. refl)
 
 pub returns-in-Err : goal.returns-in-Err
 returns-in-Err g c =

@@ -1,9 +1,23 @@
-use Rattle.std.proofs.Common.{◌∙◌, ap, inl, inr, arith, length, ◌∷◌, [], ◌++◌, ◌+◌, ◌≡◌, take}
+use Rattle.std.proofs.Common.{◌∙◌, ap, subst, sym, inl, inr, arith, length, ◌∷◌, [], ◌++◌, ◌+◌, ◌≡◌, take}
 use Rattle.std.specs.Prelude.{sum_by}
-use Rattle.std.proofs.lemmas.List.{take_all, take-append-le}
-use Rattle.columns_core.specs.Offsets.{last, parts}
+use Rattle.std.proofs.lemmas.List.{length-append, take_all, take-append-le}
+use Rattle.columns_core.specs.Offsets.{AreOffsets, last, parts}
+use Rattle.columns_core.proofs.OffsetLemmas.{last-pushed, more_offsets}
+use Rattle.binary_values.proofs.AsciiLemmas.{none-behind}
 use Rattle.binary_values.proofs.StringLemmas.{parts-push, sum-parts}
 use Rattle.binary_values.proofs.strings.Strings.push.Goals as goal
+
+pub invariant_of-self-in-Ok : goal.invariant_of-self-in-Ok
+invariant_of-self-in-Ok g c =
+    let offsets = c.self.inside.offsets in
+    let values = c.self.inside.values.items in
+    let value = c.args.value.now in
+    let more = more_offsets offsets (last offsets + length value) c.self.invariant.0 (omega arith) in (
+      subst AreOffsets (sym c.in-Ok.ensures.ok) more,
+      ap last c.in-Ok.ensures.ok ∙ last-pushed offsets (last offsets + length value) ∙ omega (arith, c.self.invariant.1, ap length c.in_ok-extend_from_slice.ensures.items, length-append values value),
+      omega (arith, ap last c.in-Ok.ensures.ok, last-pushed offsets (last offsets + length value), c.in-Ok.ensures.fits),
+      none-behind c.extend_from_slice.new.self.items c.len-self-inside.result (omega (arith, c.len-self-inside.ensures)),
+    )
 
 pub returns-in-Ok-clause-ok : goal.returns-in-Ok-clause-ok
 returns-in-Ok-clause-ok g c =

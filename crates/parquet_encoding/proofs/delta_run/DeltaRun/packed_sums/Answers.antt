@@ -1,7 +1,8 @@
-use Rattle.std.proofs.Common.{◌≡◌, ◌+◌, ◌*◌, ◌/◌, ◌≤◌, ◌∙◌, ap, arith, FitsSigned, rules}
+use Rattle.std.proofs.Common.{◌≡◌, refl, ◌+◌, ◌*◌, ◌/◌, ◌≤◌, ◌∙◌, ap, arith, FitsSigned, rules}
 use Rattle.std.specs.Int.{w64}
+use Rattle.parquet_encoding.specs.Bits.{packed}
 use Rattle.std.proofs.lemmas.Nat.{mul-le}
-use Rattle.parquet_encoding.proofs.SumLemmas.{same_number, by_least, behind_by_least, before_by_least}
+use Rattle.parquet_encoding.proofs.SumLemmas.{same_number, by_least}
 use Rattle.parquet_encoding.proofs.DeltaRunLemmas.{none_passed, none_written, one_passed, one_written, eight_passed, eight_written}
 use Rattle.parquet_encoding.proofs.delta_run.DeltaRun.packed_sums.Goals as goal
 
@@ -15,8 +16,8 @@ loop-group-init c =
       done = none_written _ run.least c.args.bytes.now c.args.out.now run.width start (8 * 0) (omega arith);
     }
 
-pub eight_wide_at-eight-requires-clause-within : goal.eight_wide_at-eight-requires-clause-within
-eight_wide_at-eight-requires-clause-within c =
+pub sums_of_eight-value-requires-clause-lies : goal.sums_of_eight-value-requires-clause-lies
+sums_of_eight-value-requires-clause-lies c =
     let run = c.args.self.now in
     let some = mul-le (8 * (c.loop-group.group + 1)) run.width run.count run.width (omega arith) (omega arith) in
     omega arith
@@ -28,15 +29,16 @@ loop-group-preserved c =
     let group = c.loop-group.group in
     let place = 8 * c.loop-group.place + run.bit in
     let start = 8 * run.place + run.bit in
-    let passed = behind_by_least _ _ _ _ _ c.sums_all-value.ensures.behind (same_number run.least fits) in
-    let written = before_by_least _ _ _ _ _ c.sums_all-value.ensures.sums (same_number run.least fits) in
+    let eight = packed c.args.bytes.now run.width place 8 in
+    let passed = c.sums_of_eight-value.ensures.behind in
+    let written = c.sums_of_eight-value.ensures.sums in
     record {
       place = omega arith;
-      value = same_number c.sums_all-value.result (record { sfits = c.sums_all-value.type_inv })
-          ∙ eight_passed _ run.least _ c.sums_all-value.result c.args.bytes.now c.eight_wide_at-eight.result run.width start (8 * group) (8 * (group + 1)) place
-          c.loop-group.invariant.value (omega arith) (omega arith) c.eight_wide_at-eight.ensures passed;
-      done = eight_written _ run.least _ c.args.bytes.now c.eight_wide_at-eight.result c.loop-group.out c.sums_all-value.new.out run.width start (8 * group) (8 * (group + 1)) place _
-          c.loop-group.invariant.value (omega arith) (omega arith) (omega arith) c.eight_wide_at-eight.ensures written c.loop-group.invariant.done;
+      value = same_number c.sums_of_eight-value.result (record { sfits = c.sums_of_eight-value.type_inv })
+          ∙ eight_passed _ run.least _ c.sums_of_eight-value.result c.args.bytes.now eight run.width start (8 * group) (8 * (group + 1)) place
+          c.loop-group.invariant.value (omega arith) (omega arith) refl passed;
+      done = eight_written _ run.least _ c.args.bytes.now eight c.loop-group.out c.sums_of_eight-value.new.out run.width start (8 * group) (8 * (group + 1)) place _
+          c.loop-group.invariant.value (omega arith) (omega arith) (omega arith) refl written c.loop-group.invariant.done;
     }
 
 pub wide_at-requires-clause-within : goal.wide_at-requires-clause-within

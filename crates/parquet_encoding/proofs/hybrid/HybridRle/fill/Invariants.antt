@@ -1,14 +1,13 @@
-use Rattle.std.proofs.Common.{◌≡◌, ◌≤◌, ◌-◌, Some, length, take, drop}
+use Rattle.std.proofs.Common.{◌≡◌, ◌≤◌, ◌-◌, ◌++◌, Some, length, take, drop}
 use Rattle.parquet_encoding.specs.HybridLeft.{hybrid_left, hybrid_values}
 use Rattle.parquet_encoding.proofs.hybrid.HybridRle.fill.Given as goal
 
 abbrev pub invariant-loop-done : goal.invariant-loop-done
 invariant-loop-done l = record {
   left : hybrid_left l.self l.bytes ≡ Some (drop l.done (hybrid_values l.fn.self l.bytes));
-  front : take l.done l.out ≡ take l.done (hybrid_values l.fn.self l.bytes);
-  back : drop l.done l.out ≡ drop l.done l.initial.out;
+  filled : l.out ≡ take l.done (hybrid_values l.fn.self l.bytes) ++ drop l.done l.initial.out;
   few : l.done ≤ length (hybrid_values l.fn.self l.bytes);
-  room : l.done ≤ length l.out;
+  room : l.done ≤ length l.initial.out;
 }
 
 abbrev pub decreases-loop-done : goal.decreases-loop-done
