@@ -1,5 +1,5 @@
 #!/bin/sh
-# Times whole scans beside a plain Rust scan, and compares the memory that both take: of one column of numbers of 32 bits, of times or of texts, all rows,
+# Times whole scans beside a plain Rust scan, and compares the memory that both take: of one column of numbers of 32 bits, of times, of texts or of keys of texts, all rows,
 # a few of them, in chunks, and counted alone, and of the columns of the sample file, which have other types and pages of other lengths. Both programs must write the same text for each request, and for each of a table of
 # requests on small files. What is counted alone is compared with a copy of the file, too. Each time is the best of so many runs. Proves and builds pqscan first where that is not done yet, unless a
 # program is named. Inputs are kept in the folder, bench/data where none is named.
@@ -44,6 +44,8 @@ requests = [
     ("texts of 100, counted", "long", ["--summary"]),
     ("named texts", "named", []),
     ("named texts, counted", "named", ["--summary"]),
+    ("named texts as keys", "named a:Dictionary(Int32,Utf8)", []),
+    ("named texts as keys, counted", "named a:Dictionary(Int32,Utf8)", ["--summary"]),
     ("joined texts of 8", "joined", []),
     ("joined texts of 8, counted", "joined", ["--summary"]),
     ("half null texts of 8", "half_null", []),
@@ -58,6 +60,7 @@ requests = [
 ]
 # What is compared alone: each of these on a small file of each kind.
 kinds = [f"few_{kind}" for kind in ("numbers", "indexed", "times", "short", "long", "named", "joined", "half_null", "odd", "odd_named", "odd_joined")]
+kinds += [f"few_{kind} a:Dictionary(Int32,Utf8)" for kind in ("named", "odd_named")]
 kinds += ["sample_45000", "sample_45000 name:Utf8 qty:Int32 qty<=50", "sample_45000 name:Binary qty:Int32"]
 small = ["", "--summary", "--limit 0", "--limit 10", "--chunk 7", "--chunk 1000", "--limit 20007 --chunk 999", "--limit 44999 --chunk 30000 --summary"]
 
@@ -67,8 +70,7 @@ def command(program, file, words):
     if file.startswith("sample"):
         items = items or ["id:Int64", "qty:Int32", "name:Utf8"]
     else:
-        assert not items, items
-        items = ["a:" + ("Int32" if file.endswith(("numbers", "indexed")) else "Timestamp(ms)" if file.endswith("times") else "Utf8")]
+        items = items or ["a:" + ("Int32" if file.endswith(("numbers", "indexed")) else "Timestamp(ms)" if file.endswith("times") else "Utf8")]
     return [program, f"{work}/{file}.parquet", *items, *words]
 
 
@@ -102,7 +104,7 @@ for name, file, words in requests:
 print(f"\n{'counted':30} {'ms':>8} {'copy ms':>8} {'ratio':>6}", flush=True)
 for name, file, words in requests:
     if words == ["--summary"]:
-        each = [(run(*command(ours, file, words))[0], run(twin, "--copy", f"{work}/{file}.parquet")[0]) for _ in range(runs)]
+        each = [(run(*command(ours, file, words))[0], run(twin, "--copy", f"{work}/{file.split()[0]}.parquet")[0]) for _ in range(runs)]
         mine, its = (min(times) for times in zip(*each))
         print(f"{name:30} {mine:8.2f} {its:8.2f} {mine / max(its, 1e-6):6.2f}", flush=True)
 PY

@@ -2,7 +2,7 @@
 //! library alone. It reads uncompressed files with pages of the first form of INT32, INT64 and BYTE_ARRAY columns, required or optional,
 //! plain, with dictionaries or, for texts and bytes, joined behind their lengths, prunes by statistics and page indexes, and writes what
 //! `pqscan` writes. Timestamps come in milliseconds.
-//! `twin --copy FILE` reads a file part by part and keeps a copy of it in memory: the least that a scan of all of it has to do.
+//! `twin --copy FILE` reads a file part by part and keeps a copy of it in memory: about the least that a scan of all of it has to do.
 
 use std::fs::File;
 use std::io::Write;
@@ -445,6 +445,8 @@ enum Type {
     Milliseconds,
     Utf8,
     Binary,
+    /// Keys of texts.
+    Named,
 }
 
 #[derive(Clone, PartialEq)]
@@ -553,6 +555,7 @@ fn request(words: &[String]) -> Result<Request> {
                         "Timestamp(ms)" => Type::Milliseconds,
                         "Utf8" => Type::Utf8,
                         "Binary" => Type::Binary,
+                        "Dictionary(Int32,Utf8)" => Type::Named,
                         _ => return Err(Error::Words),
                     };
                     let name = name.to_string();
@@ -565,7 +568,7 @@ fn request(words: &[String]) -> Result<Request> {
         let field = r.fields.iter_mut().find(|f| f.name == name).ok_or(Error::Words)?;
         let value = match field.kind {
             Type::Utf8 => Scalar::Bytes(value.as_bytes().to_vec()),
-            Type::Binary | Type::Milliseconds => return Err(Error::Words),
+            Type::Binary | Type::Milliseconds | Type::Named => return Err(Error::Words),
             Type::Int32 => Scalar::Int(value.parse::<i32>().map_err(|_| Error::Words)? as i64),
             Type::Int64 => Scalar::Int(value.parse::<i64>().map_err(|_| Error::Words)?),
         };
@@ -637,6 +640,8 @@ enum Values {
     Int32(Vec<i32>),
     Int64(Vec<i64>),
     Bytes { offsets: Vec<i32>, data: Vec<u8>, text: bool },
+    /// Keys of the texts that stand between these places.
+    Named { keys: Vec<i32>, offsets: Vec<i32>, data: Vec<u8> },
 }
 
 struct Array {
@@ -881,6 +886,34 @@ fn extend_numbers<T: Native>(
             }
         }
         Some(level) => spread(out, validity.unwrap(), level, selected, plain::<T>(bytes)),
+    }
+    Ok(())
+}
+
+/// Appends the keys of the selected rows of a page of keys.
+fn extend_keys(
+    out: &mut Vec<i32>,
+    validity: Option<&mut Bitmap>,
+    level: Option<&[u8]>,
+    present: usize,
+    stored: &Stored,
+    entries: usize,
+    selected: &[Interval],
+) -> Result<()> {
+    let keys = match stored {
+        Stored::Keys(bytes, width) => decode_keys(bytes, *width, present, entries)?,
+        Stored::Plain([]) => Vec::new(),
+        _ => return Err(Error::NotCarried),
+    };
+    match level {
+        None => {
+            for (start, length) in selected {
+                out.extend(keys[*start..start + length].iter().map(|key| *key as i32));
+            }
+        }
+        Some(level) => {
+            spread(out, validity.unwrap(), level, selected, keys.iter().map(|key| *key as i32));
+        }
     }
     Ok(())
 }
@@ -1150,6 +1183,7 @@ impl<'a> ColumnReader<'a> {
                 offsets.push(0);
                 Values::Bytes { offsets, data: Vec::new(), text: kind == Type::Utf8 }
             }
+            Type::Named => Values::Named { keys: Vec::with_capacity(rows), offsets: vec![], data: vec![] },
         };
         let validity = column.optional.then(Bitmap::default);
         ColumnReader { column, kind, dict: None, array: Array { values, validity }, pages: 0 }
@@ -1160,8 +1194,14 @@ impl<'a> ColumnReader<'a> {
             return Err(Error::NotCarried);
         }
         self.pages += 1;
-        let text = self.kind == Type::Utf8;
-        self.dict = Some(read_dict(self.column.physical, text, body, h.num_values)?);
+        let text = matches!(self.kind, Type::Utf8 | Type::Named);
+        let dict = read_dict(self.column.physical, text, body, h.num_values)?;
+        match (&mut self.array.values, dict) {
+            (Values::Named { offsets, data, .. }, Dict::Bytes { offsets: places, data: entries }) => {
+                (*offsets, *data) = (places, entries);
+            }
+            (_, dict) => self.dict = Some(dict),
+        }
         Ok(())
     }
 
@@ -1211,6 +1251,10 @@ impl<'a> ColumnReader<'a> {
                     to_milliseconds(&mut out[held..], self.column.steps);
                 }
                 Ok(())
+            }
+            (Values::Named { keys, offsets, .. }, _) => {
+                let entries = offsets.len().checked_sub(1).ok_or(Error::NotCarried)?;
+                extend_keys(keys, validity, level, present, &stored, entries, selected)
             }
             (Values::Bytes { offsets, data, text }, dict) => {
                 let dict = match dict {
@@ -1426,7 +1470,7 @@ fn scan(input: &Input, request: &Request) -> Result<Scan> {
         let carried = match f.kind {
             Type::Int32 => column.physical == Physical::Int32,
             Type::Int64 | Type::Milliseconds => column.physical == Physical::Int64,
-            Type::Utf8 | Type::Binary => column.physical == Physical::ByteArray,
+            Type::Utf8 | Type::Binary | Type::Named => column.physical == Physical::ByteArray,
         };
         if !carried || column.repeated {
             return Err(Error::NotCarried);
@@ -1686,6 +1730,10 @@ impl Output {
         match &array.values {
             Values::Int32(v) => self.signed(v[i] as i64),
             Values::Int64(v) => self.signed(v[i]),
+            Values::Named { keys, offsets, data } => {
+                let key = keys[i] as usize;
+                self.quoted(&data[offsets[key] as usize..offsets[key + 1] as usize]);
+            }
             Values::Bytes { offsets, data, text } => {
                 let s = &data[offsets[i] as usize..offsets[i + 1] as usize];
                 if *text {
