@@ -11,13 +11,13 @@ use columns_core::{Array, PrimitiveArray};
 use parquet_meta::Failed;
 
 /// The most bytes of a number of 32 bits.
-const MAX_NUMBER_BYTES: usize = 11;
+const MAX_INT32_BYTES: usize = 11;
 
 /// The most bytes of a line.
-const MAX_LINE_BYTES: usize = MAX_NUMBER_BYTES + 1;
+const MAX_LINE_BYTES: usize = MAX_INT32_BYTES + 1;
 
 /// How many bytes of lines are written before they go to the sink's block.
-const LINES_BYTES: usize = 4096;
+pub(crate) const LINES_BYTES: usize = 4096;
 
 /// Takes the lines of all rows, many at a time.
 pub fn push_number_lines<K: Sink>(
@@ -63,11 +63,16 @@ fn write_line(block: &mut [u8], end: usize, array: &PrimitiveArray<i32>, row: us
         ≡ line_of (column_of (Array.Int32 array.now)) row ++ drop end block.old }
 {
     block[end - 1] = b'\n';
-    write_number(block, end - 1, array, row)
+    write_number_or_null(block, end - 1, array, row)
 }
 
 /// Writes the number or null of a row before a place, and says where it begins.
-fn write_number(block: &mut [u8], end: usize, array: &PrimitiveArray<i32>, row: usize) -> usize
+fn write_number_or_null(
+    block: &mut [u8],
+    end: usize,
+    array: &PrimitiveArray<i32>,
+    row: usize,
+) -> usize
     requires room { (11 ≤ end) × (end ≤ length block.old) }
     requires within { row < length array.now.items }
     ensures start { (result ≤ end) × (end ≤ result + 11) }

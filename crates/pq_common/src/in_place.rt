@@ -1,5 +1,5 @@
 //! Cells as text that are written in place: from the last byte to the first, as digits come.
-ghost use Rattle.std.specs.Prelude.{◌≡◌, ◌<◌, ◌≤◌, ◌++◌, codes, drop, flat_map, length, map, option_copied, IfSome};
+ghost use Rattle.std.specs.Prelude.{◌≡◌, ◌<◌, ◌≤◌, ◌++◌, codes, drop, flat_map, length, option_copied, IfSome};
 ghost use Rattle.std.specs.Fmt.{signed_decimal};
 ghost use Rattle.columns_core.specs.Array.{column_of};
 ghost use Rattle.columns_core.specs.Column.{cell_of};
@@ -13,7 +13,7 @@ use crate::digits::write_i64;
 use columns_core::{Array, Lent, PrimitiveArray};
 
 /// The most bytes of a number of 64 bits.
-const MAX_NUMBER_BYTES: usize = 20;
+const MAX_INT64_BYTES: usize = 20;
 
 /// Writes the cell of a column in a row before a place, and says where it begins: nothing where the column has no such row. Answers
 /// none where there is no room, and for the few cells that are written piece by piece.
@@ -115,7 +115,7 @@ fn write_number(line: &mut [u8], end: usize, number: i64) -> Option<usize>
     ensures written { let text = signed_decimal number in
         IfSome result (λ start. drop start line.new ≡ text ++ drop end line.old) }
 {
-    if end < MAX_NUMBER_BYTES {
+    if end < MAX_INT64_BYTES {
         return None;
     }
     Some(write_i64(line, end, number))

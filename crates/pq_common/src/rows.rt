@@ -8,19 +8,17 @@ ghost use Rattle.pq_common.specs.Taken.{TakesBytes};
 
 use crate::block::Block;
 use crate::cells::push_cell;
+use crate::column::LINES_BYTES;
 use crate::in_place::{write_cell, write_piece_before};
 use crate::sink::Sink;
 use columns_core::Array;
 use parquet_meta::Failed;
 
-/// How many bytes of lines are written before they go to the sink's block.
-const LINES_BYTES: usize = 4096;
-
 /// How many rows are written together at most.
 const MOST_ROWS: usize = 32;
 
-/// Takes the lines of rows: of each the cells of all columns, with tabs between them. Fewer rows are written together where some have
-/// not fitted.
+/// Takes the lines of rows: of each the cells of all columns, with tabs between them. Fewer rows are written together behind some
+/// that were written piece by piece.
 pub fn push_row_lines<K: Sink>(
     block: &mut Block,
     out: &mut K,
@@ -35,9 +33,11 @@ pub fn push_row_lines<K: Sink>(
     let mut row = 0;
     while row < rows {
         let to = row + count.min(rows - row);
-        if !push_some(block, out, &mut lines, arrays, row, to)? {
-            count = (count / 2).max(1);
-        }
+        count = if push_some(block, out, &mut lines, arrays, row, to)? {
+            (2 * count).min(MOST_ROWS)
+        } else {
+            (count / 2).max(1)
+        };
         row = to;
     }
     Ok(())
@@ -141,13 +141,13 @@ fn push_each<K: Sink>(
         TakesBytes K.Sink out.old out.new (block.old ++ lines) block.new result }
 {
     for row in from..to {
-        push_pieces(block, out, arrays, row)?;
+        push_row(block, out, arrays, row)?;
     }
     Ok(())
 }
 
 /// Takes the line of a row piece by piece.
-fn push_pieces<K: Sink>(
+fn push_row<K: Sink>(
     block: &mut Block,
     out: &mut K,
     arrays: &[Array],

@@ -88,14 +88,14 @@ fn write_text_line(block: &mut [u8], held: usize, name: Option<&str>) -> Option<
     match name {
         None if room >= NULL_LINE.len() => Some(write_piece(block, held, &NULL_LINE)),
         Some(name) if room >= name.len() + AROUND_TEXT && is_plain(name.as_bytes()) => {
-            Some(write_quoted(block, held, name.as_bytes()))
+            Some(write_quoted_line(block, held, name.as_bytes()))
         }
         _ => None,
     }
 }
 
 /// Writes a text in quotes and the end of a line behind the first bytes of a block, and says where it ends.
-fn write_quoted(block: &mut [u8], held: usize, bytes: &[u8]) -> usize
+fn write_quoted_line(block: &mut [u8], held: usize, bytes: &[u8]) -> usize
     requires { held + length bytes.now + 3 ≤ length block.old }
     ensures end { result ≡ held + length bytes.now + 3 }
     ensures same { length block.new ≡ length block.old }

@@ -19,9 +19,10 @@ returns-in_err-push_some g c =
     piece_refused g.K.Sink _ _ _ _ c.loop-row.block _ _ _ _ _ _ _ c.from_residual.ensures.0
     (parts (row_line (map column_of c.args.arrays.now)) c.loop-row.row c.min.result c.args.rows (omega arith)) c.loop-row.invariant.left c.in_err-push_some.ensures
 
-pub loop-row-preserved-then-not-branch : goal.loop-row-preserved-then-not-branch
-loop-row-preserved-then-not-branch g c = record {
+pub loop-row-preserved-then-branch : goal.loop-row-preserved-then-branch
+loop-row-preserved-then-branch g c = record {
   some = omega arith;
+  most = omega arith;
   within = omega arith;
   left = piece_taken g.K.Sink _ _ _ _ c.loop-row.block _ _ _ _ _
       (parts (row_line (map column_of c.args.arrays.now)) c.loop-row.row c.min.result c.args.rows (omega arith)) c.loop-row.invariant.left c.in_ok-push_some.ensures;
@@ -30,6 +31,7 @@ loop-row-preserved-then-not-branch g c = record {
 pub loop-row-preserved : goal.loop-row-preserved
 loop-row-preserved g c = record {
   some = omega arith;
+  most = omega arith;
   within = omega arith;
   left = piece_taken g.K.Sink _ _ _ _ c.loop-row.block _ _ _ _ _
       (parts (row_line (map column_of c.args.arrays.now)) c.loop-row.row c.min.result c.args.rows (omega arith)) c.loop-row.invariant.left c.in_ok-push_some.ensures;

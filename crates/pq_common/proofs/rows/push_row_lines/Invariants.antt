@@ -11,6 +11,7 @@ invariant-loop-row g l =
     let lines = row_line (map column_of l.arrays) in
     record {
       some : 1 ≤ l.count;
+      most : l.count ≤ 32;
       within : l.row ≤ l.rows;
       left : Leaves g.K.Sink l.initial.out l.out (l.initial.block ++ flat_map lines (range_with_len 0 l.rows))
           (l.block ++ flat_map lines (range_with_len l.row (l.rows - l.row)));

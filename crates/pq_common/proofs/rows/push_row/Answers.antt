@@ -3,7 +3,7 @@ use Rattle.std.specs.List.{join_by}
 use Rattle.columns_core.specs.Array.{column_of}
 use Rattle.pq_common.specs.Rows.{cell_at}
 use Rattle.pq_common.proofs.TakenLemmas.{begun, last_taken, piece_refused, piece_taken}
-use Rattle.pq_common.proofs.rows.push_pieces.Goals as goal
+use Rattle.pq_common.proofs.rows.push_row.Goals as goal
 
 pub returns-in_err-push_cells : goal.returns-in_err-push_cells
 returns-in_err-push_cells g c =
