@@ -1,5 +1,5 @@
 //! Times of one unit as those of another.
-ghost use Rattle.std.specs.Prelude.{◌≡◌, ◌*ℤ◌, IfOk, IfErr};
+ghost use Rattle.std.specs.Prelude.{◌≡◌, ◌<◌, ◌*ℤ◌, int_div, pos, IfOk, IfErr};
 ghost use Rattle.flat_values.specs.Conversion.{Value, NotInRange, int64};
 ghost use Rattle.columns_core.specs.declared.cell.Cell.{Int};
 
@@ -52,11 +52,10 @@ impl Convert<i64, i64> for Scale {
     ghost rule = { λ scale. Scaled scale.0 scale.1 };
 
     fn convert(&self, x: i64) -> Result<i64, Error> {
-        let factor = self.factor as i64;
         if self.multiply {
-            times(x, factor)
+            times(x, self.factor as i64)
         } else {
-            Ok(x / factor)
+            Ok(quotient(x, self.factor))
         }
     }
 
@@ -129,7 +128,7 @@ impl ConvertAll<i64, i64> for Divide {
     ghost rule = { λ divide. Scaled (divide.0).0 false };
 
     fn apply(&self, x: i64) -> i64 {
-        x / self.0.factor as i64
+        quotient(x, self.0.factor)
     }
 }
 
@@ -166,6 +165,20 @@ impl Convert<i64, i64> for Multiply {
 
     fn convert(&self, x: i64) -> Result<i64, Error> {
         times(x, self.0.factor as i64)
+    }
+}
+
+/// A quotient, rounded toward zero. The factors between units stand here one by one, since a division by a number that the compiler knows is a
+/// product.
+fn quotient(x: i64, factor: u32) -> i64
+    requires { 0 < factor }
+    ensures { result ≡ int_div x (pos factor) }
+{
+    match factor {
+        1_000 => x / 1_000,
+        1_000_000 => x / 1_000_000,
+        1_000_000_000 => x / 1_000_000_000,
+        _ => x / factor as i64,
     }
 }
 
