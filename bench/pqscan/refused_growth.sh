@@ -1,19 +1,19 @@
 #!/bin/sh
 # Runs pqscan with each of its allocations refused in turn, on a file of 5 rows, on one of 45,000 in three groups and on the same with page
 # indexes, on keys of 1,000 texts, and on two samples. Each run must end for want of memory and write nothing, or, where a smaller block was enough, write the whole text. Proves and
-# builds pqscan first where that is not done yet. Usage: bench/pqscan/refused_growth.sh [FOLDER]
+# builds pqscan first where that is not done yet, unless a program is named. Usage: [PQSCAN=PROGRAM] bench/pqscan/refused_growth.sh [FOLDER]
 set -eu
 here=$(cd "$(dirname "$0")" && pwd)
 top=$(cd "$here/../.." && pwd)
 work=${1:-$(mktemp -d)}
 mkdir -p "$work"
-pqscan=$top/crates/pqscan/out/pqscan
+pqscan=${PQSCAN:-$top/crates/pqscan/out/pqscan}
 five=$top/crates/pqscan/data/f1.parquet
 python3 "$here/inputs.py" "$work/plain.parquet" 45000
 python3 "$here/inputs.py" "$work/indexed.parquet" 45000 indexed
 python3 "$here/inputs.py" "$work/named.parquet" 2000 named
 ${CC:-cc} -O1 -shared -fPIC "$here/refuse.c" -o "$work/refuse.so" -ldl
-"$top/prove"
+[ -n "${PQSCAN:-}" ] || "$top/prove"
 
 OUT_OF_MEMORY=10
 
