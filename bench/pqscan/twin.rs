@@ -1,7 +1,7 @@
 //! `twin FILE ITEM.. [--limit N] [--chunk N] [--summary] [--no-print]`: a pruned flat Parquet scan in plain Rust, by the standard
 //! library alone. It reads uncompressed files with pages of the first form of INT32, INT64 and BYTE_ARRAY columns, required or optional,
 //! plain, with dictionaries or, for texts and bytes, joined behind their lengths, prunes by statistics and page indexes, and writes what
-//! `pqscan` writes. Timestamps come in milliseconds.
+//! `pqscan` writes. Timestamps come in milliseconds, and keys of texts as texts or as a dictionary array.
 //! `twin --copy FILE` reads a file part by part and keeps a copy of it in memory: about the least that a scan of all of it has to do.
 
 use std::fs::File;
