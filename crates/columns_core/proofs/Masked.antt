@@ -1,6 +1,6 @@
 -- Values behind a mask.
-use Rattle.std.proofs.Common.{◌≡◌, ℕ, zero, suc, ◌<◌, Bool, true, false, List, [], ◌∷◌, length, map, get_or, refl, sym, ◌∙◌, ap, arith}
-use Rattle.std.specs.Prelude.{Option, Some, None, option_map, slice_get, if◌then◌else◌}
+use Rattle.std.proofs.Common.{◌≡◌, ℕ, zero, suc, ◌<◌, Bool, true, false, List, [], ◌∷◌, length, map, get_or, refl, ◌∙◌, ap, arith}
+use Rattle.std.specs.Prelude.{Option, Some, None, slice_get, if◌then◌else◌}
 use Rattle.std.proofs.lemmas.List.{length-map}
 use Rattle.std.proofs.lemmas.Bool.{true≢false}
 use Rattle.std.proofs.lemmas.Option.{slice_get_within, get_or_from_slice_get, slice_get-get_or}
@@ -53,25 +53,6 @@ get-set values mask found i d e h k = ap (λ m. slice_get (masked values m) i) e
 pub get-unmasked : {T : Type 0} (values : List T) (mask : Option (List Bool)) (i : ℕ) (d : T) → mask ≡ None → i < length values
     → slice_get (masked values mask) i ≡ Some (Some (get_or values i d))
 get-unmasked values mask i d e h = ap (λ m. slice_get (masked values m) i) e ∙ get-map values i d h
-
-where_set-map : {T U : Type 0} (f : T → U) (values : List T) (mask : List Bool) → where_set (map f values) mask ≡ map (option_map f) (where_set values mask)
-where_set-map f [] mask = refl
-where_set-map f (value ∷ values) [] = refl
-where_set-map f (value ∷ values) (true ∷ mask) = ap (λ rest. Some (f value) ∷ rest) (where_set-map f values mask)
-where_set-map f (value ∷ values) (false ∷ mask) = ap (λ rest. None ∷ rest) (where_set-map f values mask)
-
-somes-map : {T U : Type 0} (f : T → U) (values : List T) → map Some (map f values) ≡ map (option_map f) (map Some values)
-somes-map f [] = refl
-somes-map f (value ∷ values) = ap (λ rest. Some (f value) ∷ rest) (somes-map f values)
-
--- the values may be changed before or behind the mask
-pub masked_map : {T U : Type 0} (f : T → U) (values : List T) (mask : Option (List Bool)) → masked (map f values) mask ≡ map (option_map f) (masked values mask)
-masked_map f values None = somes-map f values
-masked_map f values (Some mask) = where_set-map f values mask
-
--- a mask that fits values fits what they are changed to
-pub fits_mask_map : {T U : Type 0} (f : T → U) (values : List T) (mask : Option (List Bool)) → FitsMask values mask → FitsMask (map f values) mask
-fits_mask_map f values mask h found e = h found e ∙ sym (length-map values f)
 
 -- an item is there, or null, as the mask tells
 pub there : {T : Type 0} (values : List T) (mask : Option (List Bool)) (i : ℕ) (x : T) → FitsMask values mask → slice_get values i ≡ Some x → is_there mask i ≡ true

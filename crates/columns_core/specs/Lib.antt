@@ -8,8 +8,10 @@ pub mod Joined
 pub mod Stored
 pub mod ElementType
 pub mod Entries
+pub mod DictionaryKeys
 pub mod Keyed
 pub mod Array
+pub mod Holding
 pub mod DictionaryType
 pub mod Nested
 pub mod Depth

@@ -1,5 +1,5 @@
 //! Arrays of keys into entries.
-ghost use Rattle.std.specs.Prelude.{◌≡◌, ◌<◌, ◌≤◌, ◌↔◌, ◌⊎◌, IsTrue, IfOk, IfErr, Some, length, slice_get, map, option_map, All, pos};
+ghost use Rattle.std.specs.Prelude.{◌≡◌, ◌<◌, ◌≤◌, ◌↔◌, ◌⊎◌, IsTrue, IfOk, IfErr, Some, length, slice_get, All, pos};
 ghost use Rattle.std.specs.Option.{ForSome};
 ghost use Rattle.columns_core.specs.Causes.{IsWantOfMemory, IsMisfit, cause_of, OutOfSpec};
 ghost use Rattle.columns_core.specs.Array.{cells, data_type_of};
@@ -7,23 +7,26 @@ ghost use Rattle.columns_core.specs.Column.{masked, FitsMask};
 ghost use Rattle.columns_core.specs.Depth.{depth};
 ghost use Rattle.columns_core.specs.Keyed.{named_cells, keyed_cells, keyed_column};
 ghost use Rattle.columns_core.specs.DictionaryType.{IsDictionaryOf, entry_type};
-ghost use Rattle.columns_core.specs.Entries.{NameEntries, key_places, place_of_key};
+ghost use Rattle.columns_core.specs.Entries.{NameEntries};
+ghost use Rattle.columns_core.specs.DictionaryKeys.{named_places};
 ghost use Rattle.columns_core.specs.Lent.{cell_lent, IsThere, lent_depth};
 
+use crate::array::boxed_copy;
 use crate::equal::is_same_type;
 use crate::lent::Lent;
 use crate::{
-    Array, Bitmap, Boxed, DataType, DictionaryKey, Error, IntegerType, Part, PrimitiveArray,
+    Array, Bitmap, Boxed, DataType, DictionaryKey, DictionaryKeys, Error, IntegerType, Part,
+    PrimitiveArray,
 };
 use std::alloc::Global;
 use std::marker::Model;
 
-/// Keys into entries, as numbers of 64 bits whatever the type of keys.
+/// Keys into entries.
 #[cycle(array)]
 #[derive(Drop)]
 pub struct DictionaryArray {
     data_type: DataType,
-    keys: PrimitiveArray<u64>,
+    keys: DictionaryKeys,
     entries: Boxed<Array>,
 }
 
@@ -39,12 +42,13 @@ impl Model for DictionaryArray {
     ghost use Rattle.std.specs.Prelude.{◌≡◌, ◌*◌, Some, pos};
     ghost use Rattle.columns_core.specs.Array.{cells, data_type_of};
     ghost use Rattle.columns_core.specs.Entries.{NameEntries};
+    ghost use Rattle.columns_core.specs.DictionaryKeys.{named_places};
     ghost use Rattle.columns_core.specs.Depth.{depth};
     ghost use Rattle.columns_core.specs.DictionaryType.{entry_type};
 
-    ghost view = { λ array. record { data_type = array.data_type; keys = array.keys.items; entries = cells array.entries } };
+    ghost view = { λ array. record { data_type = array.data_type; keys = named_places array.keys; entries = cells array.entries } };
 
-    ghost invariant = { λ array. (entry_type array.data_type ≡ Some (data_type_of array.entries)) × NameEntries pos (cells array.entries) array.keys.items };
+    ghost invariant = { λ array. (entry_type array.data_type ≡ Some (data_type_of array.entries)) × NameEntries pos (cells array.entries) (named_places array.keys) };
 
     ghost size = { λ dictionary. 2 * depth dictionary.data_type };
 
@@ -74,13 +78,13 @@ impl DictionaryArray {
         self.entries.get()
     }
 
-    /// The key at a place, if it is there: the place of an entry.
+    /// The key at a place, if it is there: the place of an entry, whatever the type of the keys.
     pub fn key(&self, i: usize) -> Option<u64>
         requires { i < length self.now.keys }
         ensures key { slice_get self.now.keys i ≡ Some result }
         ensures within { ForSome result (λ key. key < length self.now.entries) }
     {
-        self.keys.get(i)
+        self.keys.place(i)
     }
 
     /// The entry of the key at a place, read where it lies.
@@ -103,7 +107,7 @@ impl DictionaryArray {
         ensures memory { IfErr result IsWantOfMemory }
     {
         Ok(DictionaryArray {
-            entries: Boxed::new(alloc, self.entries.get().try_clone(alloc)?)?,
+            entries: boxed_copy(alloc, self.entries.get())?,
             keys: self.keys.try_clone(alloc)?,
             data_type: self.data_type.try_clone(alloc)?,
         })
@@ -111,7 +115,7 @@ impl DictionaryArray {
 }
 
 impl DictionaryArray {
-    /// The array of these keys and entries. The keys become numbers of 64 bits, whatever their type.
+    /// The array of these keys and entries.
     pub fn try_new<K: DictionaryKey>(
         alloc: Global,
         data_type: DataType,
@@ -131,7 +135,7 @@ impl DictionaryArray {
         if !is_dictionary_of(&data_type, K::key_type(), values.data_type()) {
             return Err(Error::InvalidArgumentError(Part::Dictionary));
         }
-        let keys = places_of(alloc, keys)?;
+        let keys = K::keep(keys);
         if !are_below(&keys, values.len()) {
             return Err(Error::OutOfSpec(Part::Dictionary));
         }
@@ -142,34 +146,40 @@ impl DictionaryArray {
     pub fn of_keys<K: DictionaryKey>(
         alloc: Global,
         data_type: &DataType,
-        keys: &[K],
+        keys: Vec<K>,
         validity: Option<Bitmap>,
         entries: &Array,
     ) -> Result<Self, Error>
         requires typed { IsDictionaryOf K.key_type (data_type_of entries.now) data_type.now }
-        requires fits { FitsMask keys.now validity }
-        requires named { NameEntries K.number (cells entries.now) (masked keys.now validity) }
+        requires fits { FitsMask keys.items validity }
+        requires named { NameEntries K.number (cells entries.now) (masked keys.items validity) }
         ensures array { IfOk result (λ array. array
-            ≡ keyed_column K.number data_type.now (masked keys.now validity) (cells entries.now)) }
+            ≡ keyed_column K.number data_type.now (masked keys.items validity) (cells entries.now)) }
         ensures cells { IfOk result (λ array. named_cells array
-            ≡ keyed_cells K.number (cells entries.now) (masked keys.now validity)) }
+            ≡ keyed_cells K.number (cells entries.now) (masked keys.items validity)) }
         ensures memory { IfErr result IsWantOfMemory }
     {
-        let keys = masked_places(alloc, keys, validity)?;
-        copy_of_parts(alloc, data_type, keys, entries)
+        let own_type = data_type.try_clone(alloc)?;
+        let own_entries = entries.try_clone(alloc)?;
+        let keys = PrimitiveArray {
+            data_type: K::data_type(),
+            values: keys,
+            validity,
+        };
+        DictionaryArray::of_places(alloc, own_type, K::keep(keys), own_entries)
     }
 
-    /// The array of keys that are numbers of 64 bits already.
+    /// The array of keys that name entries.
     fn of_places(
         alloc: Global,
         data_type: DataType,
-        keys: PrimitiveArray<u64>,
+        keys: DictionaryKeys,
         entries: Array,
     ) -> Result<Self, Error>
         requires typed { entry_type data_type ≡ Some (data_type_of entries) }
-        requires named { NameEntries pos (cells entries) keys.items }
+        requires named { NameEntries pos (cells entries) (named_places keys) }
         ensures array { IfOk result (λ array. array
-            ≡ record { data_type = data_type; keys = keys.items; entries = cells entries }) }
+            ≡ record { data_type = data_type; keys = named_places keys; entries = cells entries }) }
         ensures memory { IfErr result IsWantOfMemory }
     {
         let entries = Boxed::new(alloc, entries)?;
@@ -179,26 +189,6 @@ impl DictionaryArray {
             entries,
         })
     }
-}
-
-/// The array of these keys and of copies of a type and entries.
-fn copy_of_parts(
-    alloc: Global,
-    data_type: &DataType,
-    keys: PrimitiveArray<u64>,
-    entries: &Array,
-) -> Result<DictionaryArray, Error>
-    requires typed { entry_type data_type.now ≡ Some (data_type_of entries.now) }
-    requires named { NameEntries pos (cells entries.now) keys.items }
-    ensures array { IfOk result (λ array. array
-        ≡ record { data_type = data_type.now; keys = keys.items; entries = cells entries.now }) }
-    ensures memory { IfErr result IsWantOfMemory }
-{
-    Ok(DictionaryArray {
-        entries: Boxed::new(alloc, entries.try_clone(alloc)?)?,
-        keys,
-        data_type: data_type.try_clone(alloc)?,
-    })
 }
 
 /// Whether a type is a dictionary of these keys and entries.
@@ -213,56 +203,12 @@ fn is_dictionary_of(data_type: &DataType, key: IntegerType, entry: &DataType) ->
     }
 }
 
-/// The same keys as numbers of 64 bits, under the same mask.
-fn places_of<K: DictionaryKey>(
-    alloc: Global,
-    keys: PrimitiveArray<K>,
-) -> Result<PrimitiveArray<u64>, Error>
-    ensures places { IfOk result (λ places. places.items ≡ key_places K.number keys.items) }
-    ensures memory { IfErr result IsWantOfMemory }
-{
-    let (keys, validity) = keys.into_parts();
-    masked_places(alloc, keys.as_slice(), validity)
-}
-
-/// Keys as numbers of 64 bits, under a mask.
-#[tactic(auto, using(crate::proofs::Masked::masked_map, crate::proofs::Masked::fits_mask_map))]
-fn masked_places<K: DictionaryKey>(
-    alloc: Global,
-    keys: &[K],
-    validity: Option<Bitmap>,
-) -> Result<PrimitiveArray<u64>, Error>
-    requires { FitsMask keys.now validity }
-    ensures places { IfOk result (λ places.
-        places.items ≡ key_places K.number (masked keys.now validity)) }
-    ensures memory { IfErr result IsWantOfMemory }
-{
-    let values = all_places_of(alloc, keys)?;
-    Ok(PrimitiveArray {
-        data_type: DataType::UInt64,
-        values,
-        validity,
-    })
-}
-
-fn all_places_of<K: DictionaryKey>(alloc: Global, keys: &[K]) -> Result<Vec<u64>, Error>
-    ensures places { IfOk result (λ places.
-        places.items ≡ map (λ key. place_of_key (K.number key)) keys.now) }
-    ensures memory { IfErr result IsWantOfMemory }
-{
-    let mut places = Vec::with_capacity(alloc, keys.len())?;
-    for key in keys {
-        places.push(key.place())?;
-    }
-    Ok(places)
-}
-
 /// Whether each key that is there is below this number of entries.
-fn are_below(keys: &PrimitiveArray<u64>, count: usize) -> bool
-    ensures { IsTrue result ↔ All (λ key. ForSome key (λ k. k < count)) keys.now.items }
+fn are_below(keys: &DictionaryKeys, count: usize) -> bool
+    ensures { IsTrue result ↔ All (λ key. ForSome key (λ k. k < count)) (named_places keys.now) }
 {
     for i in 0..keys.len() {
-        if !is_below(keys.get(i), count) {
+        if !is_below(keys.place(i), count) {
             return false;
         }
     }

@@ -77,19 +77,33 @@ pub(crate) fn is_same_type(a: &DataType, b: &DataType) -> bool
         DataType::UInt64 => matches!(b, DataType::UInt64),
         DataType::Date32 => matches!(b, DataType::Date32),
         DataType::Date64 => matches!(b, DataType::Date64),
-        DataType::Time32(unit) => matches!(b, DataType::Time32(other) if unit == other),
-        DataType::Time64(unit) => matches!(b, DataType::Time64(other) if unit == other),
-        DataType::Duration(unit) => matches!(b, DataType::Duration(other) if unit == other),
+        // Values are compared in a match of their own: a test inside `matches!` takes longer to prove.
+        DataType::Time32(unit) => match b {
+            DataType::Time32(other) => unit == other,
+            _ => false,
+        },
+        DataType::Time64(unit) => match b {
+            DataType::Time64(other) => unit == other,
+            _ => false,
+        },
+        DataType::Duration(unit) => match b {
+            DataType::Duration(other) => unit == other,
+            _ => false,
+        },
         DataType::Timestamp(unit, zone) => is_timestamp(*unit, zone, b),
-        DataType::Interval(unit) => matches!(b, DataType::Interval(other) if unit == other),
+        DataType::Interval(unit) => match b {
+            DataType::Interval(other) => unit == other,
+            _ => false,
+        },
         DataType::Decimal(precision, scale) => is_decimal(*precision, *scale, b),
         DataType::Utf8 => matches!(b, DataType::Utf8),
         DataType::LargeUtf8 => matches!(b, DataType::LargeUtf8),
         DataType::Binary => matches!(b, DataType::Binary),
         DataType::LargeBinary => matches!(b, DataType::LargeBinary),
-        DataType::FixedSizeBinary(size) => {
-            matches!(b, DataType::FixedSizeBinary(other) if size == other)
-        }
+        DataType::FixedSizeBinary(size) => match b {
+            DataType::FixedSizeBinary(other) => size == other,
+            _ => false,
+        },
         DataType::Dictionary(key, value, is_ordered) => {
             is_dictionary(value.get(), *key, *is_ordered, b)
         }
@@ -200,13 +214,27 @@ fn is_same_cell(a: &Cell, b: &Cell) -> bool
 {
     match a {
         Cell::Null => matches!(b, Cell::Null),
-        Cell::Bool(value) => matches!(b, Cell::Bool(other) if value == other),
-        Cell::Int(value) => matches!(b, Cell::Int(other) if value == other),
-        Cell::DaysMs(days, milliseconds) => {
-            matches!(b, Cell::DaysMs(other, rest) if days == other && milliseconds == rest)
-        }
-        Cell::Text(text) => matches!(b, Cell::Text(other) if text == other),
-        Cell::Bytes(bytes) => matches!(b, Cell::Bytes(other) if bytes == other),
+        // Values are compared in a match of their own: a test inside `matches!` takes longer to prove.
+        Cell::Bool(value) => match b {
+            Cell::Bool(other) => value == other,
+            _ => false,
+        },
+        Cell::Int(value) => match b {
+            Cell::Int(other) => value == other,
+            _ => false,
+        },
+        Cell::DaysMs(days, milliseconds) => match b {
+            Cell::DaysMs(other, rest) => days == other && milliseconds == rest,
+            _ => false,
+        },
+        Cell::Text(text) => match b {
+            Cell::Text(other) => text == other,
+            _ => false,
+        },
+        Cell::Bytes(bytes) => match b {
+            Cell::Bytes(other) => bytes == other,
+            _ => false,
+        },
         Cell::Cells(cells) => match b {
             Cell::Cells(others) => is_same_cells(cells.as_slice(), others.as_slice()),
             _ => false,

@@ -80,13 +80,27 @@ impl<'a> Lent<'a> {
     {
         match self {
             Lent::Null => matches!(other, Lent::Null),
-            Lent::Bool(value) => matches!(other, Lent::Bool(that) if value == that),
-            Lent::Int(value) => matches!(other, Lent::Int(that) if value == that),
-            Lent::DaysMs(days, milliseconds) => {
-                matches!(other, Lent::DaysMs(that, rest) if days == that && milliseconds == rest)
-            }
-            Lent::Text(text) => matches!(other, Lent::Text(that) if text == that),
-            Lent::Bytes(bytes) => matches!(other, Lent::Bytes(that) if bytes == that),
+            // Values are compared in a match of their own: a test inside `matches!` takes longer to prove.
+            Lent::Bool(value) => match other {
+                Lent::Bool(that) => value == that,
+                _ => false,
+            },
+            Lent::Int(value) => match other {
+                Lent::Int(that) => value == that,
+                _ => false,
+            },
+            Lent::DaysMs(days, milliseconds) => match other {
+                Lent::DaysMs(that, rest) => days == that && milliseconds == rest,
+                _ => false,
+            },
+            Lent::Text(text) => match other {
+                Lent::Text(that) => text == that,
+                _ => false,
+            },
+            Lent::Bytes(bytes) => match other {
+                Lent::Bytes(that) => bytes == that,
+                _ => false,
+            },
             Lent::Cells(inside) => match other {
                 Lent::Cells(that) => are_same(inside, that),
                 _ => false,

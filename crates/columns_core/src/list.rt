@@ -10,6 +10,7 @@ ghost use Rattle.columns_core.specs.Lists.{lists, AreLists};
 ghost use Rattle.columns_core.specs.Nested.{list_type, joined_type};
 ghost use Rattle.columns_core.specs.declared.cell.Cell.{Cells};
 
+use crate::array::boxed_copy;
 use crate::equal::is_same_type;
 use crate::lent::{Lent, Nest};
 use crate::mask::{copy_of_mask, is_there};
@@ -136,7 +137,7 @@ impl ListArray {
         ensures memory { IfErr result IsWantOfMemory }
     {
         Ok(ListArray {
-            items: Boxed::new(alloc, self.items.get().try_clone(alloc)?)?,
+            items: boxed_copy(alloc, self.items.get())?,
             places: self.places.try_clone(alloc)?,
             validity: copy_of_mask(alloc, self.validity.as_ref())?,
             data_type: self.data_type.try_clone(alloc)?,

@@ -79,19 +79,6 @@ impl<T> PrimitiveArray<T> {
     {
         self.values.len()
     }
-
-    /// The values and the mask.
-    pub(crate) fn into_parts(self) -> (Vec<T>, Option<Bitmap>)
-        ensures items { masked result.0.items result.1 ≡ self.items }
-        ensures fits { FitsMask result.0.items result.1 }
-    {
-        let PrimitiveArray {
-            data_type: _,
-            values,
-            validity,
-        } = self;
-        (values, validity)
-    }
 }
 
 impl<T: Copy> PrimitiveArray<T> {

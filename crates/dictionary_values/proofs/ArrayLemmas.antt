@@ -37,12 +37,11 @@ module _ {K : Type 0} (number : K → ℤ) (entries : List Cell) where
   named-keys (key ∷ keys) = ap₂ (λ cell cells. cell ∷ cells) (named-at key) (named-keys keys)
 
 -- keys and their mask, as they are handed on
-module _ {T : Type 0} (keys list : List T) (mask : List Bool) (found : Option (List Bool)) (same : list ≡ keys) (there : found ≡ found_mask mask) (own : IsMaskFor keys mask) where
-  pub handed : masked list found ≡ marked keys mask
-  handed = ap₂ masked same there ∙ array_items keys mask own
+module _ {T : Type 0} (keys : List T) (mask : List Bool) (found : Option (List Bool)) (there : found ≡ found_mask mask) (own : IsMaskFor keys mask) where
+  pub handed : masked keys found ≡ marked keys mask
+  handed = ap (masked keys) there ∙ array_items keys mask own
 
-  pub handed-fits : FitsMask list found
+  pub handed-fits : FitsMask keys found
   handed-fits =
-      let P : List T → Type 0 = λ all. FitsMask all found in
       let Q : Option (List Bool) → Type 0 = FitsMask keys in
-      subst P (sym same) (subst Q (sym there) (mask-fits keys mask own))
+      subst Q (sym there) (mask-fits keys mask own)

@@ -32,5 +32,5 @@ pub(crate) fn array_of<K: StoredKey>(
 {
     let DecodedKeys { keys, validity } = chunk;
     let mask = freeze_mask(validity);
-    DictionaryArray::of_keys(alloc, data_type, keys.as_slice(), mask, entries)
+    DictionaryArray::of_keys(alloc, data_type, keys, mask, entries)
 }

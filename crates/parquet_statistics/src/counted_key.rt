@@ -1,8 +1,8 @@
 //! The types of keys, as keys are counted.
-ghost use Rattle.std.specs.Prelude.{◌≡◌, ◌<◌, ◌≤◌, pos, IfNone, IfSome, IsTrue};
+ghost use Rattle.std.specs.Prelude.{◌≡◌, ◌<◌, ◌≤◌, pos, IfNone, IfSome};
 ghost use Rattle.parquet_statistics.specs.Made.{most_keys};
 
-use columns_core::{DataType, DictionaryKey};
+use columns_core::DictionaryKey;
 
 /// A type of keys that are counted from 0 on.
 pub(crate) trait CountedKey: DictionaryKey {
@@ -11,19 +11,11 @@ pub(crate) trait CountedKey: DictionaryKey {
         ensures key { IfSome result (λ key. Self.number key ≡ pos place) }
         ensures within { IfSome result (λ key. place ≤ most_keys Self.key_type) }
         ensures past { IfNone result (most_keys Self.key_type < place) };
-
-    /// The type of an array of such keys.
-    fn data_type() -> DataType
-        ensures { IsTrue (Self.stores result) };
 }
 
 impl CountedKey for i8 {
     fn from_place(place: usize) -> Option<i8> {
         i8::try_from(place).ok()
-    }
-
-    fn data_type() -> DataType {
-        DataType::Int8
     }
 }
 
@@ -31,19 +23,11 @@ impl CountedKey for i16 {
     fn from_place(place: usize) -> Option<i16> {
         i16::try_from(place).ok()
     }
-
-    fn data_type() -> DataType {
-        DataType::Int16
-    }
 }
 
 impl CountedKey for i32 {
     fn from_place(place: usize) -> Option<i32> {
         i32::try_from(place).ok()
-    }
-
-    fn data_type() -> DataType {
-        DataType::Int32
     }
 }
 
@@ -51,19 +35,11 @@ impl CountedKey for i64 {
     fn from_place(place: usize) -> Option<i64> {
         i64::try_from(place).ok()
     }
-
-    fn data_type() -> DataType {
-        DataType::Int64
-    }
 }
 
 impl CountedKey for u8 {
     fn from_place(place: usize) -> Option<u8> {
         u8::try_from(place).ok()
-    }
-
-    fn data_type() -> DataType {
-        DataType::UInt8
     }
 }
 
@@ -71,28 +47,16 @@ impl CountedKey for u16 {
     fn from_place(place: usize) -> Option<u16> {
         u16::try_from(place).ok()
     }
-
-    fn data_type() -> DataType {
-        DataType::UInt16
-    }
 }
 
 impl CountedKey for u32 {
     fn from_place(place: usize) -> Option<u32> {
         u32::try_from(place).ok()
     }
-
-    fn data_type() -> DataType {
-        DataType::UInt32
-    }
 }
 
 impl CountedKey for u64 {
     fn from_place(place: usize) -> Option<u64> {
         Some(place as u64)
-    }
-
-    fn data_type() -> DataType {
-        DataType::UInt64
     }
 }

@@ -1,13 +1,10 @@
 use Rattle.std.proofs.Common.{◌≡◌, subst}
-use Rattle.std.specs.Prelude.{◌⊎◌, IsTrue, List, ℕ, Option, Bool, Some}
+use Rattle.std.specs.Prelude.{◌⊎◌, IsTrue, Some}
 use Rattle.columns_core.specs.Causes.{OutOfSpec, cause_of, is_invalid_argument}
 use Rattle.columns_core.specs.Stored.{is_sized_text}
 use Rattle.columns_core.specs.Joined.{FitTogether, AreTexts}
+use Rattle.columns_core.proofs.OwnedLemmas.{owned}
 use Rattle.columns_core.proofs.utf8.Utf8Array.try_new.Goals as goal
-
--- a fact of bytes and a mask that are borrowed holds of those that are owned
-owned : (Fact : List ℕ → Option (List Bool) → Type 0) {lent bytes : List ℕ} {seen mask : Option (List Bool)} → lent ≡ bytes → seen ≡ mask → Fact lent seen → Fact bytes mask
-owned Fact {lent} {bytes} {seen} {mask} values marks fact = subst (λ m. Fact bytes m) marks (subst (λ list. Fact list seen) values fact)
 
 pub returns-in-Err-clause-err : goal.returns-in-Err-clause-err
 returns-in-Err-clause-err g c =
