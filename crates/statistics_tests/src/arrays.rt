@@ -127,7 +127,7 @@ fn a_list_of_large_lists(rt: HostRuntime) -> Result<(), Fail> {
 }
 
 fn is_misfit(made: Result<Array, Error>) -> bool {
-    matches!(made, Err(Error::InvalidArgumentError(_)))
+    matches!(made.err(), Some(Error::InvalidArgumentError(_)))
 }
 
 #[test]
@@ -177,6 +177,6 @@ fn keys_of_eight_bits_name_127_entries(rt: HostRuntime) -> Result<(), Fail> {
 
 #[test]
 fn keys_of_eight_bits_name_no_128_entries(rt: HostRuntime) -> Result<(), Fail> {
-    assert!(rt; matches!(counted(rt.alloc(), 128)?, Err(Error::Overflow)));
+    assert!(rt; matches!(counted(rt.alloc(), 128)?.err(), Some(Error::Overflow)));
     Ok(())
 }
