@@ -2,7 +2,7 @@
 
 ghost use Rattle.std.specs.Prelude.{◌≡◌, ◌↔◌, IsTrue};
 
-use crate::{Cell, DataType, Field, IntegerType, Name, Schema, TimeUnit};
+use crate::{Cell, DataType, Field, IntegerType, IntervalUnit, Name, Schema, TimeUnit};
 
 impl PartialEq for DataType {
     ghost use Rattle.columns_core.specs.Equal.{is_same};
@@ -77,33 +77,17 @@ pub(crate) fn is_same_type(a: &DataType, b: &DataType) -> bool
         DataType::UInt64 => matches!(b, DataType::UInt64),
         DataType::Date32 => matches!(b, DataType::Date32),
         DataType::Date64 => matches!(b, DataType::Date64),
-        // Values are compared in a match of their own: a test inside `matches!` takes longer to prove.
-        DataType::Time32(unit) => match b {
-            DataType::Time32(other) => unit == other,
-            _ => false,
-        },
-        DataType::Time64(unit) => match b {
-            DataType::Time64(other) => unit == other,
-            _ => false,
-        },
-        DataType::Duration(unit) => match b {
-            DataType::Duration(other) => unit == other,
-            _ => false,
-        },
+        DataType::Time32(unit) => is_time32(*unit, b),
+        DataType::Time64(unit) => is_time64(*unit, b),
+        DataType::Duration(unit) => is_duration(*unit, b),
         DataType::Timestamp(unit, zone) => is_timestamp(*unit, zone, b),
-        DataType::Interval(unit) => match b {
-            DataType::Interval(other) => unit == other,
-            _ => false,
-        },
+        DataType::Interval(unit) => is_interval(*unit, b),
         DataType::Decimal(precision, scale) => is_decimal(*precision, *scale, b),
         DataType::Utf8 => matches!(b, DataType::Utf8),
         DataType::LargeUtf8 => matches!(b, DataType::LargeUtf8),
         DataType::Binary => matches!(b, DataType::Binary),
         DataType::LargeBinary => matches!(b, DataType::LargeBinary),
-        DataType::FixedSizeBinary(size) => match b {
-            DataType::FixedSizeBinary(other) => size == other,
-            _ => false,
-        },
+        DataType::FixedSizeBinary(size) => is_fixed_size(*size, b),
         DataType::Dictionary(key, value, is_ordered) => {
             is_dictionary(value.get(), *key, *is_ordered, b)
         }
@@ -111,6 +95,52 @@ pub(crate) fn is_same_type(a: &DataType, b: &DataType) -> bool
         DataType::LargeList(field) => is_large_list(field.get(), b),
         DataType::Struct(fields) => is_struct(fields.as_slice(), b),
         DataType::Map(field, is_sorted) => is_map(field.get(), *is_sorted, b),
+    }
+}
+
+// Values are compared in a match of their own: a test inside `matches!` takes longer to prove.
+fn is_time32(unit: TimeUnit, data_type: &DataType) -> bool
+    ensures { IsTrue result ↔ (DataType.Time32 unit ≡ data_type.now) }
+{
+    match data_type {
+        DataType::Time32(other) => unit == *other,
+        _ => false,
+    }
+}
+
+fn is_time64(unit: TimeUnit, data_type: &DataType) -> bool
+    ensures { IsTrue result ↔ (DataType.Time64 unit ≡ data_type.now) }
+{
+    match data_type {
+        DataType::Time64(other) => unit == *other,
+        _ => false,
+    }
+}
+
+fn is_duration(unit: TimeUnit, data_type: &DataType) -> bool
+    ensures { IsTrue result ↔ (DataType.Duration unit ≡ data_type.now) }
+{
+    match data_type {
+        DataType::Duration(other) => unit == *other,
+        _ => false,
+    }
+}
+
+fn is_interval(unit: IntervalUnit, data_type: &DataType) -> bool
+    ensures { IsTrue result ↔ (DataType.Interval unit ≡ data_type.now) }
+{
+    match data_type {
+        DataType::Interval(other) => unit == *other,
+        _ => false,
+    }
+}
+
+fn is_fixed_size(size: usize, data_type: &DataType) -> bool
+    ensures { IsTrue result ↔ (DataType.FixedSizeBinary size ≡ data_type.now) }
+{
+    match data_type {
+        DataType::FixedSizeBinary(other) => size == *other,
+        _ => false,
     }
 }
 

@@ -101,26 +101,26 @@ is_same_type-returns-in-LargeBinary-matches t c = both c.in-LargeBinary.is c.in-
 pub is_same_type-returns-in_default-matches-15 : goal.is_same_type-returns-in_default-matches-15
 is_same_type-returns-in_default-matches-15 t c = one_alone c.in-LargeBinary.is c.in_default-matches-15.not-LargeBinary
 
-pub is_same_type-returns-in_default-b : goal.is_same_type-returns-in_default-b
-is_same_type-returns-in_default-b t c = one_alone c.in-Time32.is (c.in_default-b.not-Time32 _)
-
-pub is_same_type-returns-in_default-b-2 : goal.is_same_type-returns-in_default-b-2
-is_same_type-returns-in_default-b-2 t c = one_alone c.in-Time64.is (c.in_default-b-2.not-Time64 _)
-
-pub is_same_type-returns-in_default-b-3 : goal.is_same_type-returns-in_default-b-3
-is_same_type-returns-in_default-b-3 t c = one_alone c.in-Duration.is (c.in_default-b-3.not-Duration _)
-
-pub is_same_type-returns-in_default-b-4 : goal.is_same_type-returns-in_default-b-4
-is_same_type-returns-in_default-b-4 t c = one_alone c.in-Interval.is (c.in_default-b-4.not-Interval _)
-
-pub is_same_type-returns-in_default-b-5 : goal.is_same_type-returns-in_default-b-5
-is_same_type-returns-in_default-b-5 t c = one_alone c.in-FixedSizeBinary.is (c.in_default-b-5.not-FixedSizeBinary _)
-
 pub is_same_type-returns-in-Timestamp : goal.is_same_type-returns-in-Timestamp
 is_same_type-returns-in-Timestamp t c = as_it_is c.in-Timestamp.is c.is_timestamp.ensures
 
 pub is_same_type-returns-in-Decimal : goal.is_same_type-returns-in-Decimal
 is_same_type-returns-in-Decimal t c = as_it_is c.in-Decimal.is c.is_decimal.ensures
+
+pub is_same_type-returns-in-Time32 : goal.is_same_type-returns-in-Time32
+is_same_type-returns-in-Time32 t c = as_it_is c.in-Time32.is c.is_time32.ensures
+
+pub is_same_type-returns-in-Time64 : goal.is_same_type-returns-in-Time64
+is_same_type-returns-in-Time64 t c = as_it_is c.in-Time64.is c.is_time64.ensures
+
+pub is_same_type-returns-in-Duration : goal.is_same_type-returns-in-Duration
+is_same_type-returns-in-Duration t c = as_it_is c.in-Duration.is c.is_duration.ensures
+
+pub is_same_type-returns-in-Interval : goal.is_same_type-returns-in-Interval
+is_same_type-returns-in-Interval t c = as_it_is c.in-Interval.is c.is_interval.ensures
+
+pub is_same_type-returns-in-FixedSizeBinary : goal.is_same_type-returns-in-FixedSizeBinary
+is_same_type-returns-in-FixedSizeBinary t c = as_it_is c.in-FixedSizeBinary.is c.is_fixed_size.ensures
 
 pub is_dictionary-returns-in_default : goal.is_dictionary-returns-in_default
 is_dictionary-returns-in_default t c = not_it (c.in_default.not-Dictionary _ _ _)
@@ -178,21 +178,6 @@ is_same_fields-loop-one-preserved t c = grind (arith, common_steps)
 
 pub is_same_fields-returns : goal.is_same_fields-returns
 is_same_fields-returns t c = grind (arith, common_steps)
-
-pub is_same_type-returns-in-Time32-b : goal.is_same_type-returns-in-Time32-b
-is_same_type-returns-in-Time32-b t c = grind (arith, common_steps)
-
-pub is_same_type-returns-in-Time64-b : goal.is_same_type-returns-in-Time64-b
-is_same_type-returns-in-Time64-b t c = grind (arith, common_steps)
-
-pub is_same_type-returns-in-Duration-b : goal.is_same_type-returns-in-Duration-b
-is_same_type-returns-in-Duration-b t c = grind (arith, common_steps)
-
-pub is_same_type-returns-in-Interval-b : goal.is_same_type-returns-in-Interval-b
-is_same_type-returns-in-Interval-b t c = grind (arith, common_steps)
-
-pub is_same_type-returns-in-FixedSizeBinary-b : goal.is_same_type-returns-in-FixedSizeBinary-b
-is_same_type-returns-in-FixedSizeBinary-b t c = grind (arith, common_steps)
 
 pub is_same_type-returns-in-Dictionary : goal.is_same_type-returns-in-Dictionary
 is_same_type-returns-in-Dictionary t c = grind (arith, common_steps)
