@@ -146,7 +146,8 @@ fn greatest(keys: &[u32]) -> u32
     most
 }
 
-fn slice_has_past(keys: &[u32], entries: usize) -> bool
+/// Whether some key is past so many entries.
+pub fn slice_has_past(keys: &[u32], entries: usize) -> bool
     ensures { result ≡ has_key_past entries keys.now }
 {
     !keys.is_empty() && greatest(keys) as usize >= entries
