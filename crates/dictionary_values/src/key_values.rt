@@ -1,5 +1,5 @@
 //! Keys that are appended to decoded keys.
-ghost use Rattle.std.specs.Prelude.{◌≡◌, ◌<◌, ◌≤◌, Some, None, refl, pos, drop, map, take, IfErr, IfNone, IfOk, IfSome, OnOk};
+ghost use Rattle.std.specs.Prelude.{◌≡◌, ◌<◌, ◌≤◌, Some, None, refl, pos, drop, map, take, IfErr, IfOk, OnOk};
 ghost use Rattle.std.specs.Option.{option_copied};
 ghost use Rattle.columns_core.specs.Array.{cells};
 ghost use Rattle.columns_core.specs.declared.cell.Cell.{Int};
@@ -14,7 +14,7 @@ ghost use Rattle.dictionary_values.specs.KeysGiven.{key_limit, keys_given, numbe
 
 use crate::StoredKey;
 use columns_core::{Array, Error, MutableBitmap, Part};
-use flat_values::{KeyPlace, Values, mark_nulls, mark_values};
+use flat_values::{KeyPlace, Values, mark_nulls, mark_values, slice_has_past};
 use page_decoding::DecodedState;
 use std::alloc::Global;
 use std::marker::PhantomData;
@@ -48,17 +48,13 @@ fn limit_of<K: StoredKey>(entries: Option<&Array>) -> usize
     }
 }
 
-/// The key of a number below the limit.
-fn key_below<K: StoredKey>(number: u32, limit: usize) -> Option<K>
-    requires { limit ≤ K.key_count }
-    ensures key { IfSome result (λ key. K.number key ≡ pos number) }
-    ensures below { IfSome result (λ _. number < limit) }
-    ensures past { IfNone result (limit ≤ number) }
+/// The key of a number that the type has.
+fn key_of<K: StoredKey>(number: u32) -> K
+    ensures { number < K.key_count → K.number result ≡ pos number }
 {
-    if (number as usize) < limit {
-        K::from_number(number)
-    } else {
-        None
+    match K::from_number(number) {
+        Some(key) => key,
+        None => K::default(),
     }
 }
 
@@ -70,12 +66,10 @@ fn extend_keys<K: StoredKey>(found: &mut Vec<K>, limit: usize, numbers: &[u32]) 
     ensures cause { let rows = map (entry_outcome (Some (numbers_below limit))) numbers.now in
         IfErr result (IsCausedBy rows) }
 {
-    for number in numbers {
-        let Some(key) = key_below::<K>(*number, limit) else {
-            return Err(Error::OutOfSpec(Part::Dictionary));
-        };
-        found.push(key)?;
+    if slice_has_past(numbers, limit) {
+        return Err(Error::OutOfSpec(Part::Dictionary));
     }
+    found.extend(numbers.iter().map(|number| key_of::<K>(*number)))?;
     Ok(())
 }
 

@@ -1,25 +1,27 @@
-use Rattle.std.proofs.Common.{[], ◌∷◌, ◌∙◌, Some, ap, arith, get_or, refl, sym}
-use Rattle.columns_core.specs.Causes.{OutOfSpec}
+use Rattle.std.proofs.Common.{◌∙◌, OnOk, Some, map, pos, refl, rules, subst, sym, ℕ, ℤ}
+use Rattle.std.proofs.lemmas.Iterator.{YieldsList-from_slice}
+use Rattle.std.proofs.lemmas.Iterator.Consumers.{YieldsList-at}
 use Rattle.columns_core.specs.declared.cell.Cell.{Int}
 use Rattle.columns_core.specs.declared.error.Error.TheVariants as errors
 use Rattle.columns_core.specs.declared.error.Part.TheVariants.{Dictionary}
-use Rattle.page_decoding.specs.Outcome.{Given}
+use Rattle.flat_values.specs.Added.{Adds}
 use Rattle.flat_values.specs.Outcomes.{entry_outcome}
-use Rattle.flat_values.proofs.AddedLemmas.{one_more, refused_at}
 use Rattle.dictionary_values.specs.KeysGiven.{numbers_below}
-use Rattle.dictionary_values.proofs.KeyLemmas.{below-given, past-refused}
+use Rattle.dictionary_values.proofs.KeyLemmas.{extended_below, keys_added, past_numbers_refused}
 use Rattle.dictionary_values.proofs.key_values.extend_keys.Goals as goal
 
-pub returns-in_default-clause-cause : goal.returns-in_default-clause-cause
-returns-in_default-clause-cause g c =
-    let i = c.loop-number.number-index in
-    let number = get_or c.args.numbers.now i 0 in
-    refused_at (entry_outcome (Some (numbers_below c.args.limit))) c.args.numbers.now i 0 number (OutOfSpec ∷ []) (errors.OutOfSpec Dictionary) c.loop-number-test.true refl (past-refused c.args.limit number c.in_default.ensures.past) (0, omega arith, refl)
+pub returns-then-slice_has_past-clause-cause : goal.returns-then-slice_has_past-clause-cause
+returns-then-slice_has_past-clause-cause g c =
+    past_numbers_refused c.args.limit c.args.numbers.now (errors.OutOfSpec Dictionary) refl (sym c.slice_has_past.ensures ∙ c.if-slice_has_past.true)
 
-pub loop-number-preserved : goal.loop-number-preserved
-loop-number-preserved g c =
-    let i = c.loop-number.number-index in
-    let number = get_or c.args.numbers.now i 0 in
-    let key = c.in-Some.key in
-    one_more (λ key. Int (g.K.DictionaryKey.number key)) (entry_outcome (Some (numbers_below c.args.limit))) c.args.found.now.items c.loop-number.found.items c.push.new.self.items c.args.numbers.now i 0 key c.loop-number.invariant c.loop-number-test.true c.in_ok-push.ensures.items
-    (ap (λ n. Given (Int n)) c.in-Some.ensures.key ∙ sym (below-given c.args.limit number c.in-Some.ensures.below))
+pub returns-clause-added : goal.returns-clause-added
+returns-clause-added g c =
+    let number = g.K.DictionaryKey.number in
+    let numbered : ℕ → ℤ = λ key. pos key in
+    let limit = c.args.limit in
+    let none = sym c.slice_has_past.ensures ∙ c.if-slice_has_past.false in
+    let rows = map (entry_outcome (Some (numbers_below limit))) c.args.numbers.now in
+    subst (λ result. OnOk result (Adds (λ key. Int (number key)) c.args.found.now.items c.extend.new.self.items rows)) c.in_ok-extend.was
+    (extended_below number numbered limit c.extend.result c.extend.ensures.ran (YieldsList-at c.map.ensures.source (YieldsList-from_slice c.args.numbers.now c.iter.ensures.rest)) c.map.ensures.closure none
+    (λ x result q below k. search (rules, below))
+    (λ xs e h. keys_added number c.args.found.now.items c.extend.new.self.items xs limit c.args.numbers.now h.0 e none))
