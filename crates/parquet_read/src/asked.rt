@@ -4,14 +4,13 @@ ghost use Rattle.std.specs.List.{list_all};
 ghost use Rattle.columns_core.specs.Causes.{ComesOf, IsWantOfMemory, is_invalid_argument};
 ghost use Rattle.parquet_meta.specs.Indexes.{field_columns};
 ghost use Rattle.parquet_page.specs.Lent.{are_well_shaped as are_well_shaped_by};
-ghost use Rattle.flat_binary.specs.Paged.{is_null_type};
 ghost use Rattle.parquet_read.specs.Asked as spec;
 ghost use Rattle.parquet_read.specs.Opening.{lone as lone_of};
 
 use crate::columns::is_here;
-use crate::deserializer::to_deserializer;
+use crate::deserializer::{is_null, lone, to_deserializer};
 use crate::selected::{are_in_range, are_well_shaped, pages_within};
-use columns_core::{DataType, Error, Field, Part, Seq};
+use columns_core::{Error, Field, Part, Seq};
 use parquet_meta::{ColumnChunkMetaData, RowGroupMetaData, get_field_columns};
 use parquet_page::FilteredPage;
 use std::alloc::{AllocError, Global};
@@ -176,15 +175,6 @@ fn pages_of(
     Some(Seq::new(pages_within(alloc, limit, pages)))
 }
 
-/// The item of a list that has one.
-fn lone<T: Drop>(items: Vec<T>) -> Option<T>
-    ensures { result ≡ lone_of items.items }
-{
-    let mut items = items;
-    let last = items.pop();
-    if items.is_empty() { last } else { None }
-}
-
 /// Refuses what the metadata refuse of these fields.
 pub(crate) fn check_fields(
     alloc: Global,
@@ -208,7 +198,7 @@ fn check_field(alloc: Global, group: &RowGroupMetaData, asked: &AskedField) -> R
     ensures cause { let reading = spec.group_reading group.now None None in
         ComesOf result (spec.asked_causes reading asked.now) }
 {
-    let Some(column) = only_column(alloc, group, &asked.0)? else {
+    let Some(column) = lone_column(alloc, group, &asked.0)? else {
         return Err(Error::NotYetImplemented(Part::Schema));
     };
     check_form(alloc, column, &asked.0)?;
@@ -219,7 +209,7 @@ fn check_field(alloc: Global, group: &RowGroupMetaData, asked: &AskedField) -> R
 }
 
 /// The only column of a field, if it has one.
-pub(crate) fn only_column<'a>(
+pub(crate) fn lone_column<'a>(
     alloc: Global,
     group: &'a RowGroupMetaData,
     field: &Field,
@@ -273,10 +263,4 @@ fn check_range(
         return Ok(());
     }
     Err(Error::ExternalFormat(Part::Location))
-}
-
-pub(crate) fn is_null(data_type: &DataType) -> bool
-    ensures { result ≡ is_null_type data_type.now }
-{
-    matches!(data_type, DataType::Null)
 }

@@ -35,8 +35,8 @@ pub fn to_deserializer(
         (spec.field_left field.data_type chunk_size num_rows lists chunks) result }
 {
     check_request(columns.len(), chunk_size, &pages)?;
-    let chunk = only(columns).ok_or(Error::NotYetImplemented(Part::Schema))?;
-    let pages = only_list(pages);
+    let chunk = lone(columns).ok_or(Error::NotYetImplemented(Part::Schema))?;
+    let pages = lone_list(pages);
     open_chunk(
         alloc,
         chunk.0,
@@ -70,14 +70,14 @@ fn check_request(
 }
 
 /// The located pages of the only column, where they are told.
-fn only_list(pages: Option<Vec<Vec<FilteredPage>>>) -> Option<Vec<FilteredPage>>
+fn lone_list(pages: Option<Vec<Vec<FilteredPage>>>) -> Option<Vec<FilteredPage>>
     ensures { result ≡ option_and_then (λ all. spec.lone all.items) pages }
 {
-    only(pages?)
+    lone(pages?)
 }
 
 /// The item of a list that has one.
-fn only<T: Drop>(items: Vec<T>) -> Option<T>
+pub(crate) fn lone<T: Drop>(items: Vec<T>) -> Option<T>
     ensures { result ≡ spec.lone items.items }
 {
     let mut items = items;
@@ -128,7 +128,7 @@ fn check_column(column: &ColumnChunkMetaData) -> Result<(), Error>
     Ok(())
 }
 
-fn is_null(data_type: &DataType) -> bool
+pub(crate) fn is_null(data_type: &DataType) -> bool
     ensures { result ≡ is_null_type data_type.now }
 {
     matches!(data_type, DataType::Null)
@@ -167,9 +167,9 @@ fn open_whole(
     Ok(ColumnPages::Whole(PageReader::new(alloc, bytes, column)?))
 }
 
-/// A chunk has no more rows than its group, but at least one.
-fn size_within(num_rows: usize, chunk_size: Option<usize>) -> Option<usize>
-    ensures { result ≡ spec.size_within num_rows chunk_size }
+/// A chunk size of at most so many rows, but at least one.
+pub(crate) fn size_within(rows: usize, chunk_size: Option<usize>) -> Option<usize>
+    ensures { result ≡ spec.size_within rows chunk_size }
 {
-    chunk_size.map(|size| size.min(num_rows.max(1)))
+    chunk_size.map(|size| size.min(rows.max(1)))
 }

@@ -16,8 +16,8 @@ ghost use Rattle.parquet_read.specs.RowGroup.{iter_left};
 ghost use Rattle.parquet_read.specs.Rows.{limited};
 
 use crate::ColumnPages;
-use crate::asked::{AskedField, is_null, only_column};
-use crate::deserializer::to_deserializer;
+use crate::asked::{AskedField, lone_column};
+use crate::deserializer::{is_null, to_deserializer};
 use crate::parts::open_parts;
 use crate::selected::selected_rows;
 use column_arrays::ArrayIter;
@@ -77,7 +77,7 @@ fn open_field<S: Source>(
         S.taken source.new ≤ S.taken source.old + spec.asked_length reading asked }
 {
     let (field, pages) = asked;
-    let Some(column) = only_column(alloc, group, &field)? else {
+    let Some(column) = lone_column(alloc, group, &field)? else {
         return Err(Error::NotYetImplemented(Part::Schema));
     };
     let rows = rows_asked(group, limit, &pages);

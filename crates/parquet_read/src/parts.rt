@@ -1,5 +1,5 @@
 //! The arrays of a column of which only the parts are read that are needed.
-ghost use Rattle.std.specs.Prelude.{◌≡◌, ◌+◌, ◌≤◌, ◌<◌, [], Some, List, ℕ, true, map, filter, length, sum_by, IfOk, IfErr, IfSome, OnOk, Option};
+ghost use Rattle.std.specs.Prelude.{◌≡◌, ◌+◌, ◌≤◌, [], Some, List, ℕ, true, map, filter, length, sum_by, IfOk, IfErr, IfSome, OnOk, Option};
 ghost use Rattle.columns_core.specs.Causes.{IsWantOfMemory};
 ghost use Rattle.parquet_meta.specs.Chunks.{chunk_range};
 ghost use Rattle.parquet_meta.specs.Keeps.{Keeps};
@@ -12,10 +12,11 @@ ghost use Rattle.parquet_page.specs.declared.page.FilteredPage.{FilteredPage as 
 ghost use Rattle.page_decoding.specs.Queue.{IsChunkSize};
 ghost use Rattle.parquet_read.specs.Asked as spec;
 ghost use Rattle.parquet_read.specs.ColumnPages.{column_pages};
-ghost use Rattle.parquet_read.specs.Opening.{chunk_supply, opened_left, opened_supply, placed_in as placed_in_by, size_within as size_within_by, type_causes};
+ghost use Rattle.parquet_read.specs.Opening.{chunk_supply, opened_left, opened_supply, placed_in as placed_in_by, type_causes};
 ghost use Rattle.parquet_read.specs.RowGroup.{iter_left};
 
 use crate::ColumnPages;
+use crate::deserializer::size_within;
 use crate::locations::{counted_from, is_wanted};
 use crate::selected::first_start;
 use column_arrays::{ArrayIter, page_iter_to_arrays};
@@ -156,11 +157,4 @@ fn open_pages(
         size_within(rows, chunk_size),
         rows,
     )
-}
-
-/// A chunk has no more rows than are asked for, but at least one.
-fn size_within(rows: usize, chunk_size: Option<usize>) -> Option<usize>
-    ensures { result ≡ size_within_by rows chunk_size }
-{
-    chunk_size.map(|size| size.min(rows.max(1)))
 }

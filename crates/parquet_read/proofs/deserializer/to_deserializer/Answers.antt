@@ -51,9 +51,9 @@ returns-in_err-chunk c =
     let lists = option_map shown c.args.pages in
     let e = c.in_err-chunk.field-0.0 in
     let none : lone (map bytes_of columns) ≡ None =
-    lone-map bytes_of columns ∙ ap (λ (o : Option Held). option_map bytes_of o) (sym c.only.ensures ∙ c.in_err-chunk.ensures.ok_part) in
+    lone-map bytes_of columns ∙ ap (λ (o : Option Held). option_map bytes_of o) (sym c.lone.ensures ∙ c.in_err-chunk.ensures.ok_part) in
     let cause : cause_of e ≡ Some NotYetImplemented =
-    not_one c.only.result e (error.NotYetImplemented part.Schema) c.in_err-chunk.ensures.ok_part c.in_err-chunk.ensures.value refl in
+    not_one c.lone.result e (error.NotYetImplemented part.Schema) c.in_err-chunk.ensures.ok_part c.in_err-chunk.ensures.value refl in
     rw (p.1, p.2) (none_lone iter_left c.args.field.data_type c.args.chunk_size c.args.num_rows lists (map bytes_of columns) e none cause)
 
 pub returns : goal.returns
@@ -62,7 +62,7 @@ returns c =
     let chunks = map bytes_of columns in
     let held = c.in_ok-chunk.chunk in
     let chunk = bytes_of held in
-    let own : lone columns ≡ Some held = sym c.only.ensures ∙ c.in_ok-chunk.ensures.ok_part in
+    let own : lone columns ≡ Some held = sym c.lone.ensures ∙ c.in_ok-chunk.ensures.ok_part in
     let one = lone-map bytes_of columns ∙ ap (λ (o : Option Held). option_map bytes_of o) own in
     let count : c.len.result ≡ length columns = omega (arith, c.len.ensures) in
     let same = count ∙ sym (length-map columns bytes_of) in
@@ -73,4 +73,4 @@ returns c =
     let lists = option_map shown c.args.pages in
     one_opens iter_left data_type size rows lists chunks chunk c.open_chunk.result one asked.0 (paired_shown c.args.pages c.len.result (length chunks) same asked.1)
     (subst (λ (entries : Option (List FilteredPage)). OpensAsked (AreShaped entries) (chunk_causes_for data_type entries chunk) iter_left (opened_left data_type size rows entries chunk) c.open_chunk.result)
-    (own_list c.args.pages c.only_list-pages.result c.only_list-pages.ensures) c.open_chunk.ensures)
+    (own_list c.args.pages c.lone_list-pages.result c.lone_list-pages.ensures) c.open_chunk.ensures)
