@@ -9,7 +9,7 @@ use std::test::*;
 /// A bound, an item, and whether it meets the bound.
 type Met<'a> = (Ends<'a>, Option<Value<'a>>, bool);
 
-const MET: [Met<'static>; 29] = [
+static MET: [Met<'static>; 29] = [
     // A null meets no bound.
     (Open, None, false),
     (Between(Number(10), Number(20)), None, false),
@@ -48,7 +48,7 @@ const MET: [Met<'static>; 29] = [
 /// What is known of so many rows: their ends, and how many of them are null; then a bound, and whether one of the rows may meet it.
 type Kept<'a> = (Ends<'a>, Option<u64>, u64, Ends<'a>, bool);
 
-const KEPT: [Kept<'static>; 45] = [
+static KEPT: [Kept<'static>; 45] = [
     // Ends of both are known: only those that lie apart rule rows out.
     (
         Between(Number(10), Number(20)),
@@ -208,10 +208,20 @@ fn is_kept(
     Ok(keeps(known.low.as_ref(), known.high.as_ref(), nulls, rows, &bound))
 }
 
-#[test]
-fn items_that_meet_a_bound(rt: HostRuntime) -> Result<(), Fail> {
-    for (row, (ends, item, answer)) in MET.iter().enumerate() {
-        if is_met(rt.alloc(), *ends, *item)? != *answer {
+/// Fails at the first row of the table that is answered otherwise.
+fn check_met(alloc: Global, rows: &[Met<'_>]) -> Result<(), Fail> {
+    for (row, (ends, item, answer)) in rows.iter().enumerate() {
+        if is_met(alloc, *ends, *item)? != *answer {
+            return Err(Fail::new(format_args!("row {row} is answered otherwise")));
+        }
+    }
+    Ok(())
+}
+
+/// The same of the table of rows that are kept.
+fn check_kept(alloc: Global, rows: &[Kept<'_>]) -> Result<(), Fail> {
+    for (row, (known, nulls, count, asked, answer)) in rows.iter().enumerate() {
+        if is_kept(alloc, *known, *nulls, *count, *asked)? != *answer {
             return Err(Fail::new(format_args!("row {row} is answered otherwise")));
         }
     }
@@ -219,11 +229,11 @@ fn items_that_meet_a_bound(rt: HostRuntime) -> Result<(), Fail> {
 }
 
 #[test]
+fn items_that_meet_a_bound(rt: HostRuntime) -> Result<(), Fail> {
+    check_met(rt.alloc(), &MET)
+}
+
+#[test]
 fn rows_that_a_bound_keeps(rt: HostRuntime) -> Result<(), Fail> {
-    for (row, (known, nulls, rows, asked, answer)) in KEPT.iter().enumerate() {
-        if is_kept(rt.alloc(), *known, *nulls, *rows, *asked)? != *answer {
-            return Err(Fail::new(format_args!("row {row} is answered otherwise")));
-        }
-    }
-    Ok(())
+    check_kept(rt.alloc(), &KEPT)
 }

@@ -28,7 +28,7 @@ const TEXTS: &[Asked<'static>] = &[("s", As::Texts, Open)];
 const TEXTS_FROM_A: &[Asked<'static>] = &[("s", As::Texts, From(Text("a")))];
 
 /// Of the first file, which has one page of five numbers in a column `a`.
-const OF_ONE_PAGE: [Refusal<'static>; 21] = [
+static OF_ONE_PAGE: [Refusal<'static>; 21] = [
     // The request has no field, one that names no column, one twice, and a bound of another type than its field.
     (&[], &[], Error::InvalidArgumentError(Part::Request)),
     (
@@ -98,7 +98,7 @@ const OF_ONE_PAGE: [Refusal<'static>; 21] = [
 ];
 
 /// Of the second, which has three located pages of three numbers each.
-const OF_THREE_PAGES: [Refusal<'static>; 15] = [
+static OF_THREE_PAGES: [Refusal<'static>; 15] = [
     // A chunk of 8151 bytes, which is read whole, and by the locations of its pages.
     (&[(212, 0x7f)], NUMBERS, Error::ExternalFormat(Part::Group)),
     (&[(212, 0x7f)], FROM_10, Error::ExternalFormat(Part::Group)),
@@ -156,7 +156,7 @@ const OF_THREE_PAGES: [Refusal<'static>; 15] = [
 ];
 
 /// Of the third, whose column `b` has nulls: levels that pass their page, a level of 6, and levels of an encoding that is not read.
-const OF_NULLS: [Refusal<'static>; 3] = [
+static OF_NULLS: [Refusal<'static>; 3] = [
     (
         &[(87, 0xff)],
         SPARSE_NUMBERS,
@@ -197,7 +197,7 @@ const ONE_TEXT: Chunk<'static> = Chunk {
     ..CHUNK
 };
 
-const GROUPS: [OfGroups<'static>; 7] = [
+static GROUPS: [OfGroups<'static>; 7] = [
     // Two columns of one name.
     (
         &[&[ONE_NUMBER, ONE_NUMBER]],
@@ -288,14 +288,18 @@ fn check_changes(alloc: Global, file: &[u8], refusals: &[Refusal<'_>]) -> Result
     Ok(())
 }
 
+fn check_groups(alloc: Global, refusals: &[OfGroups<'_>]) -> Result<(), Fail> {
+    for (groups, request, error) in refusals {
+        check(alloc, file_of(alloc, *groups)?, *request, *error)?;
+    }
+    Ok(())
+}
+
 #[test]
 fn parts_that_errors_name(rt: HostRuntime) -> Result<(), Fail> {
     let alloc = rt.alloc();
     check_changes(alloc, &F1, &OF_ONE_PAGE)?;
     check_changes(alloc, &F2, &OF_THREE_PAGES)?;
     check_changes(alloc, &F3, &OF_NULLS)?;
-    for (groups, request, error) in GROUPS {
-        check(alloc, file_of(alloc, groups)?, request, error)?;
-    }
-    Ok(())
+    check_groups(alloc, &GROUPS)
 }
