@@ -34,7 +34,7 @@ const PAIRS: Column = Column {
 
 /// Two groups of two pages of two numbers each, in each of these columns: the numbers 10, 11, 20, 21, and 30, 31, 40, 41. Times are so many
 /// seconds, byte strings two digits, and pairs two bytes.
-const ALL_COLUMNS: &[&[Chunk<'static>]] = &[
+static ALL_COLUMNS: &[&[Chunk<'static>]] = &[
     &[
         Chunk {
             column: NUMBERS,
@@ -183,7 +183,7 @@ const ALL_COLUMNS: &[&[Chunk<'static>]] = &[
 const KEPT: &[u8] = b"\x00group 0 4 2+2\ngroup 1 4 0+2\nchunk 2\n20\n21\nchunk 2\n30\n31\n";
 
 /// Types as which the columns are these numbers.
-const AS_NUMBERS: [&str; 20] = [
+static AS_NUMBERS: [&str; 20] = [
     "x a:Int8 a>=20 a<=31",
     "x a:Int16 a>=20 a<=31",
     "x a:Int32 a>=20 a<=31",
@@ -207,7 +207,7 @@ const AS_NUMBERS: [&str; 20] = [
 ];
 
 /// The same rows as other values, and groups that are left out whole.
-const AS_OTHERS: [(&str, &[u8]); 10] = [
+static AS_OTHERS: [(&str, &[u8]); 10] = [
     (
         "x a:Date64 a>=1728000000 a<=2678400000",
         b"\x00group 0 4 2+2\ngroup 1 4 0+2\nchunk 2\n1728000000\n1814400000\nchunk 2\n2592000000\n2678400000\n",
@@ -400,7 +400,7 @@ const OF_FAR_END: &[(&str, &[u8])] = &[
     ("x t:Timestamp(ms) t>=0", b"\x00group 0 1 0+1\nchunk 1\n1\n"),
 ];
 
-const FILES: [File<'static>; 11] = [
+static FILES: [File<'static>; 11] = [
     (TWO_PAGES, OF_TWO_PAGES),
     (AROUND_0, OF_NARROW),
     (NOTHING, OF_NOTHING),

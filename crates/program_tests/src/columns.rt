@@ -72,7 +72,7 @@ const EIGHT_ROWS: Rows = Rows {
 };
 
 /// Truth values, fixed bytes and byte strings.
-const BYTES: [(&str, &str); 10] = [
+static BYTES: [(&str, &str); 10] = [
     (
         "x truth:Boolean",
         "null true false true null false true true",
@@ -110,7 +110,7 @@ const BYTES: [(&str, &str); 10] = [
 ];
 
 /// Numbers of 32 bits. In `coded` all places of the first page are null.
-const NUMBERS: [(&str, &str); 15] = [
+static NUMBERS: [(&str, &str); 15] = [
     ("x number:Int32", "null 10 20 25 null 30 40 -1"),
     ("x number:Int8", "null 10 20 25 null 30 40 -1"),
     ("x number:Int16", "null 10 20 25 null 30 40 -1"),
@@ -135,7 +135,7 @@ const NUMBERS: [(&str, &str); 15] = [
 ];
 
 /// Numbers of 64 bits.
-const LONGS: [(&str, &str); 9] = [
+static LONGS: [(&str, &str); 9] = [
     ("x time:Int64", "null 1999 -1999 0 null 86400000 1 2"),
     ("x time:Date64", "null 1999 -1999 0 null 86400000 1 2"),
     ("x time:Time64(us)", "null 1999 -1999 0 null 86400000 1 2"),
@@ -154,7 +154,7 @@ const LONGS: [(&str, &str); 9] = [
 ];
 
 /// Times: `time` has milliseconds, and `old` the day and its nanoseconds.
-const TIMES: [(&str, &str); 4] = [
+static TIMES: [(&str, &str); 4] = [
     ("x time:Timestamp(s)", "null 1 -1 0 null 86400 0 0"),
     (
         "x time:Timestamp(ns)",
@@ -168,7 +168,7 @@ const TIMES: [(&str, &str); 4] = [
 ];
 
 /// Types that a column is not read as.
-const OTHERS: [&str; 8] = [
+static OTHERS: [&str; 8] = [
     "x name:Int32",
     "x name:Decimal(4,0)",
     "x name:FixedSizeBinary(1)",

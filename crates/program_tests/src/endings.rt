@@ -110,7 +110,7 @@ const OF_LONG_STRINGS: &[(&str, &[u8])] = &[
     ),
 ];
 
-const FILES: [File<'static>; 6] = [
+static FILES: [File<'static>; 6] = [
     (LAST, OF_LAST),
     (PAST, OUT_OF_RANGE),
     (FIRST, OF_FIRST),

@@ -192,7 +192,7 @@ const OF_EMPTY_PAGES: [(&str, &[u8]); 2] = [
     ),
 ];
 
-const FILES: [File<'static>; 6] = [
+static FILES: [File<'static>; 6] = [
     (THREE_GROUPS, &OF_THREE_GROUPS),
     (GREAT_BETWEEN, &OF_GREAT_BETWEEN),
     (FOREIGN_BETWEEN, &OF_FOREIGN_BETWEEN),

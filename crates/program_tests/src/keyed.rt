@@ -36,7 +36,7 @@ const PAIRS: Column = Column {
 
 /// The numbers 1, 2, 3 and 10, 11, 12 in two located pages, beside columns of keys: the numbers 5, null, 300 and null, -1, 5,
 /// the times 1000, -1, 1000 and -1, -1, 1000, the strings `qq`, `p`, `qq` and `p`, `p`, `qq`, and pairs of bytes.
-const SIX: &[&[Chunk<'static>]] = &[&[
+static SIX: &[&[Chunk<'static>]] = &[&[
     Chunk {
         pages: &[
             Page(3, Absent, Numbers(&[1, 2, 3])),
@@ -101,7 +101,7 @@ const SIX_ROWS: Rows = Rows {
 };
 
 /// Types of entries, and the cells of the six rows.
-const ENTRY_TYPES: [(&str, &str); 22] = [
+static ENTRY_TYPES: [(&str, &str); 22] = [
     ("x n:Dictionary(Int32,UInt8)", "5 null 44 null 255 5"),
     ("x n:Dictionary(Int32,UInt16)", "5 null 300 null 65535 5"),
     (
@@ -163,7 +163,7 @@ const ENTRY_TYPES: [(&str, &str); 22] = [
 ];
 
 /// Types of keys, and the cells.
-const KEY_TYPES: [(&str, &str); 24] = [
+static KEY_TYPES: [(&str, &str); 24] = [
     ("x n:Dictionary(Int8,Int32)", "5 null 300 null -1 5"),
     (
         "x s:Dictionary(Int8,Utf8)",
@@ -239,7 +239,7 @@ const KEY_TYPES: [(&str, &str); 24] = [
 ];
 
 /// Chunks, first rows and counts of pages. A column has a dictionary and two pages, of which the second holds the rows from 10 on.
-const IN_PARTS: [(&str, &[u8]); 5] = [
+static IN_PARTS: [(&str, &[u8]); 5] = [
     (
         "x s:Dictionary(UInt8,Utf8) n:Dictionary(Int64,Int16) --chunk 4 --limit 5",
         b"\x00group 0 6 0+6\nchunk 4\n\"qq\"\t5\n\"p\"\tnull\n\"qq\"\t300\n\"p\"\tnull\nchunk 1\n\"p\"\t-1\n",
@@ -263,7 +263,7 @@ const IN_PARTS: [(&str, &[u8]); 5] = [
 ];
 
 /// Types that entries of a column are not read as, though its values may be.
-const OTHER_ENTRIES: [&str; 12] = [
+static OTHER_ENTRIES: [&str; 12] = [
     "x n:Dictionary(Int32,Boolean)",
     "x n:Dictionary(Int32,Int64)",
     "x n:Dictionary(Int32,Date64)",
@@ -433,7 +433,7 @@ const OF_BOUNDS: &[(&str, &[u8])] = &[
     ),
 ];
 
-const FILES: [File<'static>; 9] = [
+static FILES: [File<'static>; 9] = [
     (KEY_256, OF_KEY_256),
     (KEYS_0_AND_256, OF_KEYS_0_AND_256),
     (KEY_127, OF_KEY_127),

@@ -14,7 +14,7 @@ const FROM_10: &str = "x a:Int32 a>=10";
 const ALL_ROWS: &[u8] = b"\x00group 0 5 0+5\nchunk 5\n10\n12\n15\n18\n20\n";
 
 /// Bytes of the first file, a file of one page.
-const LIES: [Lie<'static>; 25] = [
+static LIES: [Lie<'static>; 25] = [
     // The magic, and the length of the footer.
     (&[(123, 124, &[0x32])], BOTH_ENDS, &[5]),
     (
@@ -96,7 +96,7 @@ const LIES: [Lie<'static>; 25] = [
 ];
 
 /// Bytes of the second file, a file of three located pages of three rows each.
-const LIES_OF_LOCATIONS: [Lie<'static>; 5] = [
+static LIES_OF_LOCATIONS: [Lie<'static>; 5] = [
     // The second page is said to begin at row 2, and so to have 4 rows: that matters where it is opened.
     (&[(152, 153, &[0x04])], FROM_10, &[5]),
     (
@@ -111,7 +111,7 @@ const LIES_OF_LOCATIONS: [Lie<'static>; 5] = [
 ];
 
 /// Eleven bytes of a file.
-const TOO_SHORT: [Lie<'static>; 1] = [(&[(11, 40, &[])], "x a:Int32", &[5])];
+static TOO_SHORT: [Lie<'static>; 1] = [(&[(11, 40, &[])], "x a:Int32", &[5])];
 
 /// Numbers that may be null.
 const SPARSE: Column = Column {
@@ -238,7 +238,7 @@ const OF_LOCATED_PAIRS: &[(&str, &[u8])] = &[
 
 const OF_HALF_AN_ENTRY: &[(&str, &[u8])] = &[("x f:FixedSizeBinary(2) f<=0x00ff", &[5])];
 
-const FILES: [File<'static>; 9] = [
+static FILES: [File<'static>; 9] = [
     (LEVEL_OF_2, DAMAGED),
     (LONG_LEVELS, DAMAGED),
     (SOUND_KEYS, OF_SOUND_KEYS),
@@ -252,7 +252,7 @@ const FILES: [File<'static>; 9] = [
 
 /// Parts of a sample of 2,000 rows of which each bit is set. The second page of `id` stands at 8024, the body of the first page of `qty` at
 /// 16064, and its second page at 18398.
-const BROKEN: [Lie<'static>; 4] = [
+static BROKEN: [Lie<'static>; 4] = [
     (&[(16064, 18398, &[0xff; 2334])], FROM_ROW_1000, SOME_ROWS),
     (&[(18398, 18399, &[0xff])], FROM_ROW_1000, &[5]),
     (

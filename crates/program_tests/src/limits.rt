@@ -5,7 +5,7 @@ use files_for_tests::{F1, F2, F3};
 use std::test::*;
 
 /// Rows of the first file: 10, 12, 15, 18 and 20.
-const OF_ONE_PAGE: [(&str, &[u8]); 6] = [
+static OF_ONE_PAGE: [(&str, &[u8]); 6] = [
     (
         "x a:Int32 --chunk=2 --limit 3",
         b"\x00group 0 5 0+5\nchunk 2\n10\n12\nchunk 1\n15\n",
@@ -81,7 +81,7 @@ const OF_EMPTY_PAGES: [(&str, &[u8]); 2] = [
 ];
 
 /// Located pages of 10, 11, 12 and of 4, 5, 6 behind one that is ruled out.
-const OF_LOCATED_PAGES: [(&str, &[u8]); 4] = [
+static OF_LOCATED_PAGES: [(&str, &[u8]); 4] = [
     (
         "x a:Int32 a>=10 --limit 2",
         b"\x00group 0 9 3+3\nchunk 2\n10\n11\n",
@@ -98,12 +98,12 @@ const OF_LOCATED_PAGES: [(&str, &[u8]); 4] = [
 ];
 
 /// Two columns whose pages end at different rows.
-const OF_TWO_COLUMNS: [(&str, &[u8]); 1] = [(
+static OF_TWO_COLUMNS: [(&str, &[u8]); 1] = [(
     "x a:Int32 b:Int32 a>=4 --limit 2 --chunk 1",
     b"\x00group 0 8 4+4\nchunk 1\n4\tnull\nchunk 1\n5\t30\n",
 )];
 
-const FILES: [File<'static>; 2] = [
+static FILES: [File<'static>; 2] = [
     (THREE_GROUPS, &OF_THREE_GROUPS),
     (EMPTY_PAGES, &OF_EMPTY_PAGES),
 ];
@@ -118,7 +118,7 @@ fn chunks_and_first_rows(rt: HostRuntime) -> Result<(), Fail> {
 }
 
 /// The third page of the second file has its header at 62. Without it the file has six rows that can be read.
-const BROKEN: [Lie<'static>; 5] = [
+static BROKEN: [Lie<'static>; 5] = [
     (
         &[(62, 63, &[0xff])],
         "x a:Int32 --limit 6",
@@ -139,7 +139,7 @@ const MANY: &[u8] = &[0x80, 0x80, 0x80, 0x80, 0x10];
 
 const MANY_ROWS: &[Cut<'static>] = &[(85, 86, MANY), (113, 114, MANY), (116, 117, &[83])];
 
-const OF_MANY_ROWS: [Lie<'static>; 2] = [
+static OF_MANY_ROWS: [Lie<'static>; 2] = [
     (
         MANY_ROWS,
         "x a:Int32 --limit 5 --chunk 3",

@@ -4,7 +4,7 @@ use files_for_tests::{F0, F1, F2, F3, F3_V2};
 use std::test::*;
 
 /// One page of one group, whose ends are 10 and 20.
-const OF_ONE_PAGE: [(&str, &[u8]); 2] = [
+static OF_ONE_PAGE: [(&str, &[u8]); 2] = [
     (
         "x a:Int32 a>=12 a<=18",
         b"\x00group 0 5 0+5\nchunk 5\n10\n12\n15\n18\n20\n",
@@ -13,10 +13,10 @@ const OF_ONE_PAGE: [(&str, &[u8]); 2] = [
 ];
 
 /// No group.
-const OF_NO_GROUP: [(&str, &[u8]); 2] = [("x a:Int32", b"\x00"), ("x a:Utf8", &[4])];
+static OF_NO_GROUP: [(&str, &[u8]); 2] = [("x a:Int32", b"\x00"), ("x a:Utf8", &[4])];
 
 /// Three pages, with the ends 1 and 3, 10 and 12, 4 and 6.
-const OF_THREE_PAGES: [(&str, &[u8]); 6] = [
+static OF_THREE_PAGES: [(&str, &[u8]); 6] = [
     (
         "x a:Int32 a>=10",
         b"\x00group 0 9 3+3\nchunk 3\n10\n11\n12\n",
@@ -42,7 +42,7 @@ const OF_THREE_PAGES: [(&str, &[u8]); 6] = [
 
 /// Pages of `a` that end at the rows 4 and 8, and pages of `b` that end at the rows 3 and 8. The value 25 is passed over
 /// together with its row.
-const OF_TWO_COLUMNS: [(&str, &[u8]); 4] = [
+static OF_TWO_COLUMNS: [(&str, &[u8]); 4] = [
     (
         "x a:Int32 b:Int32 a>=4",
         b"\x00group 0 8 4+4\nchunk 4\n4\tnull\n5\t30\n6\t40\n7\t50\n",

@@ -7,7 +7,7 @@ use std::test::*;
 
 /// Words, and what a run answers. The number of a row is in the column `id`; `qty` has it where it is no multiple of 5;
 /// `name` has it behind an r.
-const SAMPLES: [(&str, &[u8]); 19] = [
+static SAMPLES: [(&str, &[u8]); 19] = [
     // Pages of `id` have 1000 rows.
     (
         "@sample:100000:7 id:Int64 qty:Int32 id>=54321 id<=54420 --summary",
@@ -85,7 +85,7 @@ const SAMPLES: [(&str, &[u8]); 19] = [
 ];
 
 /// Samples of too many rows, and requests that do not fit.
-const TOO_GREAT: [&str; 6] = [
+static TOO_GREAT: [&str; 6] = [
     "@sample:2000001:0 id:Int64",
     "@sample:4294967295:4294967295 id:Int64",
     "@sample:2000001:0 none:Int64",
@@ -95,10 +95,10 @@ const TOO_GREAT: [&str; 6] = [
 ];
 
 /// Words that spell no request.
-const NO_REQUESTS: [&str; 2] = ["@sample:2000001:0 id:Number", "@sample:2000001:0 --limit"];
+static NO_REQUESTS: [&str; 2] = ["@sample:2000001:0 id:Number", "@sample:2000001:0 --limit"];
 
 /// Names that are no sample's, so that the source is read, which has no bytes.
-const NO_SAMPLES: [&str; 12] = [
+static NO_SAMPLES: [&str; 12] = [
     "@sample:4294967296:0 id:Int64",
     "@sample:1:4294967296 id:Int64",
     "@sample:12345678901:0 id:Int64",

@@ -9,7 +9,7 @@ use std::test::*;
 const NUMBERS: &[u8] = b"\x00group 0 5 0+5\nchunk 5\n10\n12\n15\n18\n20\n";
 
 /// What may be asked of a column of numbers of 32 bits, and gives the numbers themselves.
-const READ: [&str; 13] = [
+static READ: [&str; 13] = [
     "x a:Int8",
     "x a:Int16",
     "x a:Int32",
@@ -26,7 +26,7 @@ const READ: [&str; 13] = [
 ];
 
 /// What gives other values.
-const CONVERTED: [(&str, &[u8]); 2] = [
+static CONVERTED: [(&str, &[u8]); 2] = [
     (
         "x a:Null",
         b"\x00group 0 5 0+5\nchunk 5\nnull\nnull\nnull\nnull\nnull\n",
@@ -38,7 +38,7 @@ const CONVERTED: [(&str, &[u8]); 2] = [
 ];
 
 /// Types that such a column is not read as.
-const OTHERS: [&str; 29] = [
+static OTHERS: [&str; 29] = [
     "x a:Boolean",
     "x a:Int64",
     "x a:UInt64",
@@ -71,7 +71,7 @@ const OTHERS: [&str; 29] = [
 ];
 
 /// Texts that spell no type.
-const NO_TYPES: [&str; 25] = [
+static NO_TYPES: [&str; 25] = [
     "x a:",
     "x a:int32",
     "x a:Float32",
@@ -109,7 +109,7 @@ fn types(rt: HostRuntime) -> Result<(), Fail> {
 }
 
 /// Fields of each type of numbers: bounds at the least and the greatest number, and those one past them.
-const RANGES: [(&str, &str, &str, &str, &str); 15] = [
+static RANGES: [(&str, &str, &str, &str, &str); 15] = [
     ("a:Int8", "a>=-128", "a<=127", "a>=-129", "a<=128"),
     ("a:Int16", "a>=-32768", "a<=32767", "a>=-32769", "a<=32768"),
     (
@@ -212,7 +212,7 @@ fn numbers_at_the_ends_of_their_types(rt: HostRuntime) -> Result<(), Fail> {
 }
 
 /// Ends of bounds, and how a run with them ends.
-const VALUES: [(&str, &[u8]); 34] = [
+static VALUES: [(&str, &[u8]); 34] = [
     // At most 39 digits.
     (
         "x a:Decimal(9,2) a>=0000000000000000000000000000000000000001",
@@ -263,7 +263,7 @@ const VALUES: [(&str, &[u8]); 34] = [
 ];
 
 /// Options, fields and names of bounds, and how a run with them ends.
-const COMMANDS: [(&str, &[u8]); 26] = [
+static COMMANDS: [(&str, &[u8]); 26] = [
     ("x", &[3]),
     ("x a:Int32 --chunk 0", &[3]),
     ("x a:Int32 --chunk 00", &[3]),
@@ -293,7 +293,7 @@ const COMMANDS: [(&str, &[u8]); 26] = [
 ];
 
 /// Words in other places and numbers of other spellings, which give the numbers themselves.
-const PLACES: [&str; 6] = [
+static PLACES: [&str; 6] = [
     "x -- a:Int32",
     "x a>=12 a:Int32 -- a<=18",
     "x a:Int32 a>=-2147483648 a<=2147483647",
@@ -382,7 +382,7 @@ const OF_NAMED: &[(&str, &[u8])] = &[
     ("x \u{e4}:Int32 \u{e4}<=1", BOTH),
 ];
 
-const FILES: [File<'static>; 1] = [(NAMED, OF_NAMED)];
+static FILES: [File<'static>; 1] = [(NAMED, OF_NAMED)];
 
 #[test]
 fn names_with_signs(rt: HostRuntime) -> Result<(), Fail> {

@@ -85,7 +85,7 @@ const NOT_VALID: Answer = Err(6);
 const NOT_CARRIED: Answer = Err(4);
 
 /// Pages that are plain or joined.
-const READS: [Read<'static>; 35] = [
+static READS: [Read<'static>; 35] = [
     // The lengths 5, 0 and 3.
     (
         STRINGS,
@@ -381,7 +381,7 @@ const SIX_TEXTS: Answer = Ok(b"\"a\"\nnull\n\"\"\n\"\\x09\"\nnull\n\"\xc3\xa9\"\
 const SIX_STRINGS: Answer = Ok(b"0x61\nnull\n0x\n0x09\nnull\n0xc3a9\n");
 
 /// Dictionaries and keys.
-const READS_BY_KEYS: [Read<'static>; 11] = [
+static READS_BY_KEYS: [Read<'static>; 11] = [
     (
         STRINGS,
         &[
@@ -507,17 +507,17 @@ const READS_BY_KEYS: [Read<'static>; 11] = [
 
 #[test]
 fn strings(rt: HostRuntime) -> Result<(), Fail> {
-    for read in READS {
-        check_read(rt.alloc(), read, &AS_TEXTS, &AS_STRINGS)?;
+    for read in READS.iter() {
+        check_read(rt.alloc(), *read, &AS_TEXTS, &AS_STRINGS)?;
     }
     Ok(())
 }
 
 #[test]
 fn strings_by_keys(rt: HostRuntime) -> Result<(), Fail> {
-    for read in READS_BY_KEYS {
-        check_read(rt.alloc(), read, &AS_TEXTS, &AS_STRINGS)?;
-        check_read(rt.alloc(), read, &AS_KEYS_OF_TEXTS, &AS_KEYS_OF_STRINGS)?;
+    for read in READS_BY_KEYS.iter() {
+        check_read(rt.alloc(), *read, &AS_TEXTS, &AS_STRINGS)?;
+        check_read(rt.alloc(), *read, &AS_KEYS_OF_TEXTS, &AS_KEYS_OF_STRINGS)?;
     }
     Ok(())
 }
@@ -735,7 +735,7 @@ const OF_NO_TEXT: &[(&str, &[u8])] = &[("x a:Int32 s:Utf8 a>=10", &[6])];
 
 const OF_DAMAGE: &[(&str, &[u8])] = &[("x a:Int32 s:Utf8 a>=10", &[5])];
 
-const FILES: [File<'static>; 10] = [
+static FILES: [File<'static>; 10] = [
     (TEXT_AND_NONE, BEHIND_A_TEXT),
     (LONG_STRING, BEFORE_A_LENGTH),
     (LATE_KEY, BEFORE_A_KEY),
