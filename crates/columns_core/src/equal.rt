@@ -60,6 +60,7 @@ impl PartialEq for Cell {
     }
 }
 
+// A type that holds values is compared by a function of its own, in a match: a test inside `matches!` takes longer to prove.
 #[cycle(same)]
 pub(crate) fn is_same_type(a: &DataType, b: &DataType) -> bool
     ensures { IsTrue result ↔ (a.now ≡ b.now) }
@@ -87,7 +88,7 @@ pub(crate) fn is_same_type(a: &DataType, b: &DataType) -> bool
         DataType::LargeUtf8 => matches!(b, DataType::LargeUtf8),
         DataType::Binary => matches!(b, DataType::Binary),
         DataType::LargeBinary => matches!(b, DataType::LargeBinary),
-        DataType::FixedSizeBinary(size) => is_fixed_size(*size, b),
+        DataType::FixedSizeBinary(size) => is_fixed_size_binary(*size, b),
         DataType::Dictionary(key, value, is_ordered) => {
             is_dictionary(value.get(), *key, *is_ordered, b)
         }
@@ -98,7 +99,6 @@ pub(crate) fn is_same_type(a: &DataType, b: &DataType) -> bool
     }
 }
 
-// Values are compared in a match of their own: a test inside `matches!` takes longer to prove.
 fn is_time32(unit: TimeUnit, data_type: &DataType) -> bool
     ensures { IsTrue result ↔ (DataType.Time32 unit ≡ data_type.now) }
 {
@@ -135,7 +135,7 @@ fn is_interval(unit: IntervalUnit, data_type: &DataType) -> bool
     }
 }
 
-fn is_fixed_size(size: usize, data_type: &DataType) -> bool
+fn is_fixed_size_binary(size: usize, data_type: &DataType) -> bool
     ensures { IsTrue result ↔ (DataType.FixedSizeBinary size ≡ data_type.now) }
 {
     match data_type {

@@ -8,8 +8,7 @@ use Rattle.parquet_base.specs.Reading.{◌>>=◌, Takes}
 use Rattle.parquet_base.specs.Varint.{varint, varint_within}
 use Rattle.parquet_base.proofs.TakeLemmas.{varint-takes}
 use Rattle.parquet_encoding.specs.Hybrid.{hybrid, Run, Groups, Copies, first_run, runs, run_length, run_of, run_size, first_values}
-use Rattle.parquet_encoding.specs.HybridRun.{count_of, run_values, Opens}
-use Rattle.parquet_encoding.specs.ShortRun.{PassesRun}
+use Rattle.parquet_encoding.specs.HybridRun.{count_of, run_values, Opens, PassesRun}
 use Rattle.parquet_encoding.specs.declared.run.OpenedRun.{OpenedRun}
 use Rattle.parquet_encoding.proofs.StepLemmas.{bind_some, given_some, some_is, same_steps}
 use Rattle.parquet_encoding.proofs.BitsLemmas.{length-packed}

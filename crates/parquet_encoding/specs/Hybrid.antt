@@ -18,6 +18,11 @@ run_of header = if header % 2 == 1 then Groups (header / 2) else Copies (header 
 abbrev pub byte_width : ℕ → ℕ
 byte_width width = (width + 7) / 8
 
+-- how many values a run has by its header
+abbrev pub run_count : Run → ℕ
+run_count (Groups groups) = 8 * groups
+run_count (Copies copies) = copies
+
 -- how many values a run has in the bytes behind its header: of packed values those that lie whole in them
 abbrev pub run_length : Run → ℕ → List ℕ → ℕ
 run_length (Groups groups) width body = min (8 * groups) (8 * length body / width)

@@ -50,3 +50,12 @@ pub record OpensRepeated (bytes : List ℕ) (body width copies wanted : ℕ) (op
   pub run : opened.run ≡ Repeated (bits_at bytes (8 * body + 0) (8 * byte_width width)) (min copies wanted)
   pub end : opened.end ≡ body + byte_width width
   pub within : opened.end ≤ length bytes
+
+-- how many of the wanted values the run at a place gives, and the place after it
+pub record PassesRun (bytes : List ℕ) (place width wanted : ℕ) (passed : ℕ × ℕ) : Type 0 where
+  pub values : List ℕ
+  pub is_first : first_run width wanted (drop place bytes) ≡ Some (values, drop passed.1 bytes)
+  pub count : length values ≡ passed.0
+  pub most : passed.0 ≤ wanted
+  pub after : place < passed.1
+  pub within : passed.1 ≤ length bytes

@@ -120,7 +120,7 @@ pub is_same_type-returns-in-Interval : goal.is_same_type-returns-in-Interval
 is_same_type-returns-in-Interval t c = as_it_is c.in-Interval.is c.is_interval.ensures
 
 pub is_same_type-returns-in-FixedSizeBinary : goal.is_same_type-returns-in-FixedSizeBinary
-is_same_type-returns-in-FixedSizeBinary t c = as_it_is c.in-FixedSizeBinary.is c.is_fixed_size.ensures
+is_same_type-returns-in-FixedSizeBinary t c = as_it_is c.in-FixedSizeBinary.is c.is_fixed_size_binary.ensures
 
 pub is_dictionary-returns-in_default : goal.is_dictionary-returns-in_default
 is_dictionary-returns-in_default t c = not_it (c.in_default.not-Dictionary _ _ _)
