@@ -1,55 +1,44 @@
 -- Keys below a limit, and keys past one.
-use Rattle.std.proofs.Common.{◌≡◌, ℕ, ℤ, ◌<◌, ◌≤◌, Bool, true, false, List, [], ◌∷◌, ◌++◌, length, map, Some, refl, ap, sym, subst, ◌∙◌, arith}
-use Rattle.std.specs.Prelude.{MatchResult, OnOk, Option, Result, pos, ◌||◌, nat_le, min, slice_get}
+use Rattle.std.proofs.Common.{◌≡◌, ℕ, ℤ, ◌<◌, ◌≤◌, true, false, List, [], ◌∷◌, ◌++◌, length, map, Some, refl, ap, sym, subst, ◌∙◌, arith}
+use Rattle.std.specs.Prelude.{MatchResult, OnOk, Option, Result, pos, ◌||◌, nat_le, min}
 use Rattle.std.specs.Fn.{Called, Mut}
 use Rattle.std.specs.Iterator.{AlwaysYields, Drains, Yields}
 use Rattle.std.specs.Iterator.Adapters.{map_callee, map_source}
 use Rattle.std.specs.List.{range_with_len}
-use Rattle.std.specs.Option.{option_map_or}
 use Rattle.std.specs.declared.iter.Map.{Map}
-use Rattle.std.proofs.lemmas.Bool.{leb-false, lt-leb}
+use Rattle.std.proofs.lemmas.Bool.{leb-false, lt-leb, or_parts}
 use Rattle.std.proofs.lemmas.Iterator.{YieldsList, maps}
-use Rattle.std.proofs.lemmas.Iterator.Adapters.{fact_from_extend}
-use Rattle.std.proofs.lemmas.Iterator.Consumers.{YieldsList-at}
-use Rattle.std.proofs.lemmas.List.{map-append}
-use Rattle.std.proofs.lemmas.List.FromFn.{get_or-map-range_with_len, length-map-range_with_len, length-range_with_len}
-use Rattle.std.proofs.lemmas.Option.{slice_get-get_or}
+use Rattle.std.proofs.lemmas.List.FromFn.{get_or-range_with_len, length-map-range_with_len, length-range_with_len}
 use Rattle.std.proofs.lemmas.Simd.{map-map}
 use Rattle.columns_core.specs.Causes.{OutOfSpec, cause_of}
-use Rattle.columns_core.specs.declared.cell.Cell.{Cell, Null, Int}
+use Rattle.columns_core.specs.declared.cell.Cell.{Int}
 use Rattle.columns_core.specs.declared.error.Error.{Error}
 use Rattle.parquet_page.specs.Values.{has_key_past}
-use Rattle.page_decoding.specs.Outcome.{Given, IsCausedBy, Outcome, Refused}
+use Rattle.page_decoding.specs.Outcome.{Given, IsCausedBy}
 use Rattle.flat_values.specs.Added.{Adds}
+use Rattle.flat_values.specs.Conversion.{Item, Value}
 use Rattle.flat_values.specs.Outcomes.{entry_outcome}
-use Rattle.flat_values.proofs.KeyLemmas.{past_refused}
+use Rattle.flat_values.proofs.AddedLemmas.{chain_adds}
+use Rattle.flat_values.proofs.ExtendLemmas.{shown_from_extend}
+use Rattle.flat_values.proofs.KeyLemmas.{named, past_refused}
 use Rattle.dictionary_values.specs.KeysGiven.{numbers_below}
 
 pub length-numbers : (limit : ℕ) → length (numbers_below limit) ≡ limit
 length-numbers limit = length-map-range_with_len (λ (key : ℕ). Int (pos key)) 0 limit
 
-numbered : (limit key : ℕ) → key < limit → slice_get (numbers_below limit) key ≡ Some (Int (pos key))
-numbered limit key below =
-    let f : ℕ → Cell = λ key. Int (pos key) in
-    slice_get-get_or (numbers_below limit) key Null (omega (arith, below, length-numbers limit)) ∙ ap (λ cell. Some cell) (get_or-map-range_with_len f 0 limit key key Null below (omega arith))
-
 -- a key below the limit is given
 pub below-given : (limit key : ℕ) → key < limit → entry_outcome (Some (numbers_below limit)) key ≡ Given (Int (pos key))
-below-given limit key below = ap (λ o. option_map_or Given o (Refused (OutOfSpec ∷ []))) (numbered limit key below)
+below-given limit key below =
+    let keys = range_with_len 0 limit in
+    sym (named (λ (n : ℕ). Int (pos n)) keys key key (omega (arith, below, length-range_with_len 0 limit)) (sym (get_or-range_with_len 0 limit key key below)))
 
 -- ---- whether some key is past
 
 pub first-below : (most key : ℕ) (keys : List ℕ) → has_key_past most (key ∷ keys) ≡ false → key < most
-first-below most key keys none = go (nat_le most key) refl none where
-  go : (past : Bool) → nat_le most key ≡ past → (past || has_key_past most keys) ≡ false → key < most
-  go false e none = leb-false most key e
-  go true e none = absurd cc
+first-below most key keys none = leb-false most key (or_parts (nat_le most key) (has_key_past most keys) none).0
 
 pub others-below : (most key : ℕ) (keys : List ℕ) → has_key_past most (key ∷ keys) ≡ false → has_key_past most keys ≡ false
-others-below most key keys none = go (nat_le most key) none where
-  go : (past : Bool) → (past || has_key_past most keys) ≡ false → has_key_past most keys ≡ false
-  go false none = none
-  go true none = absurd cc
+others-below most key keys none = (or_parts (nat_le most key) (has_key_past most keys) none).1
 
 -- what is not past the lesser is not past the greater
 pub below-more : (few many : ℕ) (keys : List ℕ) → few ≤ many → has_key_past few keys ≡ false → has_key_past many keys ≡ false
@@ -82,21 +71,22 @@ numbers_given limit (key ∷ keys) none =
 pub keys_added : {K : Type 0} (number : K → ℤ) (old new more : List K) (limit : ℕ) (numbers : List ℕ) → new ≡ old ++ more → map number more ≡ map (λ (key : ℕ). pos key) numbers → has_key_past limit numbers ≡ false
     → Adds (λ key. Int (number key)) old new (map (entry_outcome (Some (numbers_below limit))) numbers)
 keys_added {K} number old new more limit numbers is same none =
-    let given : ℤ → Outcome = λ n. Given (Int n) in
-    let item : K → Outcome = λ key. given (number key) in
-    ap (map item) is ∙ map-append item old more
-    ∙ ap (λ outcomes. map item old ++ outcomes) (sym (map-map given number more) ∙ ap (map given) same ∙ map-map given (λ (key : ℕ). pos key) numbers ∙ numbers_given limit numbers none)
+    let value : ℤ → Item = λ n. Value (Int n) in
+    let key_of : ℕ → ℤ = λ key. pos key in
+    let items : map (λ key. value (number key)) more ≡ map (λ key. value (key_of key)) numbers = sym (map-map value number more) ∙ ap (map value) same ∙ map-map value key_of numbers in
+    chain_adds (λ key. Int (number key)) (λ key. value (key_of key)) old new more numbers is items
+    ∙ ap (λ outcomes. map (λ key. Given (Int (number key))) old ++ outcomes) (numbers_given limit numbers none)
 
 -- what a chain gives of numbers of which none is past the limit, by what it gives of each that is below
 module _ {S A F R C : Type 0} (steps : S → Option A → S → Type 0) (v : A → ℕ) (g : Mut F (A × Unit {0}) R) (w : R → C) (h : ℕ → C) (f : F) (limit : ℕ) (gives : (x : A) (r : R) (q : F) → v x < limit → Called g f (x, tt) r q → (q ≡ f) × (w r ≡ h (v x))) where
-  given : (numbers : List ℕ) (s : Map S F) → has_key_past limit numbers ≡ false → map_callee s ≡ f → AlwaysYields steps v (map_source s) numbers → AlwaysYields (maps steps g) w s (map h numbers)
-  given [] s none own from = λ y j p. from p.0 (map_source j) p.1
-  given (number ∷ numbers) s none own from = (
+  maps_below : (numbers : List ℕ) (s : Map S F) → has_key_past limit numbers ≡ false → map_callee s ≡ f → AlwaysYields steps v (map_source s) numbers → AlwaysYields (maps steps g) w s (map h numbers)
+  maps_below [] s none own from = λ y j p. from p.0 (map_source j) p.1
+  maps_below (number ∷ numbers) s none own from = (
     (λ j p. from.0 (map_source j) p.0),
     λ y j p.
         let next = from.1 p.0 (map_source j) p.1 in
         let one = gives p.0 y (map_callee j) (subst (λ n. n < limit) (sym next.0) (first-below limit number numbers none)) (subst (λ c. Called g c (p.0, tt) y (map_callee j)) own p.2) in
-        (one.1 ∙ ap h next.0, given numbers j (others-below limit number numbers none) one.0 next.1),
+        (one.1 ∙ ap h next.0, maps_below numbers j (others-below limit number numbers none) one.0 next.1),
   )
 
 -- what follows of a list that such a chain has extended
@@ -106,5 +96,5 @@ pub extended_below : {S A F R C E Q : Type 0} {steps : S → Option A → S → 
     → ((x : A) (result : R) (q : F) → v x < limit → Called g f (x, tt) result q → (q ≡ f) × (w result ≡ h (v x)))
     → ((xs : List R) → map w xs ≡ map h numbers → P xs → Q) → OnOk r Q
 extended_below {steps} {v} {g} {s} {numbers} {f} w h limit r ran from own none gives says =
-    let road : YieldsList (maps steps g) w s (map h numbers) = record { runs = given steps v g w h f limit gives numbers s none own from.runs } in
-    fact_from_extend w r ran (λ it b. YieldsList-at b road) says
+    let road : YieldsList (maps steps g) w s (map h numbers) = record { runs = maps_below steps v g w h f limit gives numbers s none own from.runs } in
+    shown_from_extend w r ran road says

@@ -1,7 +1,6 @@
 //! Keys that are appended to decoded keys.
 ghost use Rattle.std.specs.Prelude.{◌≡◌, ◌<◌, ◌≤◌, Some, None, refl, pos, drop, map, take, IfErr, IfOk, OnOk};
 ghost use Rattle.std.specs.Option.{option_copied};
-ghost use Rattle.columns_core.specs.Array.{cells};
 ghost use Rattle.columns_core.specs.declared.cell.Cell.{Int};
 ghost use Rattle.page_decoding.specs.Outcome.{IsCausedBy};
 ghost use Rattle.flat_values.specs.Added.{Adds};
@@ -14,7 +13,7 @@ ghost use Rattle.dictionary_values.specs.KeysGiven.{key_limit, keys_given, numbe
 
 use crate::StoredKey;
 use columns_core::{Array, Error, MutableBitmap, Part};
-use flat_values::{KeyPlace, Values, mark_nulls, mark_values, slice_has_past};
+use flat_values::{KeyPlace, Values, mark_nulls, mark_values, some_key_is_past};
 use page_decoding::DecodedState;
 use std::alloc::Global;
 use std::marker::PhantomData;
@@ -48,7 +47,7 @@ fn limit_of<K: StoredKey>(entries: Option<&Array>) -> usize
     }
 }
 
-/// The key of a number that the type has.
+/// The key of a number that the type has, any key for another.
 fn key_of<K: StoredKey>(number: u32) -> K
     ensures { number < K.key_count → K.number result ≡ pos number }
 {
@@ -66,7 +65,7 @@ fn extend_keys<K: StoredKey>(found: &mut Vec<K>, limit: usize, numbers: &[u32]) 
     ensures cause { let rows = map (entry_outcome (Some (numbers_below limit))) numbers.now in
         IfErr result (IsCausedBy rows) }
 {
-    if slice_has_past(numbers, limit) {
+    if some_key_is_past(numbers, limit) {
         return Err(Error::OutOfSpec(Part::Dictionary));
     }
     found.extend(numbers.iter().map(|number| key_of::<K>(*number)))?;

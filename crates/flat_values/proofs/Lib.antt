@@ -1,6 +1,6 @@
 pub mod ConversionLemmas
 mod OrderLemmas
-mod ExtendLemmas
+pub mod ExtendLemmas
 mod NumberLemmas
 mod ItemLemmas
 mod CountLemmas

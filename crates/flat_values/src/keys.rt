@@ -1,5 +1,5 @@
 //! Keys of a dictionary, in the pages of a column.
-ghost use Rattle.std.specs.Prelude.{◌≡◌, ◌<◌, ◌≤◌, ◌++◌, ◌||◌, ℕ, List, [], ◌∷◌, nat_le, slice_index_or, Some, IsSome, IfOk, IfErr, IfNone, IfSome, OnOk, length, max, min, take, drop, map};
+ghost use Rattle.std.specs.Prelude.{◌≡◌, ◌<◌, ◌++◌, ◌||◌, ℕ, [], ◌∷◌, nat_le, slice_index_or, Some, IsSome, IfOk, IfErr, IfNone, IfSome, OnOk, length, max, min, take, drop, map};
 ghost use Rattle.std.specs.Option.{option_map_or};
 ghost use Rattle.columns_core.specs.Causes.{ComesOf, ExternalFormat, IsOneOf, cause_of};
 ghost use Rattle.parquet_encoding.specs.HybridLeft.{hybrid_left, hybrid_values};
@@ -124,7 +124,7 @@ fn chunk_has_past(keys: &mut HybridRle, bytes: &[u8], entries: usize) -> bool
 {
     let mut chunk = [0u32; CHUNK];
     let count = keys.fill(bytes, &mut chunk);
-    slice_has_past(&chunk[..count], entries)
+    some_key_is_past(&chunk[..count], entries)
 }
 
 /// The greater of two keys.
@@ -147,7 +147,7 @@ fn greatest(keys: &[u32]) -> u32
 }
 
 /// Whether some key is past so many entries.
-pub fn slice_has_past(keys: &[u32], entries: usize) -> bool
+pub fn some_key_is_past(keys: &[u32], entries: usize) -> bool
     ensures { result ≡ has_key_past entries keys.now }
 {
     !keys.is_empty() && greatest(keys) as usize >= entries
@@ -182,7 +182,7 @@ pub(crate) fn extend_named<T: NativeType>(
     ensures cause { ComesOf result
         (causes_in (map (entry_outcome (Some (map T.cell entries.now))) keys.now)) }
 {
-    if slice_has_past(keys, entries.len()) {
+    if some_key_is_past(keys, entries.len()) {
         return Err(Error::OutOfSpec(Part::Dictionary));
     }
     let Some(first) = entries.first() else {

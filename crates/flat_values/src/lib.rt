@@ -47,7 +47,7 @@ pub use flat_decoder::{FlatDecoder, FlatState, extend_rows};
 pub use flat_iter::FlatIter;
 pub use integer::{DaysToMillis, Keep, Widen};
 pub use into_array::{IntoArray, IntoColumn};
-pub use keys::{KeyPlace, slice_has_past};
+pub use keys::{KeyPlace, some_key_is_past};
 pub use narrow::Narrow;
 pub use null::NullIter;
 pub use number_values::NumberValues;

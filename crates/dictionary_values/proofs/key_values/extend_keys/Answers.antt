@@ -10,16 +10,16 @@ use Rattle.dictionary_values.specs.KeysGiven.{numbers_below}
 use Rattle.dictionary_values.proofs.KeyLemmas.{extended_below, keys_added, past_numbers_refused}
 use Rattle.dictionary_values.proofs.key_values.extend_keys.Goals as goal
 
-pub returns-then-slice_has_past-clause-cause : goal.returns-then-slice_has_past-clause-cause
-returns-then-slice_has_past-clause-cause g c =
-    past_numbers_refused c.args.limit c.args.numbers.now (errors.OutOfSpec Dictionary) refl (sym c.slice_has_past.ensures ∙ c.if-slice_has_past.true)
+pub returns-then-some_key_is_past-clause-cause : goal.returns-then-some_key_is_past-clause-cause
+returns-then-some_key_is_past-clause-cause g c =
+    past_numbers_refused c.args.limit c.args.numbers.now (errors.OutOfSpec Dictionary) refl (sym c.some_key_is_past.ensures ∙ c.if-some_key_is_past.true)
 
 pub returns-clause-added : goal.returns-clause-added
 returns-clause-added g c =
     let number = g.K.DictionaryKey.number in
     let numbered : ℕ → ℤ = λ key. pos key in
     let limit = c.args.limit in
-    let none = sym c.slice_has_past.ensures ∙ c.if-slice_has_past.false in
+    let none = sym c.some_key_is_past.ensures ∙ c.if-some_key_is_past.false in
     let rows = map (entry_outcome (Some (numbers_below limit))) c.args.numbers.now in
     subst (λ result. OnOk result (Adds (λ key. Int (number key)) c.args.found.now.items c.extend.new.self.items rows)) c.in_ok-extend.was
     (extended_below number numbered limit c.extend.result c.extend.ensures.ran (YieldsList-at c.map.ensures.source (YieldsList-from_slice c.args.numbers.now c.iter.ensures.rest)) c.map.ensures.closure none
