@@ -1,5 +1,5 @@
 -- Keys below a limit, and keys past one.
-use Rattle.std.proofs.Common.{◌≡◌, ℕ, ℤ, ◌<◌, ◌≤◌, true, false, List, [], ◌∷◌, ◌++◌, length, map, Some, refl, ap, sym, subst, ◌∙◌, arith}
+use Rattle.std.proofs.Common.{◌≡◌, ℕ, ℤ, ◌<◌, ◌≤◌, true, false, List, [], ◌∷◌, ◌++◌, length, map, get_or, Some, refl, ap, sym, subst, ◌∙◌, arith}
 use Rattle.std.specs.Prelude.{MatchResult, OnOk, Option, Result, pos, ◌||◌, nat_le, min}
 use Rattle.std.specs.Fn.{Called, Mut}
 use Rattle.std.specs.Iterator.{AlwaysYields, Drains, Yields}
@@ -30,7 +30,8 @@ length-numbers limit = length-map-range_with_len (λ (key : ℕ). Int (pos key))
 pub below-given : (limit key : ℕ) → key < limit → entry_outcome (Some (numbers_below limit)) key ≡ Given (Int (pos key))
 below-given limit key below =
     let keys = range_with_len 0 limit in
-    sym (named (λ (n : ℕ). Int (pos n)) keys key key (omega (arith, below, length-range_with_len 0 limit)) (sym (get_or-range_with_len 0 limit key key below)))
+    let is : key ≡ get_or keys key key = omega (arith, get_or-range_with_len 0 limit key key below) in
+    sym (named (λ (n : ℕ). Int (pos n)) keys key key (omega (arith, below, length-range_with_len 0 limit)) is)
 
 -- ---- whether some key is past
 
