@@ -6,7 +6,8 @@ ghost use Rattle.parquet_page.specs.Reader.{reader_pages};
 use column_arrays::binary::{Delta, FilteredDelta};
 use column_arrays::page_iter_to_arrays;
 use columns_core::{Array, Cell, DataType, Error, Part, TimeUnit};
-use pages_for_tests::{column, page};
+use pages_for_tests::Page::First;
+use pages_for_tests::{Page, chunk_of, column};
 use parquet_meta::{PhysicalType, PrimitiveType, Repetition};
 use parquet_page::{DataPage, DataPageHeader, PageReader, Pages};
 use std::alloc::Global;
@@ -60,27 +61,24 @@ fn rows_of<I: Pages>(
 }
 
 /// The pages of a chunk of four required values.
-fn pages_of(alloc: Global, physical: PhysicalType, chunk: Vec<u8>) -> Result<PageReader, Error>
+fn pages_of(alloc: Global, physical: PhysicalType, pages: &[Page<'_>]) -> Result<PageReader, Error>
     ensures typed { IfOk result (λ reader.
         DataPagesAre (λ page. page.type.physical_type ≡ physical) (reader_pages reader)) }
     ensures ordered { IfOk result (λ reader. has_data_behind (reader_pages reader) ≡ true) }
 {
-    PageReader::new(
-        alloc,
-        chunk,
-        &column(alloc, physical, Repetition::Required, 4),
-    )
+    let column = column(alloc, physical, Repetition::Required, 4);
+    PageReader::new(alloc, chunk_of(alloc, pages)?, &column)
 }
 
 /// The rows of such a chunk.
 fn rows_in(
     alloc: Global,
     physical: PhysicalType,
-    chunk: Vec<u8>,
+    pages: &[Page<'_>],
     data_type: DataType,
     chunk_size: Option<usize>,
 ) -> Result<Vec<u8>, Error> {
-    let pages = pages_of(alloc, physical, chunk)?;
+    let pages = pages_of(alloc, physical, pages)?;
     let required = Repetition::Required;
     rows_of(alloc, pages, physical, required, data_type, chunk_size)
 }
@@ -94,17 +92,10 @@ fn reads(
     whole: &[u8],
     chunked: &[u8],
 ) -> Result<bool, Error> {
-    let values = &values[..values.len().min(47)];
+    let pages = [First(4, 0, &[], values)];
     let own_type = data_type.try_clone(alloc)?;
-    let one = rows_in(
-        alloc,
-        physical,
-        page(alloc, 4, 0, &[], values)?,
-        own_type,
-        None,
-    )?;
-    let chunk = page(alloc, 4, 0, &[], values)?;
-    let more = rows_in(alloc, physical, chunk, data_type, Some(3))?;
+    let one = rows_in(alloc, physical, &pages, own_type, None)?;
+    let more = rows_in(alloc, physical, &pages, data_type, Some(3))?;
     Ok(one.as_slice() == whole && more.as_slice() == chunked)
 }
 
@@ -181,35 +172,23 @@ fn columns_of_byte_strings(rt: HostRuntime) -> Result<(), Fail> {
 fn columns_of_nulls(rt: HostRuntime) -> Result<(), Fail> {
     let alloc = rt.alloc();
     // No page of theirs is looked at.
-    let read = rows_in(
-        alloc,
-        PhysicalType::Double,
-        Vec::new(alloc),
-        DataType::Null,
-        Some(3),
-    )?;
+    let read = rows_in(alloc, PhysicalType::Double, &[], DataType::Null, Some(3))?;
     assert_eq!(rt; read.as_slice(), b"---;-;".as_slice());
     Ok(())
 }
 
+/// A page of four truth values.
+static TRUTHS: [Page<'static>; 1] = [First(4, 0, &[], &[0b1101])];
+
 #[test]
 fn columns_that_are_not_begun(rt: HostRuntime) -> Result<(), Fail> {
     let alloc = rt.alloc();
-    let truths = page(alloc, 4, 0, &[], &[0b1101])?;
-    let refused = rows_in(alloc, PhysicalType::Boolean, truths, DataType::Int32, None).err();
-    assert_eq!(rt; refused, Some(Error::NotYetImplemented(Part::Schema)));
-    let truths = page(alloc, 4, 0, &[], &[0b1101])?;
-    let refused = rows_in(
-        alloc,
-        PhysicalType::Boolean,
-        truths,
-        DataType::Boolean,
-        Some(0),
-    )
-    .err();
-    assert_eq!(rt; refused, Some(Error::InvalidArgumentError(Part::Request)));
     let truths = PhysicalType::Boolean;
-    let pages = pages_of(alloc, truths, Vec::new(alloc))?;
+    let refused = rows_in(alloc, truths, &TRUTHS, DataType::Int32, None).err();
+    assert_eq!(rt; refused, Some(Error::NotYetImplemented(Part::Schema)));
+    let refused = rows_in(alloc, truths, &TRUTHS, DataType::Boolean, Some(0)).err();
+    assert_eq!(rt; refused, Some(Error::InvalidArgumentError(Part::Request)));
+    let pages = pages_of(alloc, truths, &[])?;
     let repeated = Repetition::Repeated;
     let refused = rows_of(alloc, pages, truths, repeated, DataType::Boolean, None).err();
     assert_eq!(rt; refused, Some(Error::NotYetImplemented(Part::Schema)));

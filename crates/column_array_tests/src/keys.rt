@@ -6,7 +6,8 @@ ghost use Rattle.parquet_page.specs.Reader.{reader_pages};
 use crate::columns::push_cells;
 use column_arrays::page_iter_to_arrays;
 use columns_core::{Array, Boxed, DataType, Error, IntegerType, Part};
-use pages_for_tests::{column, dictionary, page};
+use pages_for_tests::Page::{Bytes, Entries, First};
+use pages_for_tests::{Page, chunk_of, column};
 use parquet_meta::{PhysicalType, PrimitiveType, Repetition};
 use parquet_page::{PageReader, Pages};
 use std::alloc::Global;
@@ -60,17 +61,14 @@ fn pages_of(
     physical: PhysicalType,
     repetition: Repetition,
     num_values: u64,
-    chunk: Vec<u8>,
+    pages: &[Page<'_>],
 ) -> Result<PageReader, Error>
     ensures typed { IfOk result (λ reader.
         DataPagesAre (λ page. page.type.physical_type ≡ physical) (reader_pages reader)) }
     ensures ordered { IfOk result (λ reader. has_data_behind (reader_pages reader) ≡ true) }
 {
-    PageReader::new(
-        alloc,
-        chunk,
-        &column(alloc, physical, repetition, num_values),
-    )
+    let column = column(alloc, physical, repetition, num_values);
+    PageReader::new(alloc, chunk_of(alloc, pages)?, &column)
 }
 
 /// The rows of such a chunk, as keys of a type that name entries of a type.
@@ -79,31 +77,28 @@ fn keys_in(
     physical: PhysicalType,
     repetition: Repetition,
     num_values: u64,
-    chunk: Vec<u8>,
+    pages: &[Page<'_>],
     key: IntegerType,
     entry: DataType,
     chunk_size: Option<usize>,
 ) -> Result<Vec<u8>, Error> {
     let data_type = DataType::Dictionary(key, Boxed::new(alloc, entry)?, false);
-    let pages = pages_of(alloc, physical, repetition, num_values, chunk)?;
+    let pages = pages_of(alloc, physical, repetition, num_values, pages)?;
     keys_of(alloc, pages, physical, data_type, chunk_size)
 }
 
 /// The dictionary x, y, and two pages of four rows, the second of them null: the keys 0, 1, 1 and the keys 1, 0, 0.
-fn two_pages(alloc: Global) -> Result<Vec<u8>, Error> {
-    let mut chunk = dictionary(alloc, 2, b"\x01\0\0\0x\x01\0\0\0y")?;
-    let levels = [2, 0, 0, 0, 0x03, 0x0D];
-    chunk.append(&mut page(alloc, 4, 8, &levels, &[1, 3, 6])?)?;
-    chunk.append(&mut page(alloc, 4, 8, &levels, &[1, 3, 1])?)?;
-    Ok(chunk)
-}
+static TWO_PAGES: [Page<'static>; 3] = [
+    Entries(2, b"\x01\0\0\0x\x01\0\0\0y"),
+    First(4, 8, &[2, 0, 0, 0, 0x03, 0x0D], &[1, 3, 6]),
+    First(4, 8, &[2, 0, 0, 0, 0x03, 0x0D], &[1, 3, 1]),
+];
 
 /// The rows of these pages as keys of a type that name texts or byte strings, in arrays of three rows.
 fn strings_by(alloc: Global, key: IntegerType, entry: DataType) -> Result<Vec<u8>, Error> {
     let stored = PhysicalType::ByteArray;
     let optional = Repetition::Optional;
-    let chunk = two_pages(alloc)?;
-    keys_in(alloc, stored, optional, 8, chunk, key, entry, Some(3))
+    keys_in(alloc, stored, optional, 8, &TWO_PAGES, key, entry, Some(3))
 }
 
 #[test]
@@ -132,93 +127,94 @@ fn small_keys_in(
     alloc: Global,
     physical: PhysicalType,
     num_values: u64,
-    chunk: Vec<u8>,
+    pages: &[Page<'_>],
     entry: DataType,
 ) -> Result<Vec<u8>, Error> {
     let key = IntegerType::Int8;
     let required = Repetition::Required;
     keys_in(
-        alloc, physical, required, num_values, chunk, key, entry, None,
+        alloc, physical, required, num_values, pages, key, entry, None,
     )
 }
 
 /// The numbers 7 and 258 as entries, and four rows with the keys 0, 1, 1 and 0.
-fn numbers(alloc: Global) -> Result<Vec<u8>, Error> {
-    let mut chunk = dictionary(alloc, 2, b"\x07\0\0\0\x02\x01\0\0")?;
-    chunk.append(&mut page(alloc, 4, 8, &[], &[1, 3, 6])?)?;
-    Ok(chunk)
-}
+static NUMBERS: [Page<'static>; 2] = [
+    Entries(2, b"\x07\0\0\0\x02\x01\0\0"),
+    First(4, 8, &[], &[1, 3, 6]),
+];
 
 #[test]
 fn keys_that_name_numbers(rt: HostRuntime) -> Result<(), Fail> {
     let alloc = rt.alloc();
     let stored = PhysicalType::Int32;
-    let read = small_keys_in(alloc, stored, 4, numbers(alloc)?, DataType::Int32)?;
+    let read = small_keys_in(alloc, stored, 4, &NUMBERS, DataType::Int32)?;
     assert_eq!(rt; read.as_slice(), b"78;0110;".as_slice());
-    let read = small_keys_in(alloc, stored, 4, numbers(alloc)?, DataType::UInt8)?;
+    let read = small_keys_in(alloc, stored, 4, &NUMBERS, DataType::UInt8)?;
     assert_eq!(rt; read.as_slice(), b"72;0110;".as_slice());
     Ok(())
 }
 
-/// The dictionary x, and a page of one key of two bits.
-fn one_key(alloc: Global, key: u8) -> Result<Vec<u8>, Error> {
-    let mut chunk = dictionary(alloc, 1, b"x")?;
-    chunk.append(&mut page(alloc, 1, 8, &[], &[2, 3, key])?)?;
-    Ok(chunk)
+/// The error of a chunk of one string of one byte, by keys of 8 bits and a sign.
+fn refused(alloc: Global, pages: &[Page<'_>]) -> Option<Error> {
+    let stored = PhysicalType::FixedLenByteArray(1);
+    small_keys_in(alloc, stored, 1, pages, DataType::FixedSizeBinary(1)).err()
 }
 
-/// The error of such a chunk of strings of one byte.
-fn refused(alloc: Global, chunk: Vec<u8>) -> Option<Error> {
-    let stored = PhysicalType::FixedLenByteArray(1);
-    small_keys_in(alloc, stored, 1, chunk, DataType::FixedSizeBinary(1)).err()
+static REFUSED: [(&[Page<'static>], Option<Error>); 5] = [
+    // One entry, and the keys 0 and 1.
+    (&[Entries(1, b"x"), First(1, 8, &[], &[2, 3, 0])], None),
+    (
+        &[Entries(1, b"x"), First(1, 8, &[], &[2, 3, 1])],
+        Some(Error::OutOfSpec(Part::Dictionary)),
+    ),
+    // No dictionary, and a page of strings behind one.
+    (
+        &[First(1, 8, &[], &[2, 3, 0])],
+        Some(Error::NotYetImplemented(Part::Dictionary)),
+    ),
+    (
+        &[Entries(1, b"x"), First(1, 0, &[], b"x")],
+        Some(Error::NotYetImplemented(Part::Header)),
+    ),
+    // 129 entries, and the key 128. The number twice as large as that of the entries takes two bytes.
+    (
+        &[
+            Bytes(&[
+                0x15, 0x04, 0x15, 0x82, 0x02, 0x15, 0x82, 0x02, 0x4C, 0x15, 0x82, 0x02, 0x15, 0x00,
+                0x00, 0x00,
+            ]),
+            Bytes(&[7; 129]),
+            First(1, 8, &[], &[8, 2, 128]),
+        ],
+        Some(Error::Overflow),
+    ),
+];
+
+fn check_refused(alloc: Global, rows: &[(&[Page<'_>], Option<Error>)]) -> Result<(), Fail> {
+    for (row, (pages, error)) in rows.iter().enumerate() {
+        if refused(alloc, *pages) != *error {
+            return Err(Fail::new(format_args!("row {row} is answered otherwise")));
+        }
+    }
+    Ok(())
 }
 
 #[test]
 fn keys_that_name_nothing(rt: HostRuntime) -> Result<(), Fail> {
-    let alloc = rt.alloc();
-    assert_eq!(rt; refused(alloc, one_key(alloc, 0)?), None);
-    assert_eq!(rt;
-        refused(alloc, one_key(alloc, 1)?),
-        Some(Error::OutOfSpec(Part::Dictionary))
-    );
-    // No dictionary, and a page of strings behind one.
-    let alone = page(alloc, 1, 8, &[], &[2, 3, 0])?;
-    let missing = Error::NotYetImplemented(Part::Dictionary);
-    assert_eq!(rt; refused(alloc, alone), Some(missing));
-    let mut plain = dictionary(alloc, 1, b"x")?;
-    plain.append(&mut page(alloc, 1, 0, &[], b"x")?)?;
-    assert_eq!(rt;
-        refused(alloc, plain),
-        Some(Error::NotYetImplemented(Part::Header))
-    );
-    Ok(())
-}
-
-#[test]
-fn keys_past_their_type(rt: HostRuntime) -> Result<(), Fail> {
-    let alloc = rt.alloc();
-    // 129 entries: the number twice as large takes two bytes.
-    let mut chunk = Vec::new(alloc);
-    chunk.extend_from_slice(&[0x15, 0x04, 0x15, 0x82, 0x02, 0x15, 0x82, 0x02, 0x4C])?;
-    chunk.extend_from_slice(&[0x15, 0x82, 0x02, 0x15, 0x00, 0x00, 0x00])?;
-    chunk.extend_from_slice(&[7; 129])?;
-    chunk.append(&mut page(alloc, 1, 8, &[], &[8, 2, 128])?)?;
-    assert_eq!(rt; refused(alloc, chunk), Some(Error::Overflow));
-    Ok(())
+    check_refused(rt.alloc(), &REFUSED)
 }
 
 #[test]
 fn dictionaries_that_are_not_begun(rt: HostRuntime) -> Result<(), Fail> {
     let alloc = rt.alloc();
     let stored = PhysicalType::Int64;
-    let error = small_keys_in(alloc, stored, 4, Vec::new(alloc), DataType::UInt32).err();
+    let error = small_keys_in(alloc, stored, 4, &[], DataType::UInt32).err();
     assert_eq!(rt; error, Some(Error::NotYetImplemented(Part::Schema)));
     let stored = PhysicalType::ByteArray;
     let required = Repetition::Required;
     let key = IntegerType::Int8;
-    let chunk = Vec::new(alloc);
     let text = DataType::Utf8;
-    let error = keys_in(alloc, stored, required, 4, chunk, key, text, Some(0)).err();
+    let error = keys_in(alloc, stored, required, 4, &[], key, text, Some(0)).err();
     assert_eq!(rt; error, Some(Error::InvalidArgumentError(Part::Request)));
     Ok(())
 }

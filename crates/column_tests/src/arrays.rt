@@ -1,5 +1,5 @@
 //! Arrays of columns, from the bytes of their chunks.
-ghost use Rattle.std.specs.Prelude.{◌≡◌, ◌<◌, IfOk, length};
+ghost use Rattle.std.specs.Prelude.{◌≡◌, ◌<◌, IfOk};
 ghost use Rattle.page_decoding.specs.Column.{DataPagesAre};
 ghost use Rattle.parquet_meta.specs.declared.metadata.PhysicalType.TheVariants.{Boolean, FixedLenByteArray, Int32};
 ghost use Rattle.parquet_page.specs.Indexed.{indexed_pages};
@@ -13,84 +13,99 @@ use flat_values::{
     DaysAndMillis, DaysToMillis, Decimals, FixedNumbers, FixedValues, FlatIter, IntoArray, Keep,
     Months, NumberValues, TruthValues, Values, boolean, fixed_size_binary, null, primitive,
 };
-use pages_for_tests::{column, dictionary, page, page_v2};
+use pages_for_tests::Page::{Entries, First, Second};
+use pages_for_tests::{Page, chunk_of, column};
 use parquet_base::Steps;
+use parquet_meta::Repetition::{Optional, Required};
 use parquet_meta::{PageLocation, PhysicalType, Repetition};
 use parquet_page::{IndexedPageReader, Interval, PageReader, Pages, select_pages};
 use std::alloc::{AllocError, Global};
+use std::fmt::Debug;
 use std::iter::Iterator;
 use std::marker::Brand;
 use std::sync::ledger::{Blank, Ledger};
 use std::test::*;
 
 /// Definition levels of four places, of which the second is null, as a page of the second form has them.
-pub(crate) const LEVELS: [u8; 2] = [0x03, 0x0D];
+pub(crate) const LEVELS: &[u8] = &[0x03, 0x0D];
 
 /// The same behind their length, as a page of the first form has them.
-const LONG_LEVELS: [u8; 6] = [2, 0, 0, 0, 0x03, 0x0D];
+pub(crate) const LONG_LEVELS: &[u8] = &[2, 0, 0, 0, 0x03, 0x0D];
 
 /// Definition levels of four nulls, behind their length.
-const NO_LEVELS: [u8; 6] = [2, 0, 0, 0, 0x08, 0x00];
+const NO_LEVELS: &[u8] = &[2, 0, 0, 0, 0x08, 0x00];
 
-/// The pages of a chunk of so many values.
-pub(crate) fn pages_with(
-    alloc: Global,
-    physical: PhysicalType,
-    repetition: Repetition,
-    num_values: u64,
-    chunk: Vec<u8>,
-) -> Result<PageReader, Error>
-    ensures { IfOk result (λ reader.
-        DataPagesAre (λ page. page.type.physical_type ≡ physical) (reader_pages reader)) }
-{
-    PageReader::new(
-        alloc,
-        chunk,
-        &column(alloc, physical, repetition, num_values),
-    )
-}
+/// A chunk: whether its values are optional, how many there are, and its pages.
+pub(crate) type Stored<'a> = (Repetition, u64, &'a [Page<'a>]);
 
-/// The pages of a chunk of four values.
-fn pages_of(
-    alloc: Global,
-    physical: PhysicalType,
-    repetition: Repetition,
-    chunk: Vec<u8>,
-) -> Result<PageReader, Error>
-    ensures { IfOk result (λ reader.
-        DataPagesAre (λ page. page.type.physical_type ≡ physical) (reader_pages reader)) }
-{
-    pages_with(alloc, physical, repetition, 4, chunk)
-}
+/// Where the pages of a chunk stand: the first byte, the length and the first row of each.
+pub(crate) type Places<'a> = &'a [(i64, i32, i64)];
 
-/// The page at a place of a chunk that has the rows from a first one on.
-pub(crate) fn located(
-    offset: i64,
-    compressed_page_size: i32,
-    first_row_index: i64,
-) -> PageLocation {
-    PageLocation {
-        offset,
-        compressed_page_size,
-        first_row_index,
+/// A chunk, and its rows.
+type Read<'a, T> = (Stored<'a>, Result<&'a [T], Error>);
+
+/// A chunk of four values, where its pages stand, the rows that are selected, and what these are.
+type Selected<'a, T> = (Stored<'a>, Places<'a>, Interval, Result<&'a [T], Error>);
+
+/// Fails where other rows were found than a row of a table has.
+pub(crate) fn check<T: PartialEq + Debug + Copy>(
+    row: usize,
+    found: Result<Vec<T>, Error>,
+    wanted: Result<&[T], Error>,
+) -> Result<(), Fail> {
+    let is_wanted = match (&found, wanted) {
+        (Ok(found), Ok(wanted)) => found.as_slice() == wanted,
+        (Err(found), Err(wanted)) => *found == wanted,
+        _ => false,
+    };
+    if !is_wanted {
+        return Err(Fail::new(format_args!("row {row} is read otherwise")));
     }
+    Ok(())
+}
+
+/// The pages of a chunk.
+pub(crate) fn pages_of(
+    alloc: Global,
+    physical: PhysicalType,
+    stored: Stored<'_>,
+) -> Result<PageReader, Error>
+    ensures { IfOk result (λ reader.
+        DataPagesAre (λ page. page.type.physical_type ≡ physical) (reader_pages reader)) }
+{
+    let (repetition, num_values, pages) = stored;
+    let column = column(alloc, physical, repetition, num_values);
+    PageReader::new(alloc, chunk_of(alloc, pages)?, &column)
+}
+
+fn locations_of(alloc: Global, places: Places<'_>) -> Result<Vec<PageLocation>, AllocError> {
+    let mut locations = Vec::new(alloc);
+    for (offset, compressed_page_size, first_row_index) in places {
+        locations.push(PageLocation {
+            offset: *offset,
+            compressed_page_size: *compressed_page_size,
+            first_row_index: *first_row_index,
+        })?;
+    }
+    Ok(locations)
 }
 
 /// The pages of a chunk of four values that have some of these rows.
 pub(crate) fn located_pages(
     alloc: Global,
     physical: PhysicalType,
-    repetition: Repetition,
-    chunk: Vec<u8>,
-    locations: &[PageLocation],
+    stored: Stored<'_>,
+    places: Places<'_>,
     rows: Interval,
 ) -> Result<IndexedPageReader, Error>
     ensures { IfOk result (λ reader.
         DataPagesAre (λ page. page.type.physical_type ≡ physical) (indexed_pages reader)) }
 {
-    let pages = select_pages(alloc, &[rows], locations, 4)?;
-    let column = column(alloc, physical, repetition, 4);
-    IndexedPageReader::new(alloc, chunk, &column, pages)
+    let (repetition, num_values, pages) = stored;
+    let locations = locations_of(alloc, places)?;
+    let selected = select_pages(alloc, &[rows], &locations, 4)?;
+    let column = column(alloc, physical, repetition, num_values);
+    IndexedPageReader::new(alloc, chunk_of(alloc, pages)?, &column, selected)
 }
 
 /// The first array of a column.
@@ -183,84 +198,72 @@ fn truths_read<I: Pages>(
     Ok(all)
 }
 
-/// The rows of a chunk of truth values.
-fn truths_of(
-    alloc: Global,
-    repetition: Repetition,
-    chunk: Vec<u8>,
-) -> Result<Vec<Option<bool>>, Error> {
-    truths_read(
-        alloc,
-        pages_of(alloc, PhysicalType::Boolean, repetition, chunk)?,
-        4,
-    )
+const YES: Option<bool> = Some(true);
+
+const NO: Option<bool> = Some(false);
+
+static TRUTHS: [Read<'static, Option<bool>>; 5] = [
+    (
+        (Optional, 4, &[First(4, 0, LONG_LEVELS, &[0b101])]),
+        Ok(&[YES, None, NO, YES]),
+    ),
+    (
+        (Optional, 4, &[Second(4, LEVELS, &[0b101])]),
+        Ok(&[YES, None, NO, YES]),
+    ),
+    (
+        (Required, 4, &[First(4, 0, &[], &[0b1101])]),
+        Ok(&[YES, NO, YES, YES]),
+    ),
+    (
+        (Required, 4, &[Second(4, &[], &[0b1101])]),
+        Ok(&[YES, NO, YES, YES]),
+    ),
+    (
+        (Required, 8, &[First(8, 0, &[], &[0x5B])]),
+        Ok(&[YES, YES, NO, YES, YES, NO, YES, NO]),
+    ),
+];
+
+fn check_truths(alloc: Global, reads: &[Read<'_, Option<bool>>]) -> Result<(), Fail> {
+    for (row, (stored, wanted)) in reads.iter().enumerate() {
+        let pages = pages_of(alloc, PhysicalType::Boolean, *stored)?;
+        check(row, truths_read(alloc, pages, stored.1 as usize), *wanted)?;
+    }
+    Ok(())
 }
 
-#[test]
-fn optional_truth_values(rt: HostRuntime) -> Result<(), Fail> {
-    let alloc = rt.alloc();
-    let rows = [Some(true), None, Some(false), Some(true)];
-    let chunk = page(alloc, 4, 0, &LONG_LEVELS, &[0b101])?;
-    let read = truths_of(alloc, Repetition::Optional, chunk)?;
-    assert_eq!(rt; read.as_slice(), rows.as_slice());
-    let chunk = page_v2(alloc, 4, &LEVELS, &[0b101])?;
-    let read = truths_of(alloc, Repetition::Optional, chunk)?;
-    assert_eq!(rt; read.as_slice(), rows.as_slice());
+static SELECTED_TRUTHS: [Selected<'static, Option<bool>>; 1] = [(
+    (Optional, 4, &[First(4, 0, LONG_LEVELS, &[0b101])]),
+    &[(0, 24, 0)],
+    Interval {
+        start: 1,
+        length: 2,
+    },
+    Ok(&[None, NO]),
+)];
+
+fn check_selected_truths(alloc: Global, reads: &[Selected<'_, Option<bool>>]) -> Result<(), Fail> {
+    for (row, (stored, places, rows, wanted)) in reads.iter().enumerate() {
+        let pages = located_pages(alloc, PhysicalType::Boolean, *stored, *places, *rows)?;
+        check(row, truths_read(alloc, pages, 4), *wanted)?;
+    }
     Ok(())
 }
 
 #[test]
-fn required_truth_values(rt: HostRuntime) -> Result<(), Fail> {
-    let alloc = rt.alloc();
-    let rows = [Some(true), Some(false), Some(true), Some(true)];
-    let chunk = page(alloc, 4, 0, &[], &[0b1101])?;
-    let read = truths_of(alloc, Repetition::Required, chunk)?;
-    assert_eq!(rt; read.as_slice(), rows.as_slice());
-    let chunk = page_v2(alloc, 4, &[], &[0b1101])?;
-    let read = truths_of(alloc, Repetition::Required, chunk)?;
-    assert_eq!(rt; read.as_slice(), rows.as_slice());
-    Ok(())
+fn truth_values(rt: HostRuntime) -> Result<(), Fail> {
+    check_truths(rt.alloc(), &TRUTHS)?;
+    check_selected_truths(rt.alloc(), &SELECTED_TRUTHS)
 }
 
 #[test]
-fn selected_truth_values(rt: HostRuntime) -> Result<(), Fail> {
+fn truth_values_of_another_type(rt: HostRuntime) -> Result<(), Fail> {
     let alloc = rt.alloc();
-    let chunk = page(alloc, 4, 0, &LONG_LEVELS, &[0b101])?;
-    let locations = [located(0, 24, 0)];
-    let pages = located_pages(
-        alloc,
-        PhysicalType::Boolean,
-        Repetition::Optional,
-        chunk,
-        &locations,
-        Interval::new(1, 2),
-    )?;
+    let pages = pages_of(alloc, PhysicalType::Boolean, (Optional, 4, &[]))?;
     assert_eq!(rt;
-        truths_read(alloc, pages, 4)?.as_slice(),
-        [None, Some(false)].as_slice()
-    );
-    let none = pages_of(
-        alloc,
-        PhysicalType::Boolean,
-        Repetition::Optional,
-        Vec::new(alloc),
-    )?;
-    assert_eq!(rt;
-        boolean::Iter::new(alloc, none, DataType::Int32, None, 4).err(),
+        boolean::Iter::new(alloc, pages, DataType::Int32, None, 4).err(),
         Some(Error::InvalidArgumentError(Part::Request))
-    );
-    Ok(())
-}
-
-#[test]
-fn eight_truth_values(rt: HostRuntime) -> Result<(), Fail> {
-    let alloc = rt.alloc();
-    let chunk = page(alloc, 8, 0, &[], &[0x5B])?;
-    let pages = pages_with(alloc, PhysicalType::Boolean, Repetition::Required, 8, chunk)?;
-    let (yes, no) = (Some(true), Some(false));
-    assert_eq!(rt;
-        truths_read(alloc, pages, 8)?.as_slice(),
-        [yes, yes, no, yes, yes, no, yes, no].as_slice()
     );
     Ok(())
 }
@@ -279,86 +282,97 @@ fn strings_read<I: Pages>(alloc: Global, pages: I) -> Result<Vec<u8>, Error>
 
 const STRINGS: PhysicalType = PhysicalType::FixedLenByteArray(2);
 
-/// The rows of a chunk of byte strings of two bytes, joined.
-fn strings_of(alloc: Global, repetition: Repetition, chunk: Vec<u8>) -> Result<Vec<u8>, Error> {
-    strings_read(alloc, pages_of(alloc, STRINGS, repetition, chunk)?)
-}
+/// A page of the keys 0 and 1, of one bit each.
+const TWO_KEYS: Page<'static> = First(2, 8, &[], &[1, 3, 2]);
 
-#[test]
-fn plain_byte_strings(rt: HostRuntime) -> Result<(), Fail> {
-    let alloc = rt.alloc();
-    let values = [0, 1, 0, 2, 1, 1, 1, 2];
-    let chunk = page(alloc, 4, 0, &[], &values)?;
-    let read = strings_of(alloc, Repetition::Required, chunk)?;
-    assert_eq!(rt; read.as_slice(), values.as_slice());
-    let chunk = page_v2(alloc, 4, &LEVELS, &values[..6])?;
-    let read = strings_of(alloc, Repetition::Optional, chunk)?;
-    assert_eq!(rt; read.as_slice(), [0, 1, 0xFF, 0, 2, 1, 1].as_slice());
+/// A page of the keys 1 and 1.
+const EQUAL_KEYS: Page<'static> = First(2, 8, &[], &[1, 3, 3]);
+
+/// A page of keys that are all null.
+const NO_KEYS: Page<'static> = First(4, 8, NO_LEVELS, &[]);
+
+static STRINGS_READ: [Read<'static, u8>; 5] = [
+    (
+        (Required, 4, &[First(4, 0, &[], &[0, 1, 0, 2, 1, 1, 1, 2])]),
+        Ok(&[0, 1, 0, 2, 1, 1, 1, 2]),
+    ),
+    (
+        (Optional, 4, &[Second(4, LEVELS, &[0, 1, 0, 2, 1, 1])]),
+        Ok(&[0, 1, 0xFF, 0, 2, 1, 1]),
+    ),
+    (
+        (
+            Required,
+            4,
+            &[Entries(2, &[0, 1, 0, 2]), TWO_KEYS, EQUAL_KEYS],
+        ),
+        Ok(&[0, 1, 0, 2, 0, 2, 0, 2]),
+    ),
+    (
+        (Optional, 4, &[Entries(2, &[5, 0, 9, 0]), NO_KEYS]),
+        Ok(&[0xFF; 4]),
+    ),
+    // A byte is missing.
+    (
+        (Optional, 4, &[Entries(2, &[5, 0, 9]), NO_KEYS]),
+        Err(Error::ExternalFormat(Part::Dictionary)),
+    ),
+];
+
+fn check_strings(alloc: Global, reads: &[Read<'_, u8>]) -> Result<(), Fail> {
+    for (row, (stored, wanted)) in reads.iter().enumerate() {
+        let pages = pages_of(alloc, STRINGS, *stored)?;
+        check(row, strings_read(alloc, pages), *wanted)?;
+    }
     Ok(())
 }
 
-#[test]
-fn byte_strings_by_keys(rt: HostRuntime) -> Result<(), Fail> {
-    let alloc = rt.alloc();
-    let chunk = keys_of_two(alloc, &[0, 1, 0, 2])?;
-    let read = strings_of(alloc, Repetition::Required, chunk)?;
-    assert_eq!(rt; read.as_slice(), [0, 1, 0, 2, 0, 2, 0, 2].as_slice());
-    Ok(())
-}
-
-/// A dictionary of two entries of a size, and two pages of two keys of one bit each: 0 and 1, and 1 and 1.
-fn keys_of_two(alloc: Global, entries: &[u8]) -> Result<Vec<u8>, AllocError>
-    requires { length entries.now < 64 }
-{
-    let mut chunk = dictionary(alloc, 2, entries)?;
-    chunk.append(&mut page(alloc, 2, 8, &[], &[1, 3, 2])?)?;
-    chunk.append(&mut page(alloc, 2, 8, &[], &[1, 3, 3])?)?;
-    Ok(chunk)
-}
-
-#[test]
-fn selected_byte_strings(rt: HostRuntime) -> Result<(), Fail> {
-    let alloc = rt.alloc();
+static SELECTED_STRINGS: [Selected<'static, u8>; 2] = [
     // A dictionary, though the pages are plain.
-    let mut chunk = dictionary(alloc, 1, &[0, 9])?;
-    chunk.append(&mut page(alloc, 2, 0, &[], &[0, 1, 0, 2])?)?;
-    chunk.append(&mut page(alloc, 2, 0, &[], &[1, 1, 1, 2])?)?;
-    let locations = [located(15, 21, 0), located(36, 21, 2)];
-    let rows = Interval::new(0, 2);
-    let pages = located_pages(
-        alloc,
-        STRINGS,
-        Repetition::Required,
-        chunk,
-        &locations,
-        rows,
-    )?;
-    assert_eq!(rt;
-        strings_read(alloc, pages)?.as_slice(),
-        [0, 1, 0, 2].as_slice()
-    );
+    (
+        (
+            Required,
+            4,
+            &[
+                Entries(1, &[0, 9]),
+                First(2, 0, &[], &[0, 1, 0, 2]),
+                First(2, 0, &[], &[1, 1, 1, 2]),
+            ],
+        ),
+        &[(15, 21, 0), (36, 21, 2)],
+        Interval {
+            start: 0,
+            length: 2,
+        },
+        Ok(&[0, 1, 0, 2]),
+    ),
+    (
+        (
+            Required,
+            4,
+            &[Entries(2, &[0, 1, 0, 2]), TWO_KEYS, EQUAL_KEYS],
+        ),
+        &[(17, 20, 0), (37, 20, 2)],
+        Interval {
+            start: 0,
+            length: 3,
+        },
+        Ok(&[0, 1, 0, 2, 0, 2]),
+    ),
+];
+
+fn check_selected_strings(alloc: Global, reads: &[Selected<'_, u8>]) -> Result<(), Fail> {
+    for (row, (stored, places, rows, wanted)) in reads.iter().enumerate() {
+        let pages = located_pages(alloc, STRINGS, *stored, *places, *rows)?;
+        check(row, strings_read(alloc, pages), *wanted)?;
+    }
     Ok(())
 }
 
 #[test]
-fn selected_byte_strings_by_keys(rt: HostRuntime) -> Result<(), Fail> {
-    let alloc = rt.alloc();
-    let chunk = keys_of_two(alloc, &[0, 1, 0, 2])?;
-    let locations = [located(17, 20, 0), located(37, 20, 2)];
-    let rows = Interval::new(0, 3);
-    let pages = located_pages(
-        alloc,
-        STRINGS,
-        Repetition::Required,
-        chunk,
-        &locations,
-        rows,
-    )?;
-    assert_eq!(rt;
-        strings_read(alloc, pages)?.as_slice(),
-        [0, 1, 0, 2, 0, 2].as_slice()
-    );
-    Ok(())
+fn byte_strings(rt: HostRuntime) -> Result<(), Fail> {
+    check_strings(rt.alloc(), &STRINGS_READ)?;
+    check_selected_strings(rt.alloc(), &SELECTED_STRINGS)
 }
 
 /// The rows of a column of INT32, in arrays of three.
@@ -380,164 +394,109 @@ fn numbers_read<I: Pages>(alloc: Global, pages: I) -> Result<Vec<Option<i32>>, E
     Ok(all)
 }
 
-/// The rows of a chunk of INT32.
-fn numbers_of(
-    alloc: Global,
-    repetition: Repetition,
-    chunk: Vec<u8>,
-) -> Result<Vec<Option<i32>>, Error> {
-    numbers_read(
-        alloc,
-        pages_of(alloc, PhysicalType::Int32, repetition, chunk)?,
-    )
-}
+/// The numbers 7, 8 and 9.
+const NUMBERS: &[u8] = &[7, 0, 0, 0, 8, 0, 0, 0, 9, 0, 0, 0];
 
-#[test]
-fn plain_numbers(rt: HostRuntime) -> Result<(), Fail> {
-    let alloc = rt.alloc();
-    let values = [7, 0, 0, 0, 8, 0, 0, 0, 9, 0, 0, 0];
-    let chunk = page(alloc, 4, 0, &LONG_LEVELS, &values)?;
-    let read = numbers_of(alloc, Repetition::Optional, chunk)?;
-    assert_eq!(rt;
-        read.as_slice(),
-        [Some(7), None, Some(8), Some(9)].as_slice()
-    );
+/// The numbers 5 and 9.
+const ENTRIES: &[u8] = &[5, 0, 0, 0, 9, 0, 0, 0];
+
+static NUMBERS_READ: [Read<'static, Option<i32>>; 10] = [
+    (
+        (Optional, 4, &[First(4, 0, LONG_LEVELS, NUMBERS)]),
+        Ok(&[Some(7), None, Some(8), Some(9)]),
+    ),
     // A value is missing.
-    let chunk = page(alloc, 4, 0, &LONG_LEVELS, &values[..8])?;
-    let refused = numbers_of(alloc, Repetition::Optional, chunk).err();
-    assert_eq!(rt; refused, Some(Error::ExternalFormat(Part::Values)));
-    Ok(())
-}
-
-#[test]
-fn numbers_by_their_differences(rt: HostRuntime) -> Result<(), Fail> {
-    let alloc = rt.alloc();
-    // The numbers from 1 to 5, of which four are read.
-    let values = [0x80, 1, 4, 5, 2, 2, 0, 0, 0, 0];
-    let chunk = page(alloc, 5, 5, &[], &values)?;
-    let pages = pages_with(alloc, PhysicalType::Int32, Repetition::Required, 5, chunk)?;
-    assert_eq!(rt;
-        numbers_read(alloc, pages)?.as_slice(),
-        [Some(1), Some(2), Some(3), Some(4)].as_slice()
-    );
-    Ok(())
-}
-
-/// What a chunk of INT32 is refused by.
-fn refusal_of(alloc: Global, repetition: Repetition, chunk: Vec<u8>) -> Option<Error> {
-    numbers_of(alloc, repetition, chunk).err()
-}
-
-#[test]
-fn parts_that_refusals_name(rt: HostRuntime) -> Result<(), Fail> {
-    let alloc = rt.alloc();
-    let (optional, required) = (Repetition::Optional, Repetition::Required);
+    (
+        (Optional, 4, &[First(4, 0, LONG_LEVELS, ENTRIES)]),
+        Err(Error::ExternalFormat(Part::Values)),
+    ),
+    // The differences of the numbers from 1 to 5, of which four are read.
+    (
+        (
+            Required,
+            5,
+            &[First(5, 5, &[], &[0x80, 1, 4, 5, 2, 2, 0, 0, 0, 0])],
+        ),
+        Ok(&[Some(1), Some(2), Some(3), Some(4)]),
+    ),
     // A chunk that ends before its values have come.
-    assert_eq!(rt;
-        refusal_of(alloc, required, Vec::new(alloc)),
-        Some(Error::ExternalFormat(Part::Chunk))
-    );
+    ((Required, 4, &[]), Err(Error::ExternalFormat(Part::Chunk))),
     // An encoding that is not read, and keys without a dictionary.
-    for encoding in [7, 8] {
-        let chunk = page(alloc, 4, encoding, &[], &[])?;
-        assert_eq!(rt;
-            refusal_of(alloc, required, chunk),
-            Some(Error::NotYetImplemented(Part::Header))
-        );
-    }
+    (
+        (Required, 4, &[First(4, 7, &[], &[])]),
+        Err(Error::NotYetImplemented(Part::Header)),
+    ),
+    (
+        (Required, 4, &[First(4, 8, &[], &[])]),
+        Err(Error::NotYetImplemented(Part::Header)),
+    ),
     // Levels that are longer than the page.
-    let chunk = page(alloc, 4, 0, &[9, 0, 0, 0], &[])?;
-    assert_eq!(rt;
-        refusal_of(alloc, optional, chunk),
-        Some(Error::ExternalFormat(Part::Levels))
-    );
-    // Two keys of one bit, 0 and 1, over one entry.
-    let mut chunk = dictionary(alloc, 1, &[5, 0, 0, 0])?;
-    chunk.append(&mut page(alloc, 2, 8, &[], &[1, 3, 2])?)?;
-    assert_eq!(rt;
-        refusal_of(alloc, required, chunk),
-        Some(Error::OutOfSpec(Part::Dictionary))
-    );
-    Ok(())
-}
-
-#[test]
-fn a_located_page_that_ends_early_is_refused_by_its_location(rt: HostRuntime) -> Result<(), Fail> {
-    let alloc = rt.alloc();
-    let chunk = page(
-        alloc,
-        4,
-        0,
-        &[],
-        &[1, 0, 0, 0, 2, 0, 0, 0, 3, 0, 0, 0, 4, 0, 0, 0],
-    )?;
-    let pages = located_pages(
-        alloc,
-        PhysicalType::Int32,
-        Repetition::Required,
-        chunk,
-        &[located(0, 32, 0)],
-        Interval::new(0, 4),
-    )?;
-    assert_eq!(rt;
-        numbers_read(alloc, pages).err(),
-        Some(Error::ExternalFormat(Part::Location))
-    );
-    Ok(())
-}
-
-#[test]
-fn selected_numbers_by_keys(rt: HostRuntime) -> Result<(), Fail> {
-    let alloc = rt.alloc();
-    let chunk = keys_of_two(alloc, &[5, 0, 0, 0, 9, 0, 0, 0])?;
-    let locations = [located(21, 20, 0), located(41, 20, 2)];
-    let rows = Interval::new(0, 2);
-    let pages = located_pages(
-        alloc,
-        PhysicalType::Int32,
-        Repetition::Required,
-        chunk,
-        &locations,
-        rows,
-    )?;
-    let read = numbers_read(alloc, pages)?;
-    assert_eq!(rt; read.as_slice(), [Some(5), Some(9)].as_slice());
-    Ok(())
-}
-
-/// A dictionary of two entries, and a page of keys that are all null.
-fn no_keys(alloc: Global, entries: &[u8]) -> Result<Vec<u8>, AllocError>
-    requires { length entries.now < 64 }
-{
-    let mut chunk = dictionary(alloc, 2, entries)?;
-    chunk.append(&mut page(alloc, 4, 8, &NO_LEVELS, &[])?)?;
-    Ok(chunk)
-}
-
-#[test]
-fn dictionaries_of_numbers(rt: HostRuntime) -> Result<(), Fail> {
-    let alloc = rt.alloc();
-    let entries = [5, 0, 0, 0, 9, 0, 0, 0];
-    let read = numbers_of(alloc, Repetition::Optional, no_keys(alloc, &entries)?)?;
-    assert_eq!(rt; read.as_slice(), [None; 4].as_slice());
+    (
+        (Optional, 4, &[First(4, 0, &[9, 0, 0, 0], &[])]),
+        Err(Error::ExternalFormat(Part::Levels)),
+    ),
+    // The keys 0 and 1, over one entry.
+    (
+        (Required, 4, &[Entries(1, &[5, 0, 0, 0]), TWO_KEYS]),
+        Err(Error::OutOfSpec(Part::Dictionary)),
+    ),
+    (
+        (Optional, 4, &[Entries(2, ENTRIES), NO_KEYS]),
+        Ok(&[None; 4]),
+    ),
     // A byte is missing.
-    let chunk = no_keys(alloc, &entries[..7])?;
-    let refused = numbers_of(alloc, Repetition::Optional, chunk).err();
-    assert_eq!(rt; refused, Some(Error::ExternalFormat(Part::Dictionary)));
+    (
+        (Optional, 4, &[Entries(2, &[5, 0, 0, 0, 9, 0, 0]), NO_KEYS]),
+        Err(Error::ExternalFormat(Part::Dictionary)),
+    ),
+];
+
+fn check_numbers(alloc: Global, reads: &[Read<'_, Option<i32>>]) -> Result<(), Fail> {
+    for (row, (stored, wanted)) in reads.iter().enumerate() {
+        let pages = pages_of(alloc, PhysicalType::Int32, *stored)?;
+        check(row, numbers_read(alloc, pages), *wanted)?;
+    }
+    Ok(())
+}
+
+static SELECTED_NUMBERS: [Selected<'static, Option<i32>>; 2] = [
+    // A page that ends before its location does.
+    (
+        (
+            Required,
+            4,
+            &[First(4, 0, &[], &[1, 0, 0, 0, 2, 0, 0, 0, 3, 0, 0, 0, 4, 0, 0, 0])],
+        ),
+        &[(0, 32, 0)],
+        Interval {
+            start: 0,
+            length: 4,
+        },
+        Err(Error::ExternalFormat(Part::Location)),
+    ),
+    (
+        (Required, 4, &[Entries(2, ENTRIES), TWO_KEYS, EQUAL_KEYS]),
+        &[(21, 20, 0), (41, 20, 2)],
+        Interval {
+            start: 0,
+            length: 2,
+        },
+        Ok(&[Some(5), Some(9)]),
+    ),
+];
+
+fn check_selected_numbers(alloc: Global, reads: &[Selected<'_, Option<i32>>]) -> Result<(), Fail> {
+    for (row, (stored, places, rows, wanted)) in reads.iter().enumerate() {
+        let pages = located_pages(alloc, PhysicalType::Int32, *stored, *places, *rows)?;
+        check(row, numbers_read(alloc, pages), *wanted)?;
+    }
     Ok(())
 }
 
 #[test]
-fn dictionaries_of_byte_strings(rt: HostRuntime) -> Result<(), Fail> {
-    let alloc = rt.alloc();
-    let entries = [5, 0, 9, 0];
-    let read = strings_of(alloc, Repetition::Optional, no_keys(alloc, &entries)?)?;
-    assert_eq!(rt; read.as_slice(), [0xFF; 4].as_slice());
-    // A byte is missing.
-    let chunk = no_keys(alloc, &entries[..3])?;
-    let refused = strings_of(alloc, Repetition::Optional, chunk).err();
-    assert_eq!(rt; refused, Some(Error::ExternalFormat(Part::Dictionary)));
-    Ok(())
+fn numbers_of_chunks(rt: HostRuntime) -> Result<(), Fail> {
+    check_numbers(rt.alloc(), &NUMBERS_READ)?;
+    check_selected_numbers(rt.alloc(), &SELECTED_NUMBERS)
 }
 
 /// The rows of the first array of a column of numbers.
@@ -557,59 +516,63 @@ fn numbers_by<T: NativeType, V: IntoArray<Array = MutablePrimitiveArray<T>> + Dr
 
 const DECIMAL: DataType = DataType::Decimal(5, 2);
 
-#[test]
-fn plain_decimals(rt: HostRuntime) -> Result<(), Fail> {
-    let alloc = rt.alloc();
+/// The decimals of a chunk of byte strings of two bytes.
+fn decimals_of(alloc: Global, stored: Stored<'_>) -> Result<Vec<Option<i128>>, Error> {
     let decimals: FixedNumbers<i128, Decimals> = FixedNumbers::new(Decimals::new(2));
-    let values = [0xFF, 0x85, 0x00, 0x7B, 0x01, 0x00];
-    let chunk = page(alloc, 4, 0, &LONG_LEVELS, &values)?;
-    let pages = pages_of(alloc, STRINGS, Repetition::Optional, chunk)?;
-    let read = numbers_by(alloc, pages, decimals, DECIMAL)?;
-    assert_eq!(rt;
-        read.as_slice(),
-        [Some(-123), None, Some(123), Some(256)].as_slice()
-    );
+    numbers_by(alloc, pages_of(alloc, STRINGS, stored)?, decimals, DECIMAL)
+}
+
+static DECIMALS: [Read<'static, Option<i128>>; 2] = [
+    (
+        (
+            Optional,
+            4,
+            &[First(4, 0, LONG_LEVELS, &[0xFF, 0x85, 0x00, 0x7B, 0x01, 0x00])],
+        ),
+        Ok(&[Some(-123), None, Some(123), Some(256)]),
+    ),
+    (
+        (
+            Required,
+            4,
+            &[Entries(2, &[0xFF, 0x85, 0x00, 0x7B]), TWO_KEYS, EQUAL_KEYS],
+        ),
+        Ok(&[Some(-123), Some(123), Some(123), Some(123)]),
+    ),
+];
+
+fn check_decimals(alloc: Global, reads: &[Read<'_, Option<i128>>]) -> Result<(), Fail> {
+    for (row, (stored, wanted)) in reads.iter().enumerate() {
+        check(row, decimals_of(alloc, *stored), *wanted)?;
+    }
     Ok(())
 }
 
 #[test]
-fn decimals_by_keys(rt: HostRuntime) -> Result<(), Fail> {
-    let alloc = rt.alloc();
-    let decimals: FixedNumbers<i128, Decimals> = FixedNumbers::new(Decimals::new(2));
-    let chunk = keys_of_two(alloc, &[0xFF, 0x85, 0x00, 0x7B])?;
-    let pages = pages_of(alloc, STRINGS, Repetition::Required, chunk)?;
-    let read = numbers_by(alloc, pages, decimals, DECIMAL)?;
-    assert_eq!(rt;
-        read.as_slice(),
-        [Some(-123), Some(123), Some(123), Some(123)].as_slice()
-    );
-    let empty = empty_array(alloc, decimals, DECIMAL)?.ok_or("none")?;
-    assert!(rt; numbers(alloc, empty)?.is_empty());
-    Ok(())
+fn decimals(rt: HostRuntime) -> Result<(), Fail> {
+    check_decimals(rt.alloc(), &DECIMALS)
 }
 
 const INTERVALS: PhysicalType = PhysicalType::FixedLenByteArray(12);
 
 /// Two intervals, and a null behind each of them.
-fn intervals(alloc: Global) -> Result<PageReader, Error>
-    ensures { IfOk result (λ reader.
-        DataPagesAre (λ page. page.type.physical_type ≡ FixedLenByteArray 12) (reader_pages reader)) }
-{
-    let values = [
+static TWO_INTERVALS: [Page<'static>; 1] = [First(
+    4,
+    0,
+    &[2, 0, 0, 0, 0x03, 0x05],
+    &[
         0, 0, 0, 0, 3, 0, 0, 0, 0xE8, 3, 0, 0, 7, 0, 0, 0, 0xFF, 0xFF, 0xFF, 0xFF, 0, 0, 0, 0,
-    ];
-    let chunk = page(alloc, 4, 0, &[2, 0, 0, 0, 0x03, 0x05], &values)?;
-    pages_of(alloc, INTERVALS, Repetition::Optional, chunk)
-}
+    ],
+)];
 
 #[test]
 fn months(rt: HostRuntime) -> Result<(), Fail> {
     let alloc = rt.alloc();
     let months: FixedNumbers<i32, Months> = FixedNumbers::new(Months);
     let data_type = DataType::Interval(IntervalUnit::YearMonth);
-    let read = numbers_by(alloc, intervals(alloc)?, months, data_type)?;
-    assert_eq!(rt; read.as_slice(), [Some(0), None, Some(7), None].as_slice());
-    Ok(())
+    let pages = pages_of(alloc, INTERVALS, (Optional, 4, &TWO_INTERVALS))?;
+    let found = numbers_by(alloc, pages, months, data_type);
+    check(0, found, Ok(&[Some(0), None, Some(7), None]))
 }
 
 #[test]
@@ -617,19 +580,33 @@ fn days_and_milliseconds(rt: HostRuntime) -> Result<(), Fail> {
     let alloc = rt.alloc();
     let days: FixedNumbers<days_ms, DaysAndMillis> = FixedNumbers::new(DaysAndMillis);
     let data_type = DataType::Interval(IntervalUnit::DayTime);
-    let read = numbers_by(alloc, intervals(alloc)?, days, data_type)?;
-    assert_eq!(rt;
-        read.as_slice(),
-        [Some(days_ms(3, 1000)), None, Some(days_ms(-1, 0)), None].as_slice()
-    );
-    Ok(())
+    let pages = pages_of(alloc, INTERVALS, (Optional, 4, &TWO_INTERVALS))?;
+    let found = numbers_by(alloc, pages, days, data_type);
+    let wanted = [Some(days_ms(3, 1000)), None, Some(days_ms(-1, 0)), None];
+    check(0, found, Ok(&wanted))
 }
+
+/// A page of the numbers 7, 8 and 9, the second of its four rows null.
+static SOME_NUMBERS: [Page<'static>; 1] = [First(4, 0, LONG_LEVELS, NUMBERS)];
+
+#[test]
+fn days_as_milliseconds(rt: HostRuntime) -> Result<(), Fail> {
+    let alloc = rt.alloc();
+    let days: NumberValues<i32, i64, DaysToMillis> = NumberValues::new(DaysToMillis);
+    let pages = pages_of(alloc, PhysicalType::Int32, (Optional, 4, &SOME_NUMBERS))?;
+    let found = numbers_by(alloc, pages, days, DataType::Date64);
+    let day = 86_400_000;
+    let wanted = [Some(7 * day), None, Some(8 * day), Some(9 * day)];
+    check(0, found, Ok(&wanted))
+}
+
+/// A page of four truth values.
+static FOUR_TRUTHS: [Page<'static>; 1] = [First(4, 0, &[], &[0b1101])];
 
 #[test]
 fn arrays_of_truth_values(rt: HostRuntime) -> Result<(), Fail> {
     let alloc = rt.alloc();
-    let chunk = page(alloc, 4, 0, &[], &[0b1101])?;
-    let pages = pages_of(alloc, PhysicalType::Boolean, Repetition::Required, chunk)?;
+    let pages = pages_of(alloc, PhysicalType::Boolean, (Required, 4, &FOUR_TRUTHS))?;
     let array = first_array(alloc, pages, TruthValues, DataType::Boolean)?.ok_or("none")?;
     assert_eq!(rt; array.len(), 4);
     let empty = empty_array(alloc, TruthValues, DataType::Boolean)?.ok_or("none")?;
@@ -637,12 +614,14 @@ fn arrays_of_truth_values(rt: HostRuntime) -> Result<(), Fail> {
     Ok(())
 }
 
+/// A page of four byte strings of two bytes.
+static FOUR_STRINGS: [Page<'static>; 1] = [First(4, 0, &[], &[0, 1, 0, 2, 1, 1, 1, 2])];
+
 #[test]
 fn arrays_of_byte_strings(rt: HostRuntime) -> Result<(), Fail> {
     let alloc = rt.alloc();
     let pairs = FixedValues::new(2);
-    let chunk = page(alloc, 4, 0, &[], &[0, 1, 0, 2, 1, 1, 1, 2])?;
-    let pages = pages_of(alloc, STRINGS, Repetition::Required, chunk)?;
+    let pages = pages_of(alloc, STRINGS, (Required, 4, &FOUR_STRINGS))?;
     let array = first_array(alloc, pages, pairs, DataType::FixedSizeBinary(2))?.ok_or("none")?;
     assert_eq!(rt; array.len(), 4);
     let empty = empty_array(alloc, pairs, DataType::FixedSizeBinary(2))?.ok_or("none")?;
@@ -652,23 +631,12 @@ fn arrays_of_byte_strings(rt: HostRuntime) -> Result<(), Fail> {
 }
 
 #[test]
-fn arrays_of_numbers(rt: HostRuntime) -> Result<(), Fail> {
+fn arrays_of_no_numbers(rt: HostRuntime) -> Result<(), Fail> {
     let alloc = rt.alloc();
+    let decimals: FixedNumbers<i128, Decimals> = FixedNumbers::new(Decimals::new(2));
+    let empty = empty_array(alloc, decimals, DECIMAL)?.ok_or("none")?;
+    assert!(rt; numbers(alloc, empty)?.is_empty());
     let days: NumberValues<i32, i64, DaysToMillis> = NumberValues::new(DaysToMillis);
-    let chunk = page(
-        alloc,
-        4,
-        0,
-        &LONG_LEVELS,
-        &[1, 0, 0, 0, 2, 0, 0, 0, 3, 0, 0, 0],
-    )?;
-    let pages = pages_of(alloc, PhysicalType::Int32, Repetition::Optional, chunk)?;
-    let read = numbers_by(alloc, pages, days, DataType::Date64)?;
-    let day = 86_400_000;
-    assert_eq!(rt;
-        read.as_slice(),
-        [Some(day), None, Some(2 * day), Some(3 * day)].as_slice()
-    );
     let empty = empty_array(alloc, days, DataType::Date64)?.ok_or("none")?;
     assert!(rt; numbers(alloc, empty)?.is_empty());
     Ok(())
@@ -677,7 +645,7 @@ fn arrays_of_numbers(rt: HostRuntime) -> Result<(), Fail> {
 /// Two pages of 100 rows each, of no bytes that are a page.
 fn two_pages(alloc: Global) -> Result<IndexedPageReader, Error> {
     let rows = [Interval::new(0, 200)];
-    let locations = [located(0, 9, 0), located(9, 9, 100)];
+    let locations = locations_of(alloc, &[(0, 9, 0), (9, 9, 100)])?;
     let pages = select_pages(alloc, &rows, &locations, 200)?;
     let chunk = vec![in alloc; 0; 18]?;
     let column = column(alloc, PhysicalType::Int32, Repetition::Optional, 4);

@@ -1,35 +1,30 @@
 //! Columns of keys, read into arrays of dictionaries from the bytes of their chunks.
-ghost use Rattle.std.specs.Prelude.{◌≡◌, ◌<◌, true, length, IfOk};
+ghost use Rattle.std.specs.Prelude.{◌≡◌, true, IfOk};
 ghost use Rattle.parquet_page.specs.Lending.{has_data_behind};
 ghost use Rattle.parquet_page.specs.Reader.{reader_pages};
 
+use crate::arrays::{LONG_LEVELS, Stored, check};
 use crate::texts::push_cells;
 use binary_values::ByteValues;
 use columns_core::{Boxed, DataType, DictionaryArray, Error, IntegerType, Part};
 use dictionary_values::{StoredKey, binary, fixed_size_binary};
 use flat_values::FixedValues;
-use pages_for_tests::{column, dictionary, page};
-use parquet_meta::{PhysicalType, Repetition};
+use pages_for_tests::Page::{Bytes, Entries, First};
+use pages_for_tests::{Page, chunk_of, column};
+use parquet_meta::PhysicalType;
+use parquet_meta::Repetition::{Optional, Required};
 use parquet_page::{PageReader, Pages};
 use std::alloc::Global;
 use std::iter::Iterator;
 use std::test::*;
 
-/// The pages of a chunk of so many values.
-fn pages_of(
-    alloc: Global,
-    physical: PhysicalType,
-    repetition: Repetition,
-    num_values: u64,
-    chunk: Vec<u8>,
-) -> Result<PageReader, Error>
+/// The pages of a chunk.
+fn pages_of(alloc: Global, physical: PhysicalType, stored: Stored<'_>) -> Result<PageReader, Error>
     ensures { IfOk result (λ reader. has_data_behind (reader_pages reader) ≡ true) }
 {
-    PageReader::new(
-        alloc,
-        chunk,
-        &column(alloc, physical, repetition, num_values),
-    )
+    let (repetition, num_values, pages) = stored;
+    let column = column(alloc, physical, repetition, num_values);
+    PageReader::new(alloc, chunk_of(alloc, pages)?, &column)
 }
 
 /// The entries of an array, and its keys as digits, a null as a dash.
@@ -71,67 +66,64 @@ fn texts_read<K: StoredKey, I: Pages>(
     Ok(all)
 }
 
-/// The rows of a chunk of so many required values, by keys without a sign.
-fn texts_of(alloc: Global, num_values: u64, chunk: Vec<u8>) -> Result<Vec<u8>, Error> {
-    let pages = pages_of(
-        alloc,
-        PhysicalType::ByteArray,
-        Repetition::Required,
-        num_values,
-        chunk,
-    )?;
+/// The entries x and y.
+const TWO: Page<'static> = Entries(2, b"\x01\0\0\0x\x01\0\0\0y");
+
+/// The entries x, y and z.
+const THREE: Page<'static> = Entries(3, b"\x01\0\0\0x\x01\0\0\0y\x01\0\0\0z");
+
+/// The keys 0, 1 and 1, and a null behind the first of them.
+const SOME_KEYS: Page<'static> = First(4, 8, LONG_LEVELS, &[1, 3, 6]);
+
+static TEXTS: [(Stored<'static>, Result<&[u8], Error>); 4] = [
+    // The keys 2 and 0, of two bits each: an array has all entries.
+    (
+        (Required, 2, &[THREE, First(2, 8, &[], &[2, 3, 2])]),
+        Ok(b"\"x\"y\"z;20;"),
+    ),
+    // The keys 0 and 3.
+    (
+        (Required, 2, &[THREE, First(2, 8, &[], &[2, 3, 12])]),
+        Err(Error::OutOfSpec(Part::Dictionary)),
+    ),
+    // No dictionary, and a page of texts behind one.
+    (
+        (Required, 2, &[First(2, 8, &[], &[2, 3, 0])]),
+        Err(Error::NotYetImplemented(Part::Dictionary)),
+    ),
+    (
+        (Required, 1, &[TWO, First(1, 0, &[], b"\x01\0\0\0x")]),
+        Err(Error::NotYetImplemented(Part::Header)),
+    ),
+];
+
+/// The rows of a chunk, by keys without a sign.
+fn texts_of(alloc: Global, stored: Stored<'_>) -> Result<Vec<u8>, Error> {
+    let pages = pages_of(alloc, PhysicalType::ByteArray, stored)?;
     texts_read::<u16, PageReader>(alloc, pages, IntegerType::UInt16)
 }
 
-/// The dictionary x, y, z, and a page of two keys of two bits.
-fn two_keys(alloc: Global, keys: u8) -> Result<Vec<u8>, Error> {
-    let mut chunk = dictionary(alloc, 3, b"\x01\0\0\0x\x01\0\0\0y\x01\0\0\0z")?;
-    chunk.append(&mut page(alloc, 2, 8, &[], &[2, 3, keys])?)?;
-    Ok(chunk)
-}
-
-#[test]
-fn arrays_have_all_entries(rt: HostRuntime) -> Result<(), Fail> {
-    let alloc = rt.alloc();
-    // The keys 2 and 0.
-    let read = texts_of(alloc, 2, two_keys(alloc, 2)?)?;
-    assert_eq!(rt; read.as_slice(), b"\"x\"y\"z;20;".as_slice());
+fn check_texts(alloc: Global, reads: &[(Stored<'_>, Result<&[u8], Error>)]) -> Result<(), Fail> {
+    for (row, (stored, wanted)) in reads.iter().enumerate() {
+        check(row, texts_of(alloc, *stored), *wanted)?;
+    }
     Ok(())
 }
 
 #[test]
-fn keys_past_the_entries(rt: HostRuntime) -> Result<(), Fail> {
-    let alloc = rt.alloc();
-    // The keys 0 and 3.
-    let refused = texts_of(alloc, 2, two_keys(alloc, 12)?).err();
-    assert_eq!(rt; refused, Some(Error::OutOfSpec(Part::Dictionary)));
-    // No dictionary, and a page of texts behind one.
-    let refused = texts_of(alloc, 2, page(alloc, 2, 8, &[], &[2, 3, 0])?).err();
-    assert_eq!(rt; refused, Some(Error::NotYetImplemented(Part::Dictionary)));
-    let mut chunk = dictionary(alloc, 1, b"\x01\0\0\0x")?;
-    chunk.append(&mut page(alloc, 1, 0, &[], b"\x01\0\0\0x")?)?;
-    let refused = texts_of(alloc, 1, chunk).err();
-    assert_eq!(rt; refused, Some(Error::NotYetImplemented(Part::Header)));
-    Ok(())
+fn texts_by_keys(rt: HostRuntime) -> Result<(), Fail> {
+    check_texts(rt.alloc(), &TEXTS)
 }
+
+static KEYS_AND_NULLS: [Page<'static>; 2] = [TWO, SOME_KEYS];
 
 #[test]
 fn chunks_of_keys_and_nulls(rt: HostRuntime) -> Result<(), Fail> {
     let alloc = rt.alloc();
-    // The second of four rows is null; the keys are 0, 1 and 1.
-    let mut chunk = dictionary(alloc, 2, b"\x01\0\0\0x\x01\0\0\0y")?;
-    let levels = [2, 0, 0, 0, 0x03, 0x0D];
-    chunk.append(&mut page(alloc, 4, 8, &levels, &[1, 3, 6])?)?;
-    let pages = pages_of(
-        alloc,
-        PhysicalType::ByteArray,
-        Repetition::Optional,
-        4,
-        chunk,
-    )?;
-    let read = texts_read::<i64, PageReader>(alloc, pages, IntegerType::Int64)?;
-    assert_eq!(rt; read.as_slice(), b"\"x\"y;0-1;\"x\"y;1;".as_slice());
-    Ok(())
+    let stored: Stored<'_> = (Optional, 4, &KEYS_AND_NULLS);
+    let pages = pages_of(alloc, PhysicalType::ByteArray, stored)?;
+    let read = texts_read::<i64, PageReader>(alloc, pages, IntegerType::Int64);
+    check(0, read, Ok(b"\"x\"y;0-1;\"x\"y;1;"))
 }
 
 /// The error of the first array of pages of keys that name strings of one byte, by keys of 7 bits and a sign.
@@ -150,22 +142,21 @@ fn small_keys_refused<I: Pages>(alloc: Global, pages: I) -> Result<Option<Error>
     }
 }
 
+/// A dictionary of 129 entries of one byte, and a page of the key 128. The number twice as large as that of the entries takes two bytes.
+static MANY: [Page<'static>; 3] = [
+    Bytes(&[
+        0x15, 0x04, 0x15, 0x82, 0x02, 0x15, 0x82, 0x02, 0x4C, 0x15, 0x82, 0x02, 0x15, 0x00, 0x00,
+        0x00,
+    ]),
+    Bytes(&[7; 129]),
+    First(1, 8, &[], &[8, 2, 128]),
+];
+
 #[test]
 fn keys_past_their_type(rt: HostRuntime) -> Result<(), Fail> {
     let alloc = rt.alloc();
-    // 129 entries: the number twice as large takes two bytes.
-    let mut chunk = Vec::new(alloc);
-    chunk.extend_from_slice(&[0x15, 0x04, 0x15, 0x82, 0x02, 0x15, 0x82, 0x02, 0x4C])?;
-    chunk.extend_from_slice(&[0x15, 0x82, 0x02, 0x15, 0x00, 0x00, 0x00])?;
-    chunk.extend_from_slice(&[7; 129])?;
-    chunk.append(&mut page(alloc, 1, 8, &[], &[8, 2, 128])?)?;
-    let pages = pages_of(
-        alloc,
-        PhysicalType::FixedLenByteArray(1),
-        Repetition::Required,
-        1,
-        chunk,
-    )?;
+    let stored: Stored<'_> = (Required, 1, &MANY);
+    let pages = pages_of(alloc, PhysicalType::FixedLenByteArray(1), stored)?;
     assert_eq!(rt; small_keys_refused(alloc, pages)?, Some(Error::Overflow));
     Ok(())
 }

@@ -168,12 +168,18 @@ fn has_cell(rt: &HostRuntime, array: &Array, i: usize, cell: &Cell) -> Result<bo
     Ok(i < array.len() && array.item(rt.alloc(), i)? == *cell)
 }
 
+/// An array of numbers of 32 bits, of which those that have no bit are null.
+fn days(rt: &HostRuntime, data_type: DataType, bits: &[bool]) -> Result<Array, Error> {
+    let values = numbers(rt, data_type, &[19000i32, 0][..bits.len().min(2)], bits)?;
+    Ok(Array::Int32(values))
+}
+
 #[test]
 fn numbers_refuse_other_types_and_lengths(rt: HostRuntime) -> Result<(), Fail> {
     let there = [true, false];
     assert!(rt; is_refused(numbers(&rt, DataType::Int64, &[1i32, 2], &there)));
     assert!(rt; is_refused(numbers(&rt, DataType::Date32, &[1i32], &there)));
-    let days = Array::Int32(numbers(&rt, DataType::Date32, &[19000i32, 0], &there)?);
+    let days = days(&rt, DataType::Date32, &there)?;
     assert!(rt; has_cell(&rt, &days, 0, &Cell::Int(19000))?);
     assert!(rt; has_cell(&rt, &days, 1, &Cell::Null)?);
     Ok(())
@@ -181,9 +187,9 @@ fn numbers_refuse_other_types_and_lengths(rt: HostRuntime) -> Result<(), Fail> {
 
 #[test]
 fn arrays_of_other_types_differ(rt: HostRuntime) -> Result<(), Fail> {
-    let days = Array::Int32(numbers(&rt, DataType::Date32, &[19000i32], &[true])?);
-    assert!(rt; days.try_clone(rt.alloc())? == days);
-    assert!(rt; days != Array::Int32(numbers(&rt, DataType::Int32, &[19000i32], &[true])?));
+    let dates = days(&rt, DataType::Date32, &[true])?;
+    assert!(rt; dates.try_clone(rt.alloc())? == dates);
+    assert!(rt; dates != days(&rt, DataType::Int32, &[true])?);
     Ok(())
 }
 
@@ -234,30 +240,62 @@ fn dictionary<K: DictionaryKey>(
     DictionaryArray::try_new(rt.alloc(), data_type, keys, Array::Int16(entries))
 }
 
+/// The error of a dictionary with the keys 0 and this one.
+fn error_of_key(rt: &HostRuntime, key: i8) -> Result<Option<Error>, Error> {
+    let keys = numbers(rt, DataType::Int8, &[0i8, key], &[true, true])?;
+    Ok(dictionary(rt, IntegerType::Int8, keys).err())
+}
+
 #[test]
 fn dictionaries_take_keys_that_name_entries(rt: HostRuntime) -> Result<(), Fail> {
     for (key, fits) in [(1, true), (2, false), (-1, false), (-128, false)] {
-        let keys = numbers(&rt, DataType::Int8, &[0i8, key], &[true, true])?;
-        let array = dictionary(&rt, IntegerType::Int8, keys);
-        assert_eq!(rt; matches!(array, Err(Error::OutOfSpec(_))), !fits);
+        let error = error_of_key(&rt, key)?;
+        assert_eq!(rt; matches!(error, Some(Error::OutOfSpec(_))), !fits);
     }
-    let keys = numbers(&rt, DataType::UInt64, &[1u64, u64::MAX], &[true, false])?;
-    assert!(rt; is_refused(dictionary(&rt, IntegerType::UInt32, keys)));
-    let keys = numbers(&rt, DataType::UInt64, &[1u64, u64::MAX], &[true, false])?;
-    let array = Array::Dictionary(dictionary(&rt, IntegerType::UInt64, keys)?);
-    assert!(rt;
-        has_cell(&rt, &array, 0, &Cell::Int(-8))? && has_cell(&rt, &array, 1, &Cell::Null)?
-    );
+    Ok(())
+}
+
+/// A dictionary with a key of 1, and the greatest one, which is null.
+fn great_keys(rt: &HostRuntime, key_type: IntegerType) -> Result<DictionaryArray, Error> {
+    let keys = numbers(rt, DataType::UInt64, &[1u64, u64::MAX], &[true, false])?;
+    dictionary(rt, key_type, keys)
+}
+
+#[test]
+fn keys_that_are_null_name_no_entry(rt: HostRuntime) -> Result<(), Fail> {
+    assert!(rt; is_refused(great_keys(&rt, IntegerType::UInt32)));
+    let array = Array::Dictionary(great_keys(&rt, IntegerType::UInt64)?);
+    assert!(rt; has_cell(&rt, &array, 0, &Cell::Int(-8))?);
+    assert!(rt; has_cell(&rt, &array, 1, &Cell::Null)?);
     assert!(rt; array.try_clone(rt.alloc())? == array);
     Ok(())
+}
+
+/// The keys of the first two rows of a dictionary.
+fn first_keys(array: &Array) -> [Option<u64>; 2] {
+    match array {
+        Array::Dictionary(keys) if keys.len() > 1 => [keys.key(0), keys.key(1)],
+        _ => [None; 2],
+    }
+}
+
+/// A cell of the entries of a dictionary.
+fn entry_of(rt: &HostRuntime, array: &Array, i: usize) -> Result<Option<Cell>, Error> {
+    match array {
+        Array::Dictionary(keys) if i < keys.values().len() => {
+            Ok(Some(keys.values().item(rt.alloc(), i)?))
+        }
+        _ => Ok(None),
+    }
 }
 
 #[test]
 fn dictionaries_show_keys_and_entries(rt: HostRuntime) -> Result<(), Fail> {
     let keys = numbers(&rt, DataType::Int8, &[1i8, 0], &[true, false])?;
-    let array = dictionary(&rt, IntegerType::Int8, keys)?;
-    assert!(rt; array.len() == 2 && array.key(0) == Some(1) && array.key(1).is_none());
-    assert!(rt; has_cell(&rt, array.values(), 0, &Cell::Int(7))?);
+    let array = Array::Dictionary(dictionary(&rt, IntegerType::Int8, keys)?);
+    assert_eq!(rt; array.len(), 2);
+    assert_eq!(rt; first_keys(&array), [Some(1), None]);
+    assert!(rt; entry_of(&rt, &array, 0)? == Some(Cell::Int(7)));
     Ok(())
 }
 
@@ -277,6 +315,11 @@ fn cells(rt: &HostRuntime, inside: &[i128]) -> Result<Cell, Error> {
     Ok(Cell::Cells(Seq::new(cells)))
 }
 
+/// The type of a list of items of a type.
+fn list_type(rt: &HostRuntime, item: DataType) -> Result<DataType, Error> {
+    Ok(DataType::List(Boxed::new(rt.alloc(), field(rt, "item", item)?)?))
+}
+
 fn list(rt: &HostRuntime, data_type: DataType) -> Result<ListArray, Error> {
     let items = numbers(rt, DataType::Int16, &[1i16, 2, 3, 4], &[true; 4])?;
     let places: Offsets<i32> = offsets(rt, &[2, 1, 1])?;
@@ -292,66 +335,84 @@ fn list(rt: &HostRuntime, data_type: DataType) -> Result<ListArray, Error> {
 
 #[test]
 fn lists_are_cut_from_their_items(rt: HostRuntime) -> Result<(), Fail> {
-    let item = Boxed::new(rt.alloc(), field(&rt, "item", DataType::Int16)?)?;
-    let array = Array::List(list(&rt, DataType::List(item))?);
+    let array = Array::List(list(&rt, list_type(&rt, DataType::Int16)?)?);
     assert!(rt; has_cell(&rt, &array, 0, &cells(&rt, &[1, 2])?)?);
     assert!(rt; has_cell(&rt, &array, 1, &Cell::Null)?);
     assert!(rt; has_cell(&rt, &array, 2, &cells(&rt, &[4])?)?);
     assert!(rt; array.try_clone(rt.alloc())? == array);
-    let item = Boxed::new(rt.alloc(), field(&rt, "item", DataType::Int32)?)?;
-    assert!(rt; is_refused(list(&rt, DataType::List(item))));
+    Ok(())
+}
+
+#[test]
+fn lists_refuse_other_types(rt: HostRuntime) -> Result<(), Fail> {
+    assert!(rt; is_refused(list(&rt, list_type(&rt, DataType::Int32)?)));
     let item = Boxed::new(rt.alloc(), field(&rt, "item", DataType::Int16)?)?;
     assert!(rt; is_refused(list(&rt, DataType::LargeList(item))));
     Ok(())
 }
 
-/// A column of two numbers beside so many nulls.
-fn structs(rt: &HostRuntime, nulls: usize) -> Result<StructArray, Error> {
+/// The type of a number beside a null.
+fn pair_type(rt: &HostRuntime) -> Result<DataType, Error> {
     let mut fields = Vec::new(rt.alloc());
     fields.push(field(rt, "number", DataType::Int64)?)?;
     fields.push(field(rt, "nothing", DataType::Null)?)?;
+    Ok(DataType::Struct(Seq::new(fields)))
+}
+
+/// Two numbers, and so many nulls.
+fn columns_of(rt: &HostRuntime, nulls: usize) -> Result<Vec<Array>, Error> {
     let mut columns = Vec::new(rt.alloc());
     let values = numbers(rt, DataType::Int64, &[5i64, 6], &[true, true])?;
     columns.push(Array::Int64(values))?;
     columns.push(Array::Null(NullArray::new(nulls)))?;
-    let data_type = DataType::Struct(Seq::new(fields));
+    Ok(columns)
+}
+
+/// A column of two numbers beside so many nulls, of which the first row is null.
+fn structs(rt: &HostRuntime, nulls: usize) -> Result<StructArray, Error> {
     let validity = mask(rt, &[false, true])?;
-    StructArray::try_new(data_type, columns, Some(validity))
+    StructArray::try_new(pair_type(rt)?, columns_of(rt, nulls)?, Some(validity))
+}
+
+/// Two cells.
+fn two_cells(rt: &HostRuntime, first: Cell, second: Cell) -> Result<Cell, Error> {
+    let mut cells = Vec::new(rt.alloc());
+    cells.push(first)?;
+    cells.push(second)?;
+    Ok(Cell::Cells(Seq::new(cells)))
 }
 
 #[test]
 fn structs_are_columns_side_by_side(rt: HostRuntime) -> Result<(), Fail> {
     let array = Array::Struct(structs(&rt, 2)?);
-    let mut row = Vec::new(rt.alloc());
-    row.push(Cell::Int(6))?;
-    row.push(Cell::Null)?;
     assert!(rt; has_cell(&rt, &array, 0, &Cell::Null)?);
-    assert!(rt; has_cell(&rt, &array, 1, &Cell::Cells(Seq::new(row)))?);
+    assert!(rt; has_cell(&rt, &array, 1, &two_cells(&rt, Cell::Int(6), Cell::Null)?)?);
     assert!(rt; array.try_clone(rt.alloc())? == array);
-    assert!(rt; is_refused(structs(&rt, 3)));
-    let none = DataType::Struct(Seq::new(Vec::new(rt.alloc())));
-    assert!(rt; is_refused(StructArray::try_new(none, Vec::new(rt.alloc()), None)));
     Ok(())
 }
 
 #[test]
+fn structs_refuse_columns_of_other_lengths(rt: HostRuntime) {
+    assert!(rt; is_refused(structs(&rt, 3)));
+    let none = DataType::Struct(Seq::new(Vec::new(rt.alloc())));
+    assert!(rt; is_refused(StructArray::try_new(none, Vec::new(rt.alloc()), None)));
+}
+
+/// A map of entries of the type of a pair, from so many entries each.
+fn map(rt: &HostRuntime, lengths: &[usize], entries: Array) -> Result<MapArray, Error> {
+    let entry = Boxed::new(rt.alloc(), field(rt, "pair", pair_type(rt)?)?)?;
+    let places = offsets(rt, lengths)?;
+    MapArray::try_new(DataType::Map(entry, false), places, entries, None)
+}
+
+#[test]
 fn maps_are_lists_of_pairs(rt: HostRuntime) -> Result<(), Fail> {
-    let pairs = Array::Struct(structs(&rt, 2)?);
-    let pair = field(&rt, "pair", pairs.data_type().try_clone(rt.alloc())?)?;
-    let data_type = DataType::Map(Boxed::new(rt.alloc(), pair)?, false);
-    let array = Array::Map(MapArray::try_new(data_type, offsets(&rt, &[2, 0])?, pairs, None)?);
-    let mut row = Vec::new(rt.alloc());
-    row.push(Cell::Int(6))?;
-    row.push(Cell::Null)?;
-    let mut map = Vec::new(rt.alloc());
-    map.push(Cell::Null)?;
-    map.push(Cell::Cells(Seq::new(row)))?;
-    assert!(rt; has_cell(&rt, &array, 0, &Cell::Cells(Seq::new(map)))?);
+    let array = Array::Map(map(&rt, &[2, 0], Array::Struct(structs(&rt, 2)?))?);
+    let pair = two_cells(&rt, Cell::Int(6), Cell::Null)?;
+    assert!(rt; has_cell(&rt, &array, 0, &two_cells(&rt, Cell::Null, pair)?)?);
     assert!(rt; has_cell(&rt, &array, 1, &cells(&rt, &[])?)?);
     assert!(rt; array.try_clone(rt.alloc())? == array);
-    let pairs = Array::Null(NullArray::new(2));
-    let data_type = array.data_type().try_clone(rt.alloc())?;
-    assert!(rt; is_refused(MapArray::try_new(data_type, offsets(&rt, &[2])?, pairs, None)));
+    assert!(rt; is_refused(map(&rt, &[2], Array::Null(NullArray::new(2)))));
     Ok(())
 }
 

@@ -59,9 +59,9 @@ fn column(
 #[test]
 fn reads_page_headers(rt: HostRuntime) -> Result<(), Fail> {
     let mut data = Written::new(rt.alloc());
-    data.page_header()?;
-    data.raw(&[10])?;
-    let data = data.into_bytes();
+    data.page_header();
+    data.raw(&[10]);
+    let data = data.into_bytes()?;
     let header = DataPageHeader::V1 {
         num_values: 5,
         encoding: 0,
@@ -80,14 +80,14 @@ fn reads_page_headers(rt: HostRuntime) -> Result<(), Fail> {
         Err(Unspelled)
     );
     let mut dictionary = Written::new(rt.alloc());
-    dictionary.int(1, 2)?;
-    dictionary.int(2, 8)?;
-    dictionary.begin(4)?;
-    dictionary.int(1, 2)?;
-    dictionary.int(1, 2)?;
-    dictionary.end()?;
-    dictionary.end()?;
-    let dictionary = dictionary.into_bytes();
+    dictionary.int(1, 2);
+    dictionary.int(2, 8);
+    dictionary.begin(4);
+    dictionary.int(1, 2);
+    dictionary.int(1, 2);
+    dictionary.end();
+    dictionary.end();
+    let dictionary = dictionary.into_bytes()?;
     let expected = PageHeader {
         kind: PageKind::Dictionary {
             num_values: 2,
@@ -105,15 +105,15 @@ fn reads_page_headers(rt: HostRuntime) -> Result<(), Fail> {
 /// An offset index of three locations.
 fn locations(alloc: Global) -> Result<Vec<u8>, AllocError> {
     let mut index = Written::new(alloc);
-    index.list(1, 3, STRUCT)?;
+    index.list(1, 3, STRUCT);
     for (offset, size, first_row) in [(4, 100, 0), (104, 100, 10), (204, 50, 25)] {
-        index.long(1, offset)?;
-        index.int(1, size)?;
-        index.long(1, first_row)?;
-        index.end()?;
+        index.long(1, offset);
+        index.int(1, size);
+        index.long(1, first_row);
+        index.end();
     }
-    index.end()?;
-    Ok(index.into_bytes())
+    index.end();
+    index.into_bytes()
 }
 
 #[test]
@@ -146,15 +146,15 @@ fn read_end(alloc: Global, physical_type: PhysicalType, end: &[u8]) -> Result<Ve
         return Err(Error::Overflow);
     };
     let mut index = Written::new(alloc);
-    index.list(1, 1, TRUE)?;
-    index.raw(&[FALSE])?;
+    index.list(1, 1, TRUE);
+    index.raw(&[FALSE]);
     for _ in 0..2 {
-        index.list(1, 1, BINARY)?;
-        index.raw(&[length])?;
-        index.raw(end)?;
+        index.list(1, 1, BINARY);
+        index.raw(&[length]);
+        index.raw(end);
     }
-    index.end()?;
-    let bytes = index.into_bytes();
+    index.end();
+    let bytes = index.into_bytes()?;
     let place = Place {
         offset: 0,
         length: bytes.len() as u64,

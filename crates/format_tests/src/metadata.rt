@@ -11,74 +11,74 @@ use std::process::Abort;
 use std::test::Fail;
 
 /// The version, and the schema of one required INT32 column `a`.
-fn write_schema(file: &mut Written) -> Result<(), AllocError> {
-    file.int(1, 1)?;
-    file.list(1, 2, STRUCT)?;
-    file.text(4, b"schema")?;
-    file.int(1, 1)?;
-    file.end()?;
-    file.int(1, 1)?;
-    file.int(2, 0)?;
-    file.text(1, b"a")?;
-    file.end()
+fn write_schema(file: &mut Written) {
+    file.int(1, 1);
+    file.list(1, 2, STRUCT);
+    file.text(4, b"schema");
+    file.int(1, 1);
+    file.end();
+    file.int(1, 1);
+    file.int(2, 0);
+    file.text(1, b"a");
+    file.end();
 }
 
 /// A chunk of 37 bytes with five values from 10 to 20 and no null.
-fn write_chunk(file: &mut Written) -> Result<(), AllocError> {
-    file.long(2, 4)?;
-    file.begin(1)?;
-    file.int(1, 1)?;
-    file.list(1, 1, I32)?;
-    file.raw(&[0])?;
-    file.list(1, 1, BINARY)?;
-    file.raw(&[1, b'a'])?;
-    file.int(1, 0)?;
-    file.long(1, 5)?;
-    file.long(1, 37)?;
-    file.long(1, 37)?;
-    file.long(2, 4)?;
-    file.begin(3)?;
-    file.long(3, 0)?;
-    file.text(2, &[20, 0, 0, 0])?;
-    file.text(1, &[10, 0, 0, 0])?;
-    file.end()?;
-    file.end()?;
-    file.end()
+fn write_chunk(file: &mut Written) {
+    file.long(2, 4);
+    file.begin(1);
+    file.int(1, 1);
+    file.list(1, 1, I32);
+    file.raw(&[0]);
+    file.list(1, 1, BINARY);
+    file.raw(&[1, b'a']);
+    file.int(1, 0);
+    file.long(1, 5);
+    file.long(1, 37);
+    file.long(1, 37);
+    file.long(2, 4);
+    file.begin(3);
+    file.long(3, 0);
+    file.text(2, &[20, 0, 0, 0]);
+    file.text(1, &[10, 0, 0, 0]);
+    file.end();
+    file.end();
+    file.end();
 }
 
 /// The column `a` with the rows 10, 12, 15, 18 and 20, in one group and one plain page.
 fn one_group(alloc: Global) -> Result<Vec<u8>, AllocError> {
     let mut file = Written::new(alloc);
-    file.raw(MAGIC)?;
-    file.page_header()?;
+    file.raw(MAGIC);
+    file.page_header();
     for row in [10, 12, 15, 18, 20] {
-        file.raw(&[row, 0, 0, 0])?;
+        file.raw(&[row, 0, 0, 0]);
     }
-    write_schema(&mut file)?;
-    file.long(1, 5)?;
-    file.list(1, 1, STRUCT)?;
-    file.list(1, 1, STRUCT)?;
-    write_chunk(&mut file)?;
-    file.long(1, 37)?;
-    file.long(1, 5)?;
-    file.end()?;
-    file.end()?;
-    file.raw(&[75, 0, 0, 0])?;
-    file.raw(MAGIC)?;
-    Ok(file.into_bytes())
+    write_schema(&mut file);
+    file.long(1, 5);
+    file.list(1, 1, STRUCT);
+    file.list(1, 1, STRUCT);
+    write_chunk(&mut file);
+    file.long(1, 37);
+    file.long(1, 5);
+    file.end();
+    file.end();
+    file.raw(&[75, 0, 0, 0]);
+    file.raw(MAGIC);
+    file.into_bytes()
 }
 
 /// The column without a group.
 fn no_groups(alloc: Global) -> Result<Vec<u8>, AllocError> {
     let mut file = Written::new(alloc);
-    file.raw(MAGIC)?;
-    write_schema(&mut file)?;
-    file.long(1, 0)?;
-    file.list(1, 0, STRUCT)?;
-    file.end()?;
-    file.raw(&[28, 0, 0, 0])?;
-    file.raw(MAGIC)?;
-    Ok(file.into_bytes())
+    file.raw(MAGIC);
+    write_schema(&mut file);
+    file.long(1, 0);
+    file.list(1, 0, STRUCT);
+    file.end();
+    file.raw(&[28, 0, 0, 0]);
+    file.raw(MAGIC);
+    file.into_bytes()
 }
 
 /// Where the footer of `one_group` begins.

@@ -1,7 +1,7 @@
-//! Pages, and columns that they are pages of, for tests to be run over.
+//! Chunks of pages, and columns that they are chunks of, for tests to be run over.
 #![tactic(auto)]
 
-ghost use Rattle.std.specs.Prelude.{◌≡◌, ◌<◌, length};
+ghost use Rattle.std.specs.Prelude.{◌≡◌};
 
 use columns_core::Seq;
 use parquet_meta::{
@@ -9,61 +9,71 @@ use parquet_meta::{
 };
 use std::alloc::{AllocError, Global};
 
-/// A data page of the first form: its header of 17 bytes, and its body.
-pub fn page(
-    alloc: Global,
-    count: u8,
-    encoding: u8,
-    levels: &[u8],
-    values: &[u8],
-) -> Result<Vec<u8>, AllocError>
-    requires count { count < 64 }
-    requires encoding { encoding < 64 }
-    requires levels { length levels.now < 16 }
-    requires values { length values.now < 48 }
-{
-    let size = 2 * (levels.len() + values.len()) as u8;
-    let mut page = Vec::new(alloc);
-    page.extend_from_slice(&[0x15, 0x00, 0x15, size, 0x15, size, 0x2C])?;
-    page.extend_from_slice(&[0x15, 2 * count, 0x15, 2 * encoding])?;
-    page.extend_from_slice(&[0x15, 0x06, 0x15, 0x06, 0x00, 0x00])?;
-    page.extend_from_slice(levels)?;
-    page.extend_from_slice(values)?;
-    Ok(page)
+/// A page of a chunk. It has less than 64 values and a body of less than 64 bytes.
+#[derive(Clone, Copy)]
+pub enum Page<'a> {
+    /// Of the first form: how many values, the number of their encoding, the levels, and the values. Its header has 17 bytes.
+    First(u8, u8, &'a [u8], &'a [u8]),
+    /// Of the second form: how many values, the levels, and the plain values.
+    Second(u8, &'a [u8], &'a [u8]),
+    /// A dictionary: how many entries, and these. Its header has 13 bytes.
+    Entries(u8, &'a [u8]),
+    /// Bytes as they are.
+    Bytes(&'a [u8]),
 }
 
-/// A data page of the second form.
-pub fn page_v2(
-    alloc: Global,
-    count: u8,
-    levels: &[u8],
-    values: &[u8],
-) -> Result<Vec<u8>, AllocError>
-    requires count { count < 64 }
-    requires levels { length levels.now < 16 }
-    requires values { length values.now < 48 }
-{
-    let size = 2 * (levels.len() + values.len()) as u8;
-    let mut page = Vec::new(alloc);
-    page.extend_from_slice(&[0x15, 0x06, 0x15, size, 0x15, size, 0x5C])?;
-    page.extend_from_slice(&[0x15, 2 * count, 0x15, 0x00, 0x15, 2 * count, 0x15, 0x00])?;
-    page.extend_from_slice(&[0x15, 2 * levels.len() as u8, 0x15, 0x00, 0x00, 0x00])?;
-    page.extend_from_slice(levels)?;
-    page.extend_from_slice(values)?;
-    Ok(page)
+/// These pages, one behind the other.
+pub fn chunk_of(alloc: Global, pages: &[Page<'_>]) -> Result<Vec<u8>, AllocError> {
+    let mut chunk = Vec::new(alloc);
+    for page in pages {
+        push_page(&mut chunk, *page)?;
+    }
+    Ok(chunk)
 }
 
-/// A dictionary page: its header of 13 bytes, and its entries.
-pub fn dictionary(alloc: Global, count: u8, entries: &[u8]) -> Result<Vec<u8>, AllocError>
-    requires count { count < 64 }
-    requires entries { length entries.now < 64 }
-{
-    let size = 2 * entries.len() as u8;
-    let mut page = Vec::new(alloc);
-    page.extend_from_slice(&[0x15, 0x04, 0x15, size, 0x15, size, 0x4C])?;
-    page.extend_from_slice(&[0x15, 2 * count, 0x15, 0x00, 0x00, 0x00])?;
-    page.extend_from_slice(entries)?;
-    Ok(page)
+fn push_page(chunk: &mut Vec<u8>, page: Page<'_>) -> Result<(), AllocError> {
+    match page {
+        Page::First(count, encoding, levels, values) => {
+            push_head(chunk, 0x00, size_of(levels, values), 0x2C)?;
+            chunk.extend_from_slice(&[0x15, twice(count), 0x15, twice(encoding)])?;
+            chunk.extend_from_slice(&[0x15, 0x06, 0x15, 0x06, 0x00, 0x00])?;
+            push_body(chunk, levels, values)
+        }
+        Page::Second(count, levels, values) => {
+            push_head(chunk, 0x06, size_of(levels, values), 0x5C)?;
+            chunk.extend_from_slice(&[0x15, twice(count), 0x15, 0x00, 0x15, twice(count)])?;
+            chunk.extend_from_slice(&[0x15, 0x00, 0x15, size_of(levels, &[])])?;
+            chunk.extend_from_slice(&[0x15, 0x00, 0x00, 0x00])?;
+            push_body(chunk, levels, values)
+        }
+        Page::Entries(count, entries) => {
+            push_head(chunk, 0x04, size_of(entries, &[]), 0x4C)?;
+            chunk.extend_from_slice(&[0x15, twice(count), 0x15, 0x00, 0x00, 0x00])?;
+            chunk.extend_from_slice(entries)
+        }
+        Page::Bytes(bytes) => chunk.extend_from_slice(bytes),
+    }
+}
+
+/// The kind of a page, its size twice, and the head of the field of its kind.
+fn push_head(chunk: &mut Vec<u8>, kind: u8, size: u8, field: u8) -> Result<(), AllocError> {
+    chunk.extend_from_slice(&[0x15, kind, 0x15, size, 0x15, size, field])
+}
+
+fn push_body(chunk: &mut Vec<u8>, levels: &[u8], values: &[u8]) -> Result<(), AllocError> {
+    chunk.extend_from_slice(levels)?;
+    chunk.extend_from_slice(values)
+}
+
+/// A small number as it is stored.
+fn twice(number: u8) -> u8 {
+    number.wrapping_mul(2)
+}
+
+/// How many bytes these are, as it is stored.
+fn size_of(levels: &[u8], values: &[u8]) -> u8 {
+    let size = levels.len().saturating_add(values.len());
+    twice((size % 64) as u8)
 }
 
 /// A column of so many values.

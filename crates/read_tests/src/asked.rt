@@ -4,6 +4,7 @@ use parquet_base::Interval;
 use parquet_meta::{FileMetaData, MemorySource, read_metadata};
 use parquet_page::FilteredPage;
 use std::alloc::{AllocError, Global};
+use std::test::Fail;
 
 /// A file in memory, and what it says of itself.
 pub(crate) fn opened(alloc: Global, bytes: &[u8]) -> Result<(MemorySource, FileMetaData), Error> {
@@ -55,6 +56,15 @@ pub(crate) fn push_numbers(
             Cell::Int(number) => number,
             _ => -1,
         })?;
+    }
+    Ok(())
+}
+
+/// Fails where the numbers of the chunks are others.
+pub(crate) fn check_chunks(given: &[Vec<i128>], wanted: &[&[i128]]) -> Result<(), Fail> {
+    let is_same = |(numbers, chunk): (&Vec<i128>, &&[i128])| numbers.as_slice() == *chunk;
+    if given.len() != wanted.len() || !given.iter().zip(wanted).all(is_same) {
+        return Err(Fail::new(format_args!("{given:?} for {wanted:?}")));
     }
     Ok(())
 }

@@ -53,7 +53,7 @@ fn numbers_in(
 type Read<'a> = (Option<usize>, Option<&'a [Located]>, &'a [i128]);
 
 /// Of the first file, whose column has the numbers 10, 12, 15, 18, 20 in one page.
-const OF_ONE_PAGE: [Read<'static>; 3] = [
+static OF_ONE_PAGE: [Read<'static>; 3] = [
     (None, None, &[10, 12, 15, 18, 20, -9]),
     (Some(2), None, &[10, 12, -9, 15, 18, -9, 20, -9]),
     (Some(9), None, &[10, 12, 15, 18, 20, -9]),
@@ -63,25 +63,28 @@ const OF_ONE_PAGE: [Read<'static>; 3] = [
 const SOME_ROWS: &[Located] = &[(4, 29, 3, 1, 1), (33, 29, 3, 0, 0), (62, 29, 3, 0, 3)];
 
 /// Of the second file, which has 1, 2, 3; 10, 11, 12; 4, 5, 6.
-const OF_THREE_PAGES: [Read<'static>; 4] = [
+static OF_THREE_PAGES: [Read<'static>; 4] = [
     (None, None, &[1, 2, 3, 10, 11, 12, 4, 5, 6, -9]),
     (Some(4), None, &[1, 2, 3, 10, -9, 11, 12, 4, 5, -9, 6, -9]),
     (None, Some(SOME_ROWS), &[2, 4, 5, 6, -9]),
     (Some(3), Some(SOME_ROWS), &[2, 4, 5, -9, 6, -9]),
 ];
 
-#[test]
-fn arrays_of_columns(rt: HostRuntime) -> Result<(), Fail> {
-    let alloc = rt.alloc();
-    for (chunk_size, pages, numbers) in OF_ONE_PAGE {
-        let found = numbers_in(alloc, &F1, DataType::Int32, chunk_size, pages)?;
-        assert_eq!(rt; found.as_slice(), numbers);
-    }
-    for (chunk_size, pages, numbers) in OF_THREE_PAGES {
-        let found = numbers_in(alloc, &F2, DataType::Int32, chunk_size, pages)?;
-        assert_eq!(rt; found.as_slice(), numbers);
+/// Fails at the first row that gives other numbers.
+fn check_reads(alloc: Global, file: &[u8], reads: &[Read<'_>]) -> Result<(), Fail> {
+    for (row, (chunk_size, pages, numbers)) in reads.iter().enumerate() {
+        let found = numbers_in(alloc, file, DataType::Int32, *chunk_size, *pages)?;
+        if found.as_slice() != *numbers {
+            return Err(Fail::new(format_args!("row {row} gives {found:?}")));
+        }
     }
     Ok(())
+}
+
+#[test]
+fn arrays_of_columns(rt: HostRuntime) -> Result<(), Fail> {
+    check_reads(rt.alloc(), &F1, &OF_ONE_PAGE)?;
+    check_reads(rt.alloc(), &F2, &OF_THREE_PAGES)
 }
 
 #[test]

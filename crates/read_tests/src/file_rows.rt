@@ -1,7 +1,7 @@
 //! The chunks of all groups of a file, under a chunk size and a limit.
 ghost use Rattle.std.specs.Prelude.{◌≡◌, ◌<◌};
 
-use crate::asked::{Located, field_of, numbers_of, opened, pages_of};
+use crate::asked::{Located, check_chunks, field_of, numbers_of, opened, pages_of};
 use crate::files::{FIVE_ROWS, TWO_GROUPS};
 use columns_core::{DataType, Error, Part, Schema, Seq};
 use files_for_tests::Levels::Absent;
@@ -101,7 +101,7 @@ fn reader_of(alloc: Global, asked: Asked) -> Result<FileReader<MemorySource>, Er
 /// What is asked, and all chunks, each as the number of its rows and its numbers.
 type Given = (Asked, &'static [&'static [i128]]);
 
-const CHUNKS: [Given; 7] = [
+static CHUNKS: [Given; 7] = [
     (ALL, &[&[3, 1, 2, 3], &[5, 4, 5, 6, 7, 8]]),
     (
         Asked {
@@ -144,24 +144,29 @@ const CHUNKS: [Given; 7] = [
     ),
 ];
 
-#[test]
-fn chunks_of_files(rt: HostRuntime) -> Result<(), Fail> {
-    let alloc = rt.alloc();
-    for (asked, chunks) in CHUNKS {
-        let mut given = Vec::new(alloc);
-        for chunk in reader_of(alloc, asked)? {
-            given.push(numbers_of(alloc, &chunk?)?)?;
-        }
-        assert_eq!(rt; given.len(), chunks.len());
-        for (numbers, chunk) in given.iter().zip(chunks.iter()) {
-            assert_eq!(rt; numbers.as_slice(), *chunk);
-        }
+/// The numbers of all chunks.
+fn numbers_in(alloc: Global, asked: Asked) -> Result<Vec<Vec<i128>>, Error> {
+    let mut given = Vec::new(alloc);
+    for chunk in reader_of(alloc, asked)? {
+        given.push(numbers_of(alloc, &chunk?)?)?;
+    }
+    Ok(given)
+}
+
+fn check_files(alloc: Global, files: &[Given]) -> Result<(), Fail> {
+    for (asked, chunks) in files {
+        check_chunks(numbers_in(alloc, *asked)?.as_slice(), *chunks)?;
     }
     Ok(())
 }
 
+#[test]
+fn chunks_of_files(rt: HostRuntime) -> Result<(), Fail> {
+    check_files(rt.alloc(), &CHUNKS)
+}
+
 /// What is refused before anything is read: a chunk size of 0, and a list of pages for one of two groups.
-const REFUSED: [Asked; 2] = [
+static REFUSED: [Asked; 2] = [
     Asked {
         chunk_size: Some(0),
         ..ALL
@@ -172,20 +177,29 @@ const REFUSED: [Asked; 2] = [
     },
 ];
 
-#[test]
-fn files_that_are_refused(rt: HostRuntime) -> Result<(), Fail> {
-    let alloc = rt.alloc();
-    for asked in REFUSED {
-        let none = reader_of(alloc, asked);
-        assert!(rt; matches!(none, Err(Error::InvalidArgumentError(Part::Request))));
+/// The error of a file that is refused at once.
+fn refusal_of(alloc: Global, asked: Asked) -> Option<Error> {
+    reader_of(alloc, asked).err()
+}
+
+fn check_refusals(alloc: Global, refused: &[Asked]) -> Result<(), Fail> {
+    for (row, asked) in refused.iter().enumerate() {
+        if refusal_of(alloc, *asked) != Some(Error::InvalidArgumentError(Part::Request)) {
+            return Err(Fail::new(format_args!("row {row} is not refused")));
+        }
     }
     Ok(())
+}
+
+#[test]
+fn files_that_are_refused(rt: HostRuntime) -> Result<(), Fail> {
+    check_refusals(rt.alloc(), &REFUSED)
 }
 
 /// What is asked, the error of the first group, and the only chunk behind it.
 type Failing = (Asked, Error, &'static [i128]);
 
-const ERRORS: [Failing; 2] = [
+static ERRORS: [Failing; 2] = [
     // A group that is damaged counts whole against the limit, though none of its rows came.
     (
         Asked {
@@ -208,19 +222,31 @@ const ERRORS: [Failing; 2] = [
     ),
 ];
 
-#[test]
-fn groups_behind_errors(rt: HostRuntime) -> Result<(), Fail> {
-    let alloc = rt.alloc();
-    for (asked, error, numbers) in ERRORS {
-        let mut reader = reader_of(alloc, asked)?;
-        assert_eq!(rt; reader.next().and_then(Result::err), Some(error));
-        let Some(chunk) = reader.next() else {
-            return Err(Fail::new(format_args!("no chunk, and not {numbers:?}")));
-        };
-        assert_eq!(rt; numbers_of(alloc, &chunk?)?.as_slice(), numbers);
-        assert!(rt; reader.next().is_none());
+/// The error that comes first, and the numbers of the chunks behind it.
+fn error_first(alloc: Global, asked: Asked) -> Result<(Option<Error>, Vec<Vec<i128>>), Error> {
+    let mut reader = reader_of(alloc, asked)?;
+    let error = reader.next().and_then(Result::err);
+    let mut given = Vec::new(alloc);
+    for chunk in reader {
+        given.push(numbers_of(alloc, &chunk?)?)?;
+    }
+    Ok((error, given))
+}
+
+fn check_errors(alloc: Global, failing: &[Failing]) -> Result<(), Fail> {
+    for (asked, error, numbers) in failing {
+        let (found, given) = error_first(alloc, *asked)?;
+        if found != Some(*error) {
+            return Err(Fail::new(format_args!("{found:?} for {error:?}")));
+        }
+        check_chunks(given.as_slice(), &[*numbers])?;
     }
     Ok(())
+}
+
+#[test]
+fn groups_behind_errors(rt: HostRuntime) -> Result<(), Fail> {
+    check_errors(rt.alloc(), &ERRORS)
 }
 
 #[test]

@@ -1,5 +1,5 @@
 //! Groups of a file, one after another, under a limit.
-use crate::asked::{field_of, numbers_of, opened};
+use crate::asked::{check_chunks, field_of, numbers_of, opened};
 use columns_core::{DataType, Error, Part, Schema, Seq};
 use files_for_tests::Levels::Absent;
 use files_for_tests::Values::Numbers;
@@ -47,7 +47,7 @@ fn groups_of(
 /// The chunk size, the limit, and the chunks of all groups, each as the number of its rows and its numbers.
 type Read<'a> = (Option<usize>, Option<usize>, &'a [&'a [i128]]);
 
-const CHUNKS: [Read<'static>; 5] = [
+static CHUNKS: [Read<'static>; 5] = [
     (None, None, &[&[3, 1, 2, 3], &[5, 4, 5, 6, 7, 8]]),
     (None, Some(5), &[&[3, 1, 2, 3], &[2, 4, 5]]),
     (Some(2), Some(5), &[&[2, 1, 2], &[1, 3], &[2, 4, 5]]),
@@ -55,22 +55,32 @@ const CHUNKS: [Read<'static>; 5] = [
     (None, Some(0), &[]),
 ];
 
-#[test]
-fn groups_under_a_limit(rt: HostRuntime) -> Result<(), Fail> {
-    let alloc = rt.alloc();
-    for (chunk_size, limit, chunks) in CHUNKS {
-        let mut given = Vec::new(alloc);
-        for group in groups_of(alloc, TWO_GROUPS, "a", chunk_size, limit)? {
-            for chunk in group? {
-                given.push(numbers_of(alloc, &chunk?)?)?;
-            }
-        }
-        assert_eq!(rt; given.len(), chunks.len());
-        for (numbers, chunk) in given.iter().zip(chunks.iter()) {
-            assert_eq!(rt; numbers.as_slice(), *chunk);
+/// The numbers of all chunks of two groups.
+fn numbers_in(
+    alloc: Global,
+    chunk_size: Option<usize>,
+    limit: Option<usize>,
+) -> Result<Vec<Vec<i128>>, Error> {
+    let mut given = Vec::new(alloc);
+    for group in groups_of(alloc, TWO_GROUPS, "a", chunk_size, limit)? {
+        for chunk in group? {
+            given.push(numbers_of(alloc, &chunk?)?)?;
         }
     }
+    Ok(given)
+}
+
+fn check_reads(alloc: Global, reads: &[Read<'_>]) -> Result<(), Fail> {
+    for (chunk_size, limit, chunks) in reads {
+        let given = numbers_in(alloc, *chunk_size, *limit)?;
+        check_chunks(given.as_slice(), *chunks)?;
+    }
     Ok(())
+}
+
+#[test]
+fn groups_under_a_limit(rt: HostRuntime) -> Result<(), Fail> {
+    check_reads(rt.alloc(), &CHUNKS)
 }
 
 #[test]

@@ -1,5 +1,5 @@
 //! The rows of a group in chunks.
-use crate::asked::{Located, field_of, numbers_of, opened, pages_of};
+use crate::asked::{Located, check_chunks, field_of, numbers_of, opened, pages_of};
 use column_arrays::ArrayIter;
 use columns_core::{DataType, Error, Part};
 use files_for_tests::{F1, F2, F3};
@@ -55,7 +55,7 @@ const BOTH: Asked<'static> = Asked {
 /// How many rows are asked for, the limit, and the chunks that are given, each as the number of its rows and its numbers, column after column.
 type Given<'a> = (Asked<'a>, usize, Option<usize>, &'a [&'a [i128]]);
 
-const CHUNKS: [Given<'static>; 8] = [
+static CHUNKS: [Given<'static>; 8] = [
     (WHOLE, 5, None, &[&[5, 10, 12, 15, 18, 20]]),
     (IN_PAIRS, 5, None, &[&[2, 10, 12], &[2, 15, 18], &[1, 20]]),
     // No array is cut: the last chunk goes past the limit.
@@ -105,23 +105,37 @@ fn columns_of(alloc: Global, asked: Asked<'_>) -> Result<Vec<ArrayIter<ColumnPag
     Ok(columns)
 }
 
-#[test]
-fn chunks_of_groups(rt: HostRuntime) -> Result<(), Fail> {
-    let alloc = rt.alloc();
-    for (asked, rows, limit, chunks) in CHUNKS {
-        let columns = columns_of(alloc, asked)?;
-        let group = RowGroupDeserializer::new(alloc, columns, rows, limit)?;
-        assert_eq!(rt; group.num_rows(), rows);
-        let mut given = Vec::new(alloc);
-        for chunk in group {
-            given.push(numbers_of(alloc, &chunk?)?)?;
+/// The number of rows, and the numbers of all chunks.
+fn numbers_in(
+    alloc: Global,
+    asked: Asked<'_>,
+    rows: usize,
+    limit: Option<usize>,
+) -> Result<(usize, Vec<Vec<i128>>), Error> {
+    let columns = columns_of(alloc, asked)?;
+    let group = RowGroupDeserializer::new(alloc, columns, rows, limit)?;
+    let own = group.num_rows();
+    let mut given = Vec::new(alloc);
+    for chunk in group {
+        given.push(numbers_of(alloc, &chunk?)?)?;
+    }
+    Ok((own, given))
+}
+
+fn check_groups(alloc: Global, groups: &[Given<'_>]) -> Result<(), Fail> {
+    for (asked, rows, limit, chunks) in groups {
+        let (own, given) = numbers_in(alloc, *asked, *rows, *limit)?;
+        if own != *rows {
+            return Err(Fail::new(format_args!("{own} rows for {rows}")));
         }
-        assert_eq!(rt; given.len(), chunks.len());
-        for (numbers, chunk) in given.iter().zip(chunks.iter()) {
-            assert_eq!(rt; numbers.as_slice(), *chunk);
-        }
+        check_chunks(given.as_slice(), *chunks)?;
     }
     Ok(())
+}
+
+#[test]
+fn chunks_of_groups(rt: HostRuntime) -> Result<(), Fail> {
+    check_groups(rt.alloc(), &CHUNKS)
 }
 
 #[test]

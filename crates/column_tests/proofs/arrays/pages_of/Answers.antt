@@ -4,12 +4,12 @@ use Rattle.parquet_page.specs.Content.{DataContent}
 use Rattle.parquet_page.specs.Lent.{Lent}
 use Rattle.page_decoding.specs.Column.{DataPagesAre}
 use Rattle.flat_values.proofs.ReaderLemmas.{chunk_pages_are}
-use Rattle.column_tests.proofs.arrays.pages_with.Goals as goal
+use Rattle.column_tests.proofs.arrays.pages_of.Goals as goal
 
 pub returns : goal.returns
 returns c =
     let P : DataContent → Type 0 = λ page. page.type.physical_type ≡ c.args.physical in
     let Q : Lent → Type 0 = λ lent. DataPagesAre P lent.pages in
-    let type = c.column.result.descriptor.primitive_type in
+    let type = c.column-column.result.descriptor.primitive_type in
     IfOk-weaker c.new.result _ _
-    (λ reader lends. subst Q (sym lends) (chunk_pages_are P type (λ page e. ap (λ t. t.physical_type) e ∙ c.column.ensures) c.column.result.num_values c.args.chunk.items)) c.new.ensures.lends
+    (λ reader lends. subst Q (sym lends) (chunk_pages_are P type (λ page e. ap (λ t. t.physical_type) e ∙ c.column-column.ensures) c.column-column.result.num_values c.in_ok-chunk_of.field-0.items)) c.new.ensures.lends
