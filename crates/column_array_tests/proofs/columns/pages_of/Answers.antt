@@ -10,6 +10,6 @@ pub returns-clause-typed : goal.returns-clause-typed
 returns-clause-typed c =
     let P : DataContent → Type 0 = λ page. page.type.physical_type ≡ c.args.physical in
     let Q : Lent → Type 0 = λ lent. DataPagesAre P lent.pages in
-    let type = c.column.result.descriptor.primitive_type in
+    let type = c.column-column.result.descriptor.primitive_type in
     IfOk-weaker c.new.result _ _
-    (λ reader lends. subst Q (sym lends) (chunk_pages_are P type (λ page e. ap (λ t. t.physical_type) e ∙ c.column.ensures) c.column.result.num_values c.args.chunk.items)) c.new.ensures.lends
+    (λ reader lends. subst Q (sym lends) (chunk_pages_are P type (λ page e. ap (λ t. t.physical_type) e ∙ c.column-column.ensures) c.column-column.result.num_values c.in_ok-chunk_of.field-0.items)) c.new.ensures.lends
