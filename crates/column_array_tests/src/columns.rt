@@ -1,15 +1,14 @@
 //! Columns of each stored type as iterators of arrays, from the bytes of their chunks.
-ghost use Rattle.std.specs.Prelude.{◌≡◌, true, IfOk};
+ghost use Rattle.std.specs.Prelude.{◌≡◌, true};
 ghost use Rattle.parquet_page.specs.Lending.{DataPagesAre, has_data_behind};
-ghost use Rattle.parquet_page.specs.Reader.{reader_pages};
 
 use column_arrays::binary::{Delta, FilteredDelta};
 use column_arrays::page_iter_to_arrays;
 use columns_core::{Array, Cell, DataType, Error, Part, TimeUnit};
 use pages_for_tests::Page::First;
-use pages_for_tests::{Page, chunk_of, column};
+use pages_for_tests::{Page, pages_of};
 use parquet_meta::{PhysicalType, PrimitiveType, Repetition};
-use parquet_page::{DataPage, DataPageHeader, PageReader, Pages};
+use parquet_page::{DataPage, DataPageHeader, Pages};
 use std::alloc::Global;
 use std::iter::Iterator;
 use std::test::*;
@@ -60,17 +59,7 @@ fn rows_of<I: Pages>(
     Ok(all)
 }
 
-/// The pages of a chunk of four required values.
-fn pages_of(alloc: Global, physical: PhysicalType, pages: &[Page<'_>]) -> Result<PageReader, Error>
-    ensures typed { IfOk result (λ reader.
-        DataPagesAre (λ page. page.type.physical_type ≡ physical) (reader_pages reader)) }
-    ensures ordered { IfOk result (λ reader. has_data_behind (reader_pages reader) ≡ true) }
-{
-    let column = column(alloc, physical, Repetition::Required, 4);
-    PageReader::new(alloc, chunk_of(alloc, pages)?, &column)
-}
-
-/// The rows of such a chunk.
+/// The rows of a chunk of four required values.
 fn rows_in(
     alloc: Global,
     physical: PhysicalType,
@@ -78,8 +67,8 @@ fn rows_in(
     data_type: DataType,
     chunk_size: Option<usize>,
 ) -> Result<Vec<u8>, Error> {
-    let pages = pages_of(alloc, physical, pages)?;
     let required = Repetition::Required;
+    let pages = pages_of(alloc, physical, (required, 4, pages))?;
     rows_of(alloc, pages, physical, required, data_type, chunk_size)
 }
 
@@ -188,7 +177,7 @@ fn columns_that_are_not_begun(rt: HostRuntime) -> Result<(), Fail> {
     assert_eq!(rt; refused, Some(Error::NotYetImplemented(Part::Schema)));
     let refused = rows_in(alloc, truths, &TRUTHS, DataType::Boolean, Some(0)).err();
     assert_eq!(rt; refused, Some(Error::InvalidArgumentError(Part::Request)));
-    let pages = pages_of(alloc, truths, &[])?;
+    let pages = pages_of(alloc, truths, (Repetition::Required, 4, &[]))?;
     let repeated = Repetition::Repeated;
     let refused = rows_of(alloc, pages, truths, repeated, DataType::Boolean, None).err();
     assert_eq!(rt; refused, Some(Error::NotYetImplemented(Part::Schema)));

@@ -1,15 +1,14 @@
 //! Dictionary columns as iterators of arrays, from the bytes of their chunks.
-ghost use Rattle.std.specs.Prelude.{◌≡◌, true, IfOk};
+ghost use Rattle.std.specs.Prelude.{◌≡◌, true};
 ghost use Rattle.parquet_page.specs.Lending.{DataPagesAre, has_data_behind};
-ghost use Rattle.parquet_page.specs.Reader.{reader_pages};
 
 use crate::columns::push_cells;
 use column_arrays::page_iter_to_arrays;
 use columns_core::{Array, Boxed, DataType, Error, IntegerType, Part};
 use pages_for_tests::Page::{Bytes, Entries, First};
-use pages_for_tests::{Page, chunk_of, column};
+use pages_for_tests::{Page, Stored, pages_of};
 use parquet_meta::{PhysicalType, PrimitiveType, Repetition};
-use parquet_page::{PageReader, Pages};
+use parquet_page::Pages;
 use std::alloc::Global;
 use std::iter::Iterator;
 use std::test::*;
@@ -55,35 +54,17 @@ fn keys_of<I: Pages>(
     Ok(all)
 }
 
-/// The pages of a chunk of so many values.
-fn pages_of(
-    alloc: Global,
-    physical: PhysicalType,
-    repetition: Repetition,
-    num_values: u64,
-    pages: &[Page<'_>],
-) -> Result<PageReader, Error>
-    ensures typed { IfOk result (λ reader.
-        DataPagesAre (λ page. page.type.physical_type ≡ physical) (reader_pages reader)) }
-    ensures ordered { IfOk result (λ reader. has_data_behind (reader_pages reader) ≡ true) }
-{
-    let column = column(alloc, physical, repetition, num_values);
-    PageReader::new(alloc, chunk_of(alloc, pages)?, &column)
-}
-
-/// The rows of such a chunk, as keys of a type that name entries of a type.
+/// The rows of a chunk, as keys of a type that name entries of a type.
 fn keys_in(
     alloc: Global,
     physical: PhysicalType,
-    repetition: Repetition,
-    num_values: u64,
-    pages: &[Page<'_>],
+    stored: Stored<'_>,
     key: IntegerType,
     entry: DataType,
     chunk_size: Option<usize>,
 ) -> Result<Vec<u8>, Error> {
     let data_type = DataType::Dictionary(key, Boxed::new(alloc, entry)?, false);
-    let pages = pages_of(alloc, physical, repetition, num_values, pages)?;
+    let pages = pages_of(alloc, physical, stored)?;
     keys_of(alloc, pages, physical, data_type, chunk_size)
 }
 
@@ -96,9 +77,8 @@ static TWO_PAGES: [Page<'static>; 3] = [
 
 /// The rows of these pages as keys of a type that name texts or byte strings, in arrays of three rows.
 fn strings_by(alloc: Global, key: IntegerType, entry: DataType) -> Result<Vec<u8>, Error> {
-    let stored = PhysicalType::ByteArray;
-    let optional = Repetition::Optional;
-    keys_in(alloc, stored, optional, 8, &TWO_PAGES, key, entry, Some(3))
+    let stored: Stored<'_> = (Repetition::Optional, 8, &TWO_PAGES);
+    keys_in(alloc, PhysicalType::ByteArray, stored, key, entry, Some(3))
 }
 
 #[test]
@@ -130,11 +110,8 @@ fn small_keys_in(
     pages: &[Page<'_>],
     entry: DataType,
 ) -> Result<Vec<u8>, Error> {
-    let key = IntegerType::Int8;
-    let required = Repetition::Required;
-    keys_in(
-        alloc, physical, required, num_values, pages, key, entry, None,
-    )
+    let stored = (Repetition::Required, num_values, pages);
+    keys_in(alloc, physical, stored, IntegerType::Int8, entry, None)
 }
 
 /// The numbers 7 and 258 as entries, and four rows with the keys 0, 1, 1 and 0.
@@ -210,11 +187,9 @@ fn dictionaries_that_are_not_begun(rt: HostRuntime) -> Result<(), Fail> {
     let stored = PhysicalType::Int64;
     let error = small_keys_in(alloc, stored, 4, &[], DataType::UInt32).err();
     assert_eq!(rt; error, Some(Error::NotYetImplemented(Part::Schema)));
-    let stored = PhysicalType::ByteArray;
-    let required = Repetition::Required;
-    let key = IntegerType::Int8;
-    let text = DataType::Utf8;
-    let error = keys_in(alloc, stored, required, 4, &[], key, text, Some(0)).err();
+    let stored: Stored<'_> = (Repetition::Required, 4, &[]);
+    let (physical, key) = (PhysicalType::ByteArray, IntegerType::Int8);
+    let error = keys_in(alloc, physical, stored, key, DataType::Utf8, Some(0)).err();
     assert_eq!(rt; error, Some(Error::InvalidArgumentError(Part::Request)));
     Ok(())
 }

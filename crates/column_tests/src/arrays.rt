@@ -3,7 +3,6 @@ ghost use Rattle.std.specs.Prelude.{◌≡◌, ◌<◌, IfOk};
 ghost use Rattle.page_decoding.specs.Column.{DataPagesAre};
 ghost use Rattle.parquet_meta.specs.declared.metadata.PhysicalType.TheVariants.{Boolean, FixedLenByteArray, Int32};
 ghost use Rattle.parquet_page.specs.Indexed.{indexed_pages};
-ghost use Rattle.parquet_page.specs.Reader.{reader_pages};
 
 use columns_core::{
     BooleanArray, DataType, Error, FixedSizeBinaryArray, IntervalUnit, MutablePrimitiveArray,
@@ -14,13 +13,12 @@ use flat_values::{
     Months, NumberValues, TruthValues, Values, boolean, fixed_size_binary, null, primitive,
 };
 use pages_for_tests::Page::{Entries, First, Second};
-use pages_for_tests::{Page, chunk_of, column};
+use pages_for_tests::{Page, Stored, chunk_of, column, pages_of};
 use parquet_base::Steps;
 use parquet_meta::Repetition::{Optional, Required};
 use parquet_meta::{PageLocation, PhysicalType, Repetition};
-use parquet_page::{IndexedPageReader, Interval, PageReader, Pages, select_pages};
+use parquet_page::{IndexedPageReader, Interval, Pages, select_pages};
 use std::alloc::{AllocError, Global};
-use std::fmt::Debug;
 use std::iter::Iterator;
 use std::marker::Brand;
 use std::sync::ledger::{Blank, Ledger};
@@ -35,9 +33,6 @@ pub(crate) const LONG_LEVELS: &[u8] = &[2, 0, 0, 0, 0x03, 0x0D];
 /// Definition levels of four nulls, behind their length.
 const NO_LEVELS: &[u8] = &[2, 0, 0, 0, 0x08, 0x00];
 
-/// A chunk: whether its values are optional, how many there are, and its pages.
-pub(crate) type Stored<'a> = (Repetition, u64, &'a [Page<'a>]);
-
 /// Where the pages of a chunk stand: the first byte, the length and the first row of each.
 pub(crate) type Places<'a> = &'a [(i64, i32, i64)];
 
@@ -48,7 +43,7 @@ type Read<'a, T> = (Stored<'a>, Result<&'a [T], Error>);
 type Selected<'a, T> = (Stored<'a>, Places<'a>, Interval, Result<&'a [T], Error>);
 
 /// Fails where other rows were found than a row of a table has.
-pub(crate) fn check<T: PartialEq + Debug + Copy>(
+pub(crate) fn check<T: PartialEq + Copy>(
     row: usize,
     found: Result<Vec<T>, Error>,
     wanted: Result<&[T], Error>,
@@ -62,20 +57,6 @@ pub(crate) fn check<T: PartialEq + Debug + Copy>(
         return Err(Fail::new(format_args!("row {row} is read otherwise")));
     }
     Ok(())
-}
-
-/// The pages of a chunk.
-pub(crate) fn pages_of(
-    alloc: Global,
-    physical: PhysicalType,
-    stored: Stored<'_>,
-) -> Result<PageReader, Error>
-    ensures { IfOk result (λ reader.
-        DataPagesAre (λ page. page.type.physical_type ≡ physical) (reader_pages reader)) }
-{
-    let (repetition, num_values, pages) = stored;
-    let column = column(alloc, physical, repetition, num_values);
-    PageReader::new(alloc, chunk_of(alloc, pages)?, &column)
 }
 
 fn locations_of(alloc: Global, places: Places<'_>) -> Result<Vec<PageLocation>, AllocError> {
@@ -459,7 +440,16 @@ fn check_numbers(alloc: Global, reads: &[Read<'_, Option<i32>>]) -> Result<(), F
     Ok(())
 }
 
-static SELECTED_NUMBERS: [Selected<'static, Option<i32>>; 2] = [
+static SELECTED_NUMBERS: [Selected<'static, Option<i32>>; 3] = [
+    (
+        (Optional, 4, &[First(4, 0, LONG_LEVELS, NUMBERS)]),
+        &[(0, 35, 0)],
+        Interval {
+            start: 1,
+            length: 2,
+        },
+        Ok(&[None, Some(8)]),
+    ),
     // A page that ends before its location does.
     (
         (

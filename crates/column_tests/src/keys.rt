@@ -1,31 +1,21 @@
 //! Columns of keys, read into arrays of dictionaries from the bytes of their chunks.
-ghost use Rattle.std.specs.Prelude.{◌≡◌, true, IfOk};
+ghost use Rattle.std.specs.Prelude.{◌≡◌, true};
 ghost use Rattle.parquet_page.specs.Lending.{has_data_behind};
-ghost use Rattle.parquet_page.specs.Reader.{reader_pages};
 
-use crate::arrays::{LONG_LEVELS, Stored, check};
+use crate::arrays::{LONG_LEVELS, check};
 use crate::texts::push_cells;
 use binary_values::ByteValues;
 use columns_core::{Boxed, DataType, DictionaryArray, Error, IntegerType, Part};
 use dictionary_values::{StoredKey, binary, fixed_size_binary};
 use flat_values::FixedValues;
 use pages_for_tests::Page::{Bytes, Entries, First};
-use pages_for_tests::{Page, chunk_of, column};
+use pages_for_tests::{Page, Stored, pages_of};
 use parquet_meta::PhysicalType;
 use parquet_meta::Repetition::{Optional, Required};
 use parquet_page::{PageReader, Pages};
 use std::alloc::Global;
 use std::iter::Iterator;
 use std::test::*;
-
-/// The pages of a chunk.
-fn pages_of(alloc: Global, physical: PhysicalType, stored: Stored<'_>) -> Result<PageReader, Error>
-    ensures { IfOk result (λ reader. has_data_behind (reader_pages reader) ≡ true) }
-{
-    let (repetition, num_values, pages) = stored;
-    let column = column(alloc, physical, repetition, num_values);
-    PageReader::new(alloc, chunk_of(alloc, pages)?, &column)
-}
 
 /// The entries of an array, and its keys as digits, a null as a dash.
 fn push_array(alloc: Global, all: &mut Vec<u8>, array: &DictionaryArray) -> Result<(), Error> {

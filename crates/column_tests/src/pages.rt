@@ -196,14 +196,14 @@ fn walk_over(page: &DataPage<'_>) -> Result<OptionalPageValidity, Error>
 }
 
 /// The bits of a word, how many rows it has, and how many of those have a value.
-fn word_of(part: Option<ValidityPart>) -> Option<(u32, usize, usize)> {
+pub(crate) fn word_of(part: Option<ValidityPart>) -> Option<(u32, usize, usize)> {
     match part {
         Some(ValidityPart::Word(word)) => Some((word.bits, word.rows, word.present())),
         _ => None,
     }
 }
 
-fn run_of(part: Option<ValidityPart>) -> Option<Run> {
+pub(crate) fn run_of(part: Option<ValidityPart>) -> Option<Run> {
     match part {
         Some(ValidityPart::Run(run)) => Some(run),
         _ => None,

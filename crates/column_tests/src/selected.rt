@@ -1,23 +1,9 @@
 //! Selected rows of a page, in parts.
+use crate::pages::{run_of, word_of};
 use page_decoding::FilteredOptionalPageValidity;
 use parquet_meta::{DataPageHeader, PhysicalType, PrimitiveType, Repetition};
-use parquet_page::{DataPage, Interval, Run, ValidityPart};
+use parquet_page::{DataPage, Interval, Run};
 use std::test::*;
-
-/// The bits of a word, how many rows it has, and how many of those have a value.
-fn word_of(part: Option<ValidityPart>) -> Option<(u32, usize, usize)> {
-    match part {
-        Some(ValidityPart::Word(word)) => Some((word.bits, word.rows, word.present())),
-        _ => None,
-    }
-}
-
-fn run_of(part: Option<ValidityPart>) -> Option<Run> {
-    match part {
-        Some(ValidityPart::Run(run)) => Some(run),
-        _ => None,
-    }
-}
 
 const OPTIONAL: PrimitiveType = PrimitiveType {
     physical_type: PhysicalType::Int32,

@@ -3,11 +3,11 @@ ghost use Rattle.std.specs.Prelude.{◌≡◌};
 ghost use Rattle.page_decoding.specs.Column.{DataPagesAre};
 ghost use Rattle.parquet_meta.specs.declared.metadata.PhysicalType.TheVariants.{ByteArray};
 
-use crate::arrays::{LEVELS, Stored, check, located_pages, pages_of};
+use crate::arrays::{LEVELS, check, located_pages};
 use binary_values::binary;
 use columns_core::{Array, Cell, DataType, Error, Part};
-use pages_for_tests::Page;
 use pages_for_tests::Page::{Entries, First, Second};
+use pages_for_tests::{Page, Stored, pages_of};
 use parquet_meta::PhysicalType;
 use parquet_meta::Repetition::{Optional, Required};
 use parquet_page::{Interval, Pages};

@@ -5,6 +5,7 @@ use flat_values::{
     NumberValues, Scale, TruthValues, ValueDecoder, ValueEncoding, Values, convert_days_ms,
     convert_i128, convert_year_month, unifiy_timestmap_unit,
 };
+use page_decoding::Pushable;
 use parquet_meta::{ParquetTimeUnit, PrimitiveLogicalType};
 use parquet_page::DictPage;
 use std::test::*;
@@ -91,6 +92,17 @@ fn fixed_bytes(rt: HostRuntime) -> Result<(), Fail> {
     assert_eq!(rt; items.len(), 3);
     items.extend_from_plain(&[3, 4])?;
     assert_eq!(rt; items.values(), [1, 2, 0, 0, 0, 0, 3, 4].as_slice());
+    Ok(())
+}
+
+#[test]
+fn numbers_that_are_appended(rt: HostRuntime) -> Result<(), Fail> {
+    let mut numbers: Vec<i32> = Vec::new(rt.alloc());
+    Pushable::reserve(&mut numbers, 4)?;
+    Pushable::push(&mut numbers, 7)?;
+    numbers.push_null()?;
+    numbers.extend_constant(2, 5)?;
+    assert_eq!(rt; numbers.as_slice(), [7, 0, 5, 5].as_slice());
     Ok(())
 }
 

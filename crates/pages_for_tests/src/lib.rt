@@ -1,12 +1,15 @@
 //! Chunks of pages, and columns that they are chunks of, for tests to be run over.
 #![tactic(auto)]
 
-ghost use Rattle.std.specs.Prelude.{◌≡◌};
+ghost use Rattle.std.specs.Prelude.{◌≡◌, true, IfOk};
+ghost use Rattle.parquet_page.specs.Lending.{DataPagesAre, has_data_behind};
+ghost use Rattle.parquet_page.specs.Reader.{reader_pages};
 
-use columns_core::Seq;
+use columns_core::{Error, Seq};
 use parquet_meta::{
     ColumnChunkMetaData, ColumnDescriptor, PhysicalType, PrimitiveType, Repetition,
 };
+use parquet_page::PageReader;
 use std::alloc::{AllocError, Global};
 
 /// A page of a chunk. It has less than 64 values and a body of less than 64 bytes.
@@ -20,6 +23,24 @@ pub enum Page<'a> {
     Entries(u8, &'a [u8]),
     /// Bytes as they are.
     Bytes(&'a [u8]),
+}
+
+/// A chunk: whether its values are optional, how many there are, and its pages.
+pub type Stored<'a> = (Repetition, u64, &'a [Page<'a>]);
+
+/// The pages of a chunk, as a reader lends them.
+pub fn pages_of(
+    alloc: Global,
+    physical: PhysicalType,
+    stored: Stored<'_>,
+) -> Result<PageReader, Error>
+    ensures typed { IfOk result (λ reader.
+        DataPagesAre (λ page. page.type.physical_type ≡ physical) (reader_pages reader)) }
+    ensures ordered { IfOk result (λ reader. has_data_behind (reader_pages reader) ≡ true) }
+{
+    let (repetition, num_values, pages) = stored;
+    let column = column(alloc, physical, repetition, num_values);
+    PageReader::new(alloc, chunk_of(alloc, pages)?, &column)
 }
 
 /// These pages, one behind the other.

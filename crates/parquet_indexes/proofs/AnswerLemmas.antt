@@ -14,11 +14,12 @@ use Rattle.parquet_meta.specs.Source.{Finds, IsReadFailure}
 use Rattle.parquet_meta.specs.declared.metadata.PageLocation.{PageLocation}
 use Rattle.parquet_meta.specs.declared.metadata.RowGroupMetaData.{RowGroupMetaData}
 use Rattle.parquet_page.specs.declared.page.FilteredPage.{FilteredPage}
+use Rattle.page_decoding.proofs.RowLemmas.{one_of-left, one_of-right}
 use Rattle.parquet_indexes.specs.Answered.{AnswersAt, AreChosen, AreShown, ChosenRows, IsAnswer, Question, RefusesToChoose, RowsOfPages, causes_of_question}
 use Rattle.parquet_indexes.specs.FieldStatistics.{AreOfFields, causes_of_fields}
 use Rattle.parquet_indexes.specs.PageMaps.{InFields, field_maps, in_fields, locations_of_fields, pages_at_places, rows_at_places, rows_of_fields}
 use Rattle.parquet_indexes.specs.declared.page_statistics.FieldPageStatistics.{FieldPageStatistics}
-use Rattle.parquet_indexes.proofs.ErrorLemmas.{first_of, one_left, one_right}
+use Rattle.parquet_indexes.proofs.ErrorLemmas.{first_of}
 use Rattle.parquet_indexes.proofs.MadeLemmas.{some_next}
 use Rattle.parquet_indexes.proofs.TellingLemmas.{fails_more}
 
@@ -35,12 +36,12 @@ module _ (group : RowGroupMetaData) (fields : List Field) where
   statistics_fail told before now e fails = fails_more told before before now (causes_of_fields group.columns fields) (causes_of_question group fields) e (omega arith) (within told) fails where
     within : (told : Option (List ℕ)) → IfSome told (λ file. (o : Option Cause) → IsOneOf (causes_of_fields group.columns fields file) o → IsOneOf (causes_of_question group fields file) o)
     within None = tt
-    within (Some file) = λ o one. one_left (causes_of_fields group.columns fields file) (of_rows file) o one
+    within (Some file) = λ o one. one_of-left (causes_of_fields group.columns fields file) (of_rows file) o one
 
   -- Where there are no rows, an index is damaged.
   no_rows : (file : List ℕ) → rows_of_fields group fields file ≡ None → IsOneOf (causes_of_question group fields file) (Some ExternalFormat)
   no_rows file none =
-      one_right (causes_of_fields group.columns fields file) (of_rows file) (Some ExternalFormat)
+      one_of-right (causes_of_fields group.columns fields file) (of_rows file) (Some ExternalFormat)
       (subst (λ causes. IsOneOf causes (Some ExternalFormat)) (sym (ap (λ o. unless (is_some o) ExternalFormat) none)) (first_of ExternalFormat []))
 
   lost : {X : Type 0} (view : X → InFields PageLocation) (told : Option (List ℕ)) (mid now : ℕ) (e : Error) → Finds view Found told mid now (Err e) → IsReadFailure told mid now (causes_of_question group fields) e

@@ -8,7 +8,7 @@ use Rattle.std.proofs.lemmas.List.Sums.{sum_by-cons}
 use Rattle.columns_core.specs.Causes.{Cause, IsOneOf, IsWantOfMemory, cause_of}
 use Rattle.columns_core.specs.declared.error.Error.{Error}
 use Rattle.columns_core.specs.declared.error.Error.TheVariants as error
-use Rattle.parquet_indexes.proofs.ErrorLemmas.{one_left}
+use Rattle.page_decoding.proofs.RowLemmas.{one_of-left}
 
 -- ---- failures
 
@@ -88,4 +88,4 @@ module _ {A B : Type 0} (R : List ℕ → A → B → Type 0) (causes : List ℕ
       (subst (λ (o : Option (List ℕ)). IsReadFailure o b c (λ file. causes file x) e) same fails) where
         within : (told : Option (List ℕ)) → IsTelling R causes cost told all (x ∷ rest) items before_all taken → IfSome told (λ file. (o : Option Cause) → IsOneOf (causes file x) o → IsOneOf (flat_map (causes file) all) o)
         within None telling = tt
-        within (Some file) telling = λ o one. subst (λ all. IsOneOf all o) (sym telling.none) (one_left (causes file x) (flat_map (causes file) rest) o one)
+        within (Some file) telling = λ o one. subst (λ all. IsOneOf all o) (sym telling.none) (one_of-left (causes file x) (flat_map (causes file) rest) o one)

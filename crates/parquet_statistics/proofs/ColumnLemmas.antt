@@ -28,7 +28,7 @@ use Rattle.parquet_statistics.proofs.RefusalLemmas.{demand_met, none_of_both}
 
 -- ---- types
 
-types_so : (named : Option (List DataType)) (own : List DataType) → named ≡ Some own → are_named named own ≡ true
+pub types_so : (named : Option (List DataType)) (own : List DataType) → named ≡ Some own → are_named named own ≡ true
 types_so named own is = ap (λ found. are_named found own) is ∙ same_itself (coded_list data_type_row.coded) own own refl
 
 types_from : (named : Option (List DataType)) (own : List DataType) → are_named named own ≡ true → named ≡ Some own

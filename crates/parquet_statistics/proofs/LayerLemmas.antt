@@ -35,7 +35,7 @@ inside_of data_type = inside_layer (out-DataType data_type)
 -- ---- by the constructor of a type
 
 module _ (key : IntegerType) (value : DataType) (ordered : Bool) where
-  dictionary_out : out-DataType (Dictionary key value ordered) ≡ DataType-F.Dictionary key value ordered
+  pub dictionary_out : out-DataType (Dictionary key value ordered) ≡ DataType-F.Dictionary key value ordered
   unfolding Rattle.columns_core.specs.declared.data_type.DataType.TheViews.roll-DataType out-DataType denote.Hole.Carrier.roll
   dictionary_out = ap out-DataType (rolls-Dictionary key value ordered) ∙ out-roll-DataType (DataType-F.Dictionary key value ordered)
 
@@ -43,14 +43,14 @@ module _ (key : IntegerType) (value : DataType) (ordered : Bool) where
   inside_dictionary = ap inside_layer dictionary_out
 
 module _ (field : Field) where
-  list_out : out-DataType (ListType field) ≡ DataType-F.List field
+  pub list_out : out-DataType (ListType field) ≡ DataType-F.List field
   unfolding Rattle.columns_core.specs.declared.data_type.DataType.TheViews.roll-DataType out-DataType denote.Hole.Carrier.roll
   list_out = ap out-DataType (rolls-List field) ∙ out-roll-DataType (DataType-F.List field)
 
   pub inside_list : inside_of (ListType field) ≡ Items field.data_type
   inside_list = ap inside_layer list_out
 
-  large_out : out-DataType (LargeList field) ≡ DataType-F.LargeList field
+  pub large_out : out-DataType (LargeList field) ≡ DataType-F.LargeList field
   unfolding Rattle.columns_core.specs.declared.data_type.DataType.TheViews.roll-DataType out-DataType denote.Hole.Carrier.roll
   large_out = ap out-DataType (rolls-LargeList field) ∙ out-roll-DataType (DataType-F.LargeList field)
 
@@ -58,7 +58,7 @@ module _ (field : Field) where
   inside_large = ap inside_layer large_out
 
   module _ (is_sorted : Bool) where
-    map_out : out-DataType (Map field is_sorted) ≡ DataType-F.Map field is_sorted
+    pub map_out : out-DataType (Map field is_sorted) ≡ DataType-F.Map field is_sorted
     unfolding Rattle.columns_core.specs.declared.data_type.DataType.TheViews.roll-DataType out-DataType denote.Hole.Carrier.roll
     map_out = ap out-DataType (rolls-Map field is_sorted) ∙ out-roll-DataType (DataType-F.Map field is_sorted)
 
@@ -66,7 +66,7 @@ module _ (field : Field) where
     inside_map = ap inside_layer map_out
 
 module _ (fields : List Field) where
-  struct_out : out-DataType (Struct fields) ≡ DataType-F.Struct fields
+  pub struct_out : out-DataType (Struct fields) ≡ DataType-F.Struct fields
   unfolding Rattle.columns_core.specs.declared.data_type.DataType.TheViews.roll-DataType out-DataType denote.Hole.Carrier.roll
   struct_out = ap out-DataType (rolls-Struct fields) ∙ out-roll-DataType (DataType-F.Struct fields)
 

@@ -16,6 +16,7 @@ mod PushedLemmas
 mod ToldLemmas
 mod FitLemmas
 mod InsideLemmas
+mod KeyedLemmas
 mod CountedLemmas
 mod SingleLemmas
 mod ColumnLemmas

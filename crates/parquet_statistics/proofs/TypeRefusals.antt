@@ -3,7 +3,7 @@ use Rattle.std.proofs.Common.{◌≡◌, refl, sym, ◌∙◌, ap, subst, Bool, 
 use Rattle.std.specs.Prelude.{◌⊎◌, ◌==◌, not, if◌then◌else◌, Some}
 use Rattle.columns_core.specs.Causes.{IsWantOfMemory, NotYetImplemented}
 use Rattle.columns_core.specs.Types.{Layer}
-use Rattle.columns_core.specs.declared.data_type.DataType.{DataType, Dictionary, List as ListType, LargeList, Struct, Map, fold_out-DataType, map-DataType, out-DataType, out-roll-DataType, roll-out-DataType, roll-DataType}
+use Rattle.columns_core.specs.declared.data_type.DataType.{DataType, Dictionary, List as ListType, LargeList, Struct, Map, fold_out-DataType, map-DataType, out-DataType, roll-out-DataType, roll-DataType}
 use Rattle.columns_core.specs.declared.data_type.DataType.TheOpen.{DataType-F}
 use denote.Hole.Carrier
 use Rattle.columns_core.specs.declared.data_type.DataType.TheViews
@@ -17,6 +17,7 @@ use Rattle.flat_builders.specs.Flat.{Flat, Sizeless, flatness, flatness_at}
 use Rattle.flat_builders.specs.Kept.{IsRefusedType}
 use Rattle.parquet_statistics.specs.BuiltTypes.{item_type, is_large_list_at, refusals_of_all, refusals_of_field, refusals_of_fields, type_refusals, type_refusals_at}
 use Rattle.parquet_statistics.specs.Refusal.{Refusal, Caused, IsRefusedBy, demand}
+use Rattle.parquet_statistics.proofs.LayerLemmas.{dictionary_out, large_out, list_out, map_out, struct_out}
 use Rattle.parquet_statistics.proofs.RefusalLemmas.{first_refusal, refused_cause}
 
 abbrev Refusals : Type 0
@@ -58,58 +59,38 @@ refusals_out data_type = fold_out-DataType Refusals Refusals type_refusals_at re
 -- ---- by the constructor of a type
 
 module _ (key : IntegerType) (value : DataType) (ordered : Bool) where
-  dictionary_out : out-DataType (Dictionary key value ordered) ≡ DataType-F.Dictionary key value ordered
-  unfolding Rattle.columns_core.specs.declared.data_type.DataType.TheViews.roll-DataType out-DataType denote.Hole.Carrier.roll
-  dictionary_out = ap out-DataType (rolls-Dictionary key value ordered) ∙ out-roll-DataType (DataType-F.Dictionary key value ordered)
-
   pub refusals_of_dictionary : type_refusals (Dictionary key value ordered) ≡ type_refusals value
-  refusals_of_dictionary = refusals_out (Dictionary key value ordered) ∙ ap refusals_here dictionary_out
+  refusals_of_dictionary = refusals_out (Dictionary key value ordered) ∙ ap refusals_here (dictionary_out key value ordered)
 
   pub entry_of_dictionary : entry_type (Dictionary key value ordered) ≡ Some value
-  entry_of_dictionary = ap entry_type_at dictionary_out
+  entry_of_dictionary = ap entry_type_at (dictionary_out key value ordered)
 
 module _ (field : Field) where
-  list_out : out-DataType (ListType field) ≡ DataType-F.List field
-  unfolding Rattle.columns_core.specs.declared.data_type.DataType.TheViews.roll-DataType out-DataType denote.Hole.Carrier.roll
-  list_out = ap out-DataType (rolls-List field) ∙ out-roll-DataType (DataType-F.List field)
-
   pub refusals_of_list : type_refusals (ListType field) ≡ type_refusals field.data_type
-  refusals_of_list = refusals_out (ListType field) ∙ ap refusals_here list_out
+  refusals_of_list = refusals_out (ListType field) ∙ ap refusals_here (list_out field)
 
   pub item_of_list : item_type (ListType field) ≡ Some field.data_type
-  item_of_list = ap (λ (layer : Layer). list_type_at (is_large_list_at layer) layer) list_out
-
-  large_out : out-DataType (LargeList field) ≡ DataType-F.LargeList field
-  unfolding Rattle.columns_core.specs.declared.data_type.DataType.TheViews.roll-DataType out-DataType denote.Hole.Carrier.roll
-  large_out = ap out-DataType (rolls-LargeList field) ∙ out-roll-DataType (DataType-F.LargeList field)
+  item_of_list = ap (λ (layer : Layer). list_type_at (is_large_list_at layer) layer) (list_out field)
 
   pub refusals_of_large : type_refusals (LargeList field) ≡ type_refusals field.data_type
-  refusals_of_large = refusals_out (LargeList field) ∙ ap refusals_here large_out
+  refusals_of_large = refusals_out (LargeList field) ∙ ap refusals_here (large_out field)
 
   pub item_of_large : item_type (LargeList field) ≡ Some field.data_type
-  item_of_large = ap (λ (layer : Layer). list_type_at (is_large_list_at layer) layer) large_out
+  item_of_large = ap (λ (layer : Layer). list_type_at (is_large_list_at layer) layer) (large_out field)
 
   module _ (is_sorted : Bool) where
-    map_out : out-DataType (Map field is_sorted) ≡ DataType-F.Map field is_sorted
-    unfolding Rattle.columns_core.specs.declared.data_type.DataType.TheViews.roll-DataType out-DataType denote.Hole.Carrier.roll
-    map_out = ap out-DataType (rolls-Map field is_sorted) ∙ out-roll-DataType (DataType-F.Map field is_sorted)
-
     pub refusals_of_map : type_refusals (Map field is_sorted) ≡ type_refusals field.data_type
-    refusals_of_map = refusals_out (Map field is_sorted) ∙ ap refusals_here map_out
+    refusals_of_map = refusals_out (Map field is_sorted) ∙ ap refusals_here (map_out field is_sorted)
 
     pub pairs_of_map : map_type (Map field is_sorted) ≡ Some field.data_type
-    pairs_of_map = ap map_type_at map_out
+    pairs_of_map = ap map_type_at (map_out field is_sorted)
 
 module _ (fields : List Field) where
-  struct_out : out-DataType (Struct fields) ≡ DataType-F.Struct fields
-  unfolding Rattle.columns_core.specs.declared.data_type.DataType.TheViews.roll-DataType out-DataType denote.Hole.Carrier.roll
-  struct_out = ap out-DataType (rolls-Struct fields) ∙ out-roll-DataType (DataType-F.Struct fields)
-
   pub refusals_of_struct : type_refusals (Struct fields) ≡ refusals_of_fields fields
-  refusals_of_struct = refusals_out (Struct fields) ∙ ap refusals_here struct_out
+  refusals_of_struct = refusals_out (Struct fields) ∙ ap refusals_here (struct_out fields)
 
   pub fields_of_struct : field_types (Struct fields) ≡ Some (map (λ (field : Field). field.data_type) fields)
-  fields_of_struct = ap field_types_at struct_out
+  fields_of_struct = ap field_types_at (struct_out fields)
 
 -- ---- any other type
 

@@ -1,7 +1,6 @@
 -- Over columns of one length, as many as a type has, what is made has the type and its number of slots, and refuses no argument.
 use Rattle.std.proofs.Common.{◌≡◌, refl, sym, ◌∙◌, ap, ℕ, zero, suc, ◌≤◌, Bool, true, false, List, [], ◌∷◌, ◌++◌, drop, length, map, Option, Some, None, option_map, inl, inr, subst, arith, eq-eqb}
 use Rattle.std.specs.Prelude.{◌⊎◌, ◌==◌, ◌&&◌, Contains, flat_map}
-use Rattle.std.specs.Coded.{coded_list}
 use Rattle.std.specs.List.{AllByRecursion, list_all}
 use Rattle.std.proofs.lemmas.Bool.{and_parts, eqb-true, lt-ltb}
 use Rattle.std.proofs.lemmas.List.{drop-drop, length-append, length-drop, length-map}
@@ -9,9 +8,7 @@ use Rattle.std.proofs.lemmas.List.Elements.{Contains-append_cases}
 use Rattle.std.proofs.lemmas.Option.{none-some}
 use Rattle.columns_core.specs.DictionaryType.{entry_type, entry_type_at}
 use Rattle.columns_core.specs.Nested.{field_types, field_types_at, first_length, list_type_at, map_type, map_type_at}
-use Rattle.columns_core.specs.Same.{same_itself}
 use Rattle.columns_core.specs.Types.{Layer}
-use Rattle.columns_core.specs.contracts.data_type.DataType.{the_row as data_type_row}
 use Rattle.columns_core.specs.declared.cell.Cell.{Cell, Cells}
 use Rattle.columns_core.specs.declared.data_type.DataType.{DataType, out-DataType}
 use Rattle.columns_core.specs.declared.data_type.DataType.TheOpen.{DataType-F}
@@ -19,11 +16,13 @@ use Rattle.parquet_base.specs.Reading.{◌>>=◌, given}
 use Rattle.parquet_statistics.specs.BuiltTypes.{is_large_list_at, item_type}
 use Rattle.parquet_statistics.specs.Deserialized.{agreed, is_count, slot_count, slots_in}
 use Rattle.parquet_statistics.specs.LeafTypes.{Inside, Values, Entries, Items, Pairs, Fields, leaf_types}
-use Rattle.parquet_statistics.specs.Made.{Made, are_even, are_named, dictionary_made, freely_made, is_type_named, list_made, made_cells, made_refusals, made_type, map_made, struct_made}
+use Rattle.parquet_statistics.specs.Made.{Made, are_even, are_named, dictionary_made, freely_made, list_made, made_cells, made_refusals, made_type, map_made, struct_made}
 use Rattle.parquet_statistics.specs.Parts.{shaped_each}
 use Rattle.parquet_statistics.specs.Refusal.{Refusal, Argument, Caused, demand}
 use Rattle.parquet_statistics.specs.Shaped.{shaped}
 use Rattle.parquet_statistics.proofs.BuilderLemmas.{length-rows}
+use Rattle.parquet_statistics.proofs.ColumnLemmas.{types_so}
+use Rattle.parquet_statistics.proofs.FitLemmas.{named_so}
 use Rattle.parquet_statistics.proofs.LayerLemmas.{AllInside, every_type, inside_layer, inside_of, map_inside, type_of_field, types_by, types_out}
 use Rattle.parquet_statistics.proofs.RefusalLemmas.{demand_met}
 use Rattle.parquet_statistics.proofs.ShapedLemmas.{around, around_all, shaped_entries, shaped_fields, shaped_items, shaped_pairs, shaped_values}
@@ -58,12 +57,6 @@ none_asked passes e told = none_of_none (subst (λ refusals. Contains refusals A
 -- a type that is named is not refused, and how many there are is no argument
 still_none : (inner : List Refusal) (named fits : Bool) → NoArgument inner → named ≡ true → NoArgument (inner ++ (demand named Argument ++ demand fits (Caused Overflow)))
 still_none inner named fits free e = none_in_both inner _ free (none_in_both (demand named Argument) _ (none_asked named e) (none_caused fits Overflow))
-
-named_so : (named : Option DataType) (own : DataType) → named ≡ Some own → is_type_named named own ≡ true
-named_so named own is = ap (λ found. is_type_named found own) is ∙ same_itself data_type_row.coded own own refl
-
-all_named : (named : Option (List DataType)) (own : List DataType) → named ≡ Some own → are_named named own ≡ true
-all_named named own is = ap (λ found. are_named found own) is ∙ same_itself (coded_list data_type_row.coded) own own refl
 
 -- ---- a number of slots
 
@@ -251,7 +244,7 @@ module _ (groups : ℕ) where
         long = length-rows cells ∙ evenly.0;
         fitting = none_in_both (flat_map made_refusals found.all) _ found.fitting
             (none_in_both (demand (are_named (field_types data_type) (map made_type found.all)) Argument) _
-            (none_asked _ (all_named (field_types data_type) (map made_type found.all) (named ∙ ap Some (sym found.typed))))
+            (none_asked _ (types_so (field_types data_type) (map made_type found.all) (named ∙ ap Some (sym found.typed))))
             (none_asked _ evenly.1));
       }
 

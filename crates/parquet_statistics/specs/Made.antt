@@ -18,8 +18,12 @@ use Rattle.columns_core.specs.declared.data_type.IntegerType.{IntegerType}
 use Rattle.columns_core.specs.declared.data_type.IntegerType.TheVariants as key
 use Rattle.parquet_statistics.specs.BuiltTypes.{is_large_list, is_same_type, item_type}
 use Rattle.parquet_statistics.specs.Refusal.{Refusal, Argument, Caused, demand}
-use Rattle.parquet_statistics.specs.declared.dyn_mutable.DynMutable.{DynMutable, fold-DynMutable}
+use Rattle.parquet_statistics.specs.declared.dyn_mutable.DynMutable.{DynMutable, fold-DynMutable, out-DynMutable}
 use Rattle.parquet_statistics.specs.declared.dyn_mutable.DynMutable.TheOpen.{DynMutable-F, DynMutableDictionary-F, DynMutableListArray-F, DynMutableMapArray-F, DynMutableStructArray-F}
+use Rattle.parquet_statistics.specs.declared.dyn_mutable.DynMutableDictionary.{DynMutableDictionary}
+use Rattle.parquet_statistics.specs.declared.dyn_mutable.DynMutableListArray.{DynMutableListArray}
+use Rattle.parquet_statistics.specs.declared.dyn_mutable.DynMutableMapArray.{DynMutableMapArray}
+use Rattle.parquet_statistics.specs.declared.dyn_mutable.DynMutableStructArray.{DynMutableStructArray}
 
 -- An array of the type with the cells, where nothing is refused.
 pub record Made : Type 0 where
@@ -155,3 +159,14 @@ made_struct fields = struct_made fields.data_type fields.inner.items
 -- what a builder makes
 unfoldable pub made_by : DynMutable → Made
 made_by builder = fold-DynMutable Made Made Made Made Made made_at made_dictionary made_list made_map made_struct builder
+
+abbrev pub is_keyed_at : DynMutable-F DynMutable DynMutableDictionary DynMutableListArray DynMutableMapArray DynMutableStructArray → Bool
+is_keyed_at (DynMutable-F.Flat builder) = false
+is_keyed_at (DynMutable-F.Dictionary entries) = true
+is_keyed_at (DynMutable-F.List items) = false
+is_keyed_at (DynMutable-F.Map pairs) = false
+is_keyed_at (DynMutable-F.Struct fields) = false
+
+-- a builder of dictionaries
+abbrev pub is_keyed : DynMutable → Bool
+is_keyed builder = is_keyed_at (out-DynMutable builder)

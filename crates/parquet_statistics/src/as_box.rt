@@ -1,7 +1,7 @@
 //! The arrays that builders make.
-ghost use Rattle.std.specs.Prelude.{◌≡◌, [], flat_map, map, Some, IfOk, IfErr, OnOk};
+ghost use Rattle.std.specs.Prelude.{◌≡◌, [], true, flat_map, map, Some, IfOk, IfErr, OnOk};
 ghost use Rattle.columns_core.specs.Array.{column_of};
-ghost use Rattle.parquet_statistics.specs.Made.{keys_in, keys_of_all, made_array, made_by, made_cells, made_refusals, made_shown, struct_made};
+ghost use Rattle.parquet_statistics.specs.Made.{is_keyed, keys_in, keys_of_all, made_array, made_by, made_cells, made_refusals, made_shown, struct_made};
 ghost use Rattle.parquet_statistics.specs.Refusal.{IsRefusedBy};
 
 use crate::dictionaries::dictionary_of;
@@ -18,6 +18,8 @@ impl DynMutable {
     #[cycle(as_box)]
     pub fn as_box(self) -> Result<Array, Error>
         ensures array { IfOk result (λ array. column_of array ≡ made_shown (made_by self)) }
+        ensures keys { is_keyed self ≡ true → IfOk result (λ array.
+            keys_in array ≡ Some (keys_of_all (made_cells (made_by self)))) }
         ensures ok { OnOk result (made_refusals (made_by self) ≡ []) }
         ensures err { IfErr result (IsRefusedBy (made_refusals (made_by self))) }
     {

@@ -7,7 +7,7 @@ use pq_common::{Status, status_text};
 use std::test::*;
 
 /// The statuses, their numbers and their texts.
-const STATUSES: [(Status, u8, &str); 10] = [
+static STATUSES: [(Status, u8, &str); 10] = [
     (Status::Done, 0, "ok"),
     (
         Status::Words,
@@ -26,9 +26,9 @@ const STATUSES: [(Status, u8, &str); 10] = [
 
 #[test]
 fn texts_of_statuses(rt: HostRuntime) -> Result<(), Fail> {
-    for (status, number, text) in STATUSES {
-        assert_eq!(rt; status.number(), number);
-        assert_eq!(rt; status_text(status), text);
+    for (status, number, text) in STATUSES.iter() {
+        assert_eq!(rt; status.number(), *number);
+        assert_eq!(rt; status_text(*status), *text);
     }
     Ok(())
 }

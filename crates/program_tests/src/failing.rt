@@ -10,7 +10,7 @@ use std::alloc::Global;
 use std::test::*;
 
 /// The rows of a sample, or none for the first file, what is asked of it, and what is written.
-const REQUESTS: [(Option<u32>, &str, &[u8]); 3] = [
+static REQUESTS: [(Option<u32>, &str, &[u8]); 3] = [
     (None, "x a:Int32 a>=12 a<=18", F1_ROWS),
     (
         Some(6),
@@ -73,9 +73,9 @@ fn calls_of_source(
 #[test]
 fn reads_that_fail(rt: HostRuntime) -> Result<(), Fail> {
     let alloc = rt.alloc();
-    for (rows, line, text) in REQUESTS {
-        let bytes = file_of(alloc, rows)?;
-        let calls = calls_of_source(alloc, &bytes, &words_of(alloc, line)?, text)?;
+    for (rows, line, text) in REQUESTS.iter() {
+        let bytes = file_of(alloc, *rows)?;
+        let calls = calls_of_source(alloc, &bytes, &words_of(alloc, *line)?, *text)?;
         // The size, the end and the footer are read at least, and a chunk of each column.
         assert!(rt; calls > 5, "at {line}");
     }
@@ -187,11 +187,11 @@ fn a_sink_that_fails_at_one_call(rt: HostRuntime) -> Result<(), Fail> {
 #[test]
 fn writes_that_fail(rt: HostRuntime) -> Result<(), Fail> {
     let alloc = rt.alloc();
-    for (rows, line, text) in REQUESTS {
-        let bytes = file_of(alloc, rows)?;
-        let words = words_of(alloc, line)?;
+    for (rows, line, text) in REQUESTS.iter() {
+        let bytes = file_of(alloc, *rows)?;
+        let words = words_of(alloc, *line)?;
         for front in 0..=text.len() {
-            check_front(alloc, &bytes, &words, text, front)?;
+            check_front(alloc, &bytes, &words, *text, front)?;
         }
     }
     Ok(())

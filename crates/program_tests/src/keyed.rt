@@ -1,19 +1,14 @@
 //! Columns that are read as dictionaries: each type of keys, each type of entries, nulls, whole and by locations, and what is refused.
 use crate::columns::{Rows, check_columns};
 use crate::running::{File, check_answers, check_files, check_lines};
+use crate::texts::{BY_KEYS, DELTA_LENGTH, PLAIN};
 use files_for_tests::Levels::{Absent, Entries, First, Second};
 use files_for_tests::Values::{Bytes, Keys, Longs, Numbers, Strings};
 use files_for_tests::{CHUNK, Chunk, Column, Indexes, Page, STRINGS, Stored, Told, file_of};
 use std::test::*;
 
-/// The numbers of encodings.
-const PLAIN: usize = 0;
-
+/// The number of an encoding.
 const DELTA_PACKED: usize = 5;
-
-const DELTA_LENGTH: usize = 6;
-
-const BY_KEYS: usize = 8;
 
 /// Numbers that may be null.
 const SPARSE: Column = Column {

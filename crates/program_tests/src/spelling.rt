@@ -263,7 +263,7 @@ static VALUES: [(&str, &[u8]); 34] = [
 ];
 
 /// Options, fields and names of bounds, and how a run with them ends.
-static COMMANDS: [(&str, &[u8]); 26] = [
+static COMMANDS: [(&str, &[u8]); 27] = [
     ("x", &[3]),
     ("x a:Int32 --chunk 0", &[3]),
     ("x a:Int32 --chunk 00", &[3]),
@@ -288,6 +288,7 @@ static COMMANDS: [(&str, &[u8]); 26] = [
     ("x a", &[2]),
     ("x a:Int32 a>=1 a>=2", &[2]),
     ("x a:Int32 b>=1", &[2]),
+    ("x b>=1 a:Int32", &[2]),
     ("x a:Int32 >=1", &[2]),
     ("x a>=1", &[2]),
 ];

@@ -7,11 +7,11 @@ use std::alloc::{AllocError, Global};
 use std::test::*;
 
 /// The numbers of encodings.
-const PLAIN: usize = 0;
+pub(crate) const PLAIN: usize = 0;
 
-const DELTA_LENGTH: usize = 6;
+pub(crate) const DELTA_LENGTH: usize = 6;
 
-const BY_KEYS: usize = 8;
+pub(crate) const BY_KEYS: usize = 8;
 
 /// What a run answers on a file of one group, all of whose rows are given in one chunk: the lines of its cells, or the number of its status.
 type Answer = Result<&'static [u8], u8>;
@@ -38,16 +38,16 @@ fn report_on(alloc: Global, rows: usize, lines: &[u8]) -> Result<Vec<u8>, AllocE
 type Read<'a> = (Column, &'a [Page<'a>], usize, Answer, Answer);
 
 /// What asks for the column as texts and as byte strings, and as keys of each.
-const AS_TEXTS: [&str; 2] = ["x s:Utf8", "x s:LargeUtf8"];
+static AS_TEXTS: [&str; 2] = ["x s:Utf8", "x s:LargeUtf8"];
 
-const AS_STRINGS: [&str; 2] = ["x s:Binary", "x s:LargeBinary"];
+static AS_STRINGS: [&str; 2] = ["x s:Binary", "x s:LargeBinary"];
 
-const AS_KEYS_OF_TEXTS: [&str; 2] = [
+static AS_KEYS_OF_TEXTS: [&str; 2] = [
     "x s:Dictionary(Int32,Utf8)",
     "x s:Dictionary(UInt8,LargeUtf8)",
 ];
 
-const AS_KEYS_OF_STRINGS: [&str; 2] = [
+static AS_KEYS_OF_STRINGS: [&str; 2] = [
     "x s:Dictionary(Int8,Binary)",
     "x s:Dictionary(UInt64,LargeBinary)",
 ];

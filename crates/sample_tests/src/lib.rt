@@ -1,5 +1,5 @@
 //! Tests of the sample file: its bytes by their digests, what its footer says, its cells, the most rows that it has, and which of its pages hold
-//! given rows, also such as a closure chooses. And of what page indexes tell as arrays.
+//! given rows, also such as a closure chooses. And of what page indexes and statistics tell as arrays.
 #![tactic(auto)]
 
 #[cfg(test)]
@@ -10,3 +10,5 @@ mod page_maps;
 mod page_statistics;
 #[cfg(test)]
 mod samples;
+#[cfg(test)]
+mod small_files;

@@ -113,6 +113,17 @@ fn a_map_has_one_slot(rt: HostRuntime) -> Result<(), Fail> {
 }
 
 #[test]
+fn a_new_map_has_an_empty_slot(rt: HostRuntime) -> Result<(), Fail> {
+    let alloc = rt.alloc();
+    let pairs = pair_of(alloc, DataType::Int32, DataType::Int32)?;
+    let data_type = DataType::Map(item(alloc, pairs)?, false);
+    let map = DynMutableMapArray::try_with_capacity(alloc, data_type, 0)?;
+    assert_eq!(rt; map.len(), 1);
+    assert_eq!(rt; text_of(alloc, DynMutable::Map(map))?.as_str(), "[]");
+    Ok(())
+}
+
+#[test]
 fn a_list_of_large_lists(rt: HostRuntime) -> Result<(), Fail> {
     let alloc = rt.alloc();
     let large = DataType::LargeList(item(alloc, DataType::Int8)?);
@@ -126,8 +137,8 @@ fn a_list_of_large_lists(rt: HostRuntime) -> Result<(), Fail> {
     Ok(())
 }
 
-fn is_misfit(made: Result<Array, Error>) -> bool {
-    matches!(made.err(), Some(Error::InvalidArgumentError(_)))
+pub(crate) fn is_misfit(error: Option<Error>) -> bool {
+    matches!(error, Some(Error::InvalidArgumentError(_)))
 }
 
 #[test]
@@ -138,7 +149,7 @@ fn columns_of_other_lengths_are_refused(rt: HostRuntime) -> Result<(), Fail> {
     if let Some(first) = fields.inner.first_mut() {
         first.push_cell(&Cell::Int(1))?;
     }
-    assert!(rt; is_misfit(fields.as_box()));
+    assert!(rt; is_misfit(fields.as_box().err()));
     Ok(())
 }
 
@@ -153,7 +164,7 @@ fn with_another_type_inside(alloc: Global) -> Result<DynMutableListArray, Error>
 
 #[test]
 fn a_builder_of_another_type_inside_is_refused(rt: HostRuntime) -> Result<(), Fail> {
-    assert!(rt; is_misfit(with_another_type_inside(rt.alloc())?.as_box()));
+    assert!(rt; is_misfit(with_another_type_inside(rt.alloc())?.as_box().err()));
     Ok(())
 }
 

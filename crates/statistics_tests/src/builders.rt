@@ -1,8 +1,7 @@
 //! Builders inside builders: their lengths, and what they refuse.
 use columns_core::{Boxed, Cell, DataType, Error, Field, IntegerType, Name, Seq};
 use parquet_statistics::{
-    DynMutable, DynMutableDictionary, DynMutableListArray, DynMutableMapArray,
-    DynMutableStructArray,
+    DynMutable, DynMutableDictionary, DynMutableListArray, DynMutableStructArray,
 };
 use std::alloc::Global;
 use std::test::*;
@@ -18,11 +17,6 @@ fn field(alloc: Global, data_type: DataType) -> Result<Field, Error> {
 fn list_of(alloc: Global, data_type: DataType) -> Result<DataType, Error> {
     let field = field(alloc, data_type)?;
     Ok(DataType::List(Boxed::new(alloc, field)?))
-}
-
-fn map_of(alloc: Global, data_type: DataType) -> Result<DataType, Error> {
-    let field = field(alloc, data_type)?;
-    Ok(DataType::Map(Boxed::new(alloc, field)?, false))
 }
 
 fn dictionary_of(alloc: Global, data_type: DataType) -> Result<DataType, Error> {
@@ -54,12 +48,8 @@ fn lengths_of_dictionaries_and_lists(rt: HostRuntime) -> Result<(), Fail> {
 }
 
 #[test]
-fn lengths_of_maps_and_structs(rt: HostRuntime) -> Result<(), Fail> {
+fn lengths_of_structs(rt: HostRuntime) -> Result<(), Fail> {
     let alloc = rt.alloc();
-    // A map has one slot, whatever is in it.
-    let pairs = map_of(alloc, struct_of(alloc, DataType::Int32)?)?;
-    let map = DynMutableMapArray::try_with_capacity(alloc, pairs, 0)?;
-    assert_eq!(rt; map.len(), 1);
     let one_field = struct_of(alloc, DataType::Int8)?;
     let mut fields = DynMutableStructArray::try_with_capacity(alloc, one_field, 1)?;
     assert_eq!(rt; fields.len(), 0);
@@ -79,8 +69,6 @@ fn types_that_are_refused(rt: HostRuntime) -> Result<(), Fail> {
     let sizeless = list_of(alloc, DataType::FixedSizeBinary(0))?;
     let refused = DynMutable::try_with_capacity(alloc, sizeless, 0);
     assert!(rt; matches!(refused, Err(Error::NotYetImplemented(_))));
-    let refused = DynMutableMapArray::try_with_capacity(alloc, DataType::Int8, 0);
-    assert!(rt; matches!(refused, Err(Error::InvalidArgumentError(_))));
     Ok(())
 }
 

@@ -8,3 +8,5 @@ mod arrays;
 mod builders;
 #[cfg(test)]
 mod deserialized;
+#[cfg(test)]
+mod types;

@@ -7,6 +7,7 @@ use Rattle.columns_core.specs.Array.{cells, column_of}
 use Rattle.parquet_statistics.specs.Made.{dictionary_made, list_made, made_array, made_by, made_refusals, made_shown, map_made, struct_made}
 use Rattle.parquet_statistics.specs.declared.dyn_mutable.DynMutable.{DynMutable, Dictionary, List as ListBuilder, Map, Struct}
 use Rattle.parquet_statistics.proofs.BuilderLemmas.{made_of_flat}
+use Rattle.parquet_statistics.proofs.KeyedLemmas.{not_flat, not_list, not_map, not_struct}
 use Rattle.parquet_statistics.proofs.MadeLemmas.{as_free, as_keyed, as_made, as_refused_made, dictionary_inside, dictionary_over, list_inside, list_over, map_inside, map_over, one_refused, struct_inside, struct_over}
 use Rattle.parquet_statistics.proofs.ShapeLemmas.{on_ok, so_ok}
 use Rattle.parquet_statistics.proofs.+as_box.Goals as goal
@@ -28,6 +29,18 @@ dyn_mutable::DynMutable::as_box-returns-in-Flat-clause-array t c =
 pub dyn_mutable::DynMutable::as_box-returns-in-Flat-clause-ok : goal.dyn_mutable::DynMutable::as_box-returns-in-Flat-clause-ok
 dyn_mutable::DynMutable::as_box-returns-in-Flat-clause-ok t c =
     on_ok c.into_array.result _ (ap (λ (own : DynMutable). made_refusals (made_by own)) c.in-Flat.is ∙ ap made_refusals (made_of_flat c.in-Flat.builder))
+
+pub dyn_mutable::DynMutable::as_box-returns-in-Flat-clause-keys : goal.dyn_mutable::DynMutable::as_box-returns-in-Flat-clause-keys
+dyn_mutable::DynMutable::as_box-returns-in-Flat-clause-keys t c keyed = not_flat c.args.self keyed c.in-Flat.builder c.in-Flat.is
+
+pub dyn_mutable::DynMutable::as_box-returns-in-List-clause-keys : goal.dyn_mutable::DynMutable::as_box-returns-in-List-clause-keys
+dyn_mutable::DynMutable::as_box-returns-in-List-clause-keys t c keyed = not_list c.args.self keyed c.in-List.items c.in-List.is
+
+pub dyn_mutable::DynMutable::as_box-returns-in-Map-clause-keys : goal.dyn_mutable::DynMutable::as_box-returns-in-Map-clause-keys
+dyn_mutable::DynMutable::as_box-returns-in-Map-clause-keys t c keyed = not_map c.args.self keyed c.in-Map.pairs c.in-Map.is
+
+pub dyn_mutable::DynMutable::as_box-returns-in-Struct-clause-keys : goal.dyn_mutable::DynMutable::as_box-returns-in-Struct-clause-keys
+dyn_mutable::DynMutable::as_box-returns-in-Struct-clause-keys t c keyed = not_struct c.args.self keyed c.in-Struct.fields c.in-Struct.is
 
 pub dyn_mutable::DynMutableDictionary::as_box-returns-in_err-entries-clause-err : goal.dyn_mutable::DynMutableDictionary::as_box-returns-in_err-entries-clause-err
 dyn_mutable::DynMutableDictionary::as_box-returns-in_err-entries-clause-err t c =

@@ -3,8 +3,8 @@ use Rattle.std.proofs.lemmas.Result.{IfOk-weaker}
 use Rattle.parquet_page.specs.Content.{DataContent}
 use Rattle.parquet_page.specs.Lending.{DataPagesAre}
 use Rattle.parquet_page.specs.Lent.{Lent}
-use Rattle.flat_values.proofs.ReaderLemmas.{chunk_pages_are}
-use Rattle.column_array_tests.proofs.keys.pages_of.Goals as goal
+use Rattle.parquet_page.proofs.ReaderLemmas.{chunk_pages_are}
+use Rattle.pages_for_tests.proofs.pages_of.Goals as goal
 
 pub returns-clause-typed : goal.returns-clause-typed
 returns-clause-typed c =
