@@ -8,7 +8,7 @@ use Rattle.std.proofs.Math.Seq.{drop-append_seam}
 use Rattle.columns_core.specs.Offsets.{AreOffsets, ends_behind, last, parts}
 use Rattle.columns_core.proofs.OffsetLemmas.{last-pushed, more_offsets}
 use Rattle.binary_values.specs.JoinedStrings.{cut_into}
-use Rattle.binary_values.proofs.StringLemmas.{parts-push}
+use Rattle.columns_core.proofs.PartLemmas.{parts-push}
 
 pub parts-joined : (lengths : List ℤ) (offsets bytes joined : List ℕ) → AreOffsets offsets → last offsets ≡ length bytes → sum_by nat_abs lengths ≡ length joined
     → parts (offsets ++ ends_behind (last offsets) (map nat_abs lengths)) (bytes ++ joined) ≡ parts offsets bytes ++ cut_into (map nat_abs lengths) joined

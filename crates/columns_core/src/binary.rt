@@ -30,6 +30,9 @@ impl<O: Offset> Model for BinaryArray<O> {
 }
 
 impl<O: Offset> BinaryArray<O> {
+    /// Of joined byte strings.
+    ///
+    /// `InvalidArgumentError` for another type, and for places and a mask that do not fit.
     pub fn try_new(
         data_type: DataType,
         offsets: Offsets<O>,

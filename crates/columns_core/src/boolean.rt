@@ -35,6 +35,7 @@ impl Model for BooleanArray {
 }
 
 impl BooleanArray {
+    /// `InvalidArgumentError` for another type, and for a mask of another length.
     pub fn try_new(
         data_type: DataType,
         values: Bitmap,

@@ -24,20 +24,29 @@ pub enum Part {
     Chunk,
 }
 
+/// Why a call refused.
 #[derive(Clone, Copy, Debug, PartialEq, Eq)]
 pub enum Error {
+    /// What is asked does not fit the file, or a type or a length does not fit what is handed with it.
     InvalidArgumentError(Part),
+    /// A part of the format that is not read: a type, an encoding, a compression.
     NotYetImplemented(Part),
+    /// The bytes do not spell what the format says.
     ExternalFormat(Part),
+    /// A text that is not UTF-8, or a key that names no entry of its dictionary.
     OutOfSpec(Part),
+    /// A value or a length that its type has no room for.
     Overflow,
+    /// The source failed.
     Io,
+    /// Memory is wanting.
     OutOfMemory,
 }
 
 impl Error {
     ghost use Rattle.columns_core.specs.Causes.{error_number};
 
+    /// From 1 to 7, in the order of the variants.
     pub fn number(&self) -> u8
         ensures { result ≡ error_number self.now }
     {

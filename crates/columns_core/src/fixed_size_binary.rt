@@ -39,6 +39,9 @@ impl Model for FixedSizeBinaryArray {
 }
 
 impl FixedSizeBinaryArray {
+    /// Of joined byte strings of the size that the type says.
+    ///
+    /// `InvalidArgumentError` for another type, for bytes that are no multiple of the size, and for a mask of another length.
     pub fn try_new(
         data_type: DataType,
         values: Vec<u8>,

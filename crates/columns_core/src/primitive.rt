@@ -129,6 +129,7 @@ impl<T> Model for MutablePrimitiveArray<T> {
 }
 
 impl<T: NativeType> MutablePrimitiveArray<T> {
+    /// `InvalidArgumentError` for a type that is not stored so, and for a mask of another length.
     pub fn try_new(
         data_type: DataType,
         values: Vec<T>,

@@ -33,6 +33,9 @@ impl<O: Offset> Model for Utf8Array<O> {
 }
 
 impl<O: Offset> Utf8Array<O> {
+    /// Of joined texts.
+    ///
+    /// `InvalidArgumentError` for another type, and for places and a mask that do not fit; `OutOfSpec` for a text that is not UTF-8.
     pub fn try_new(
         data_type: DataType,
         offsets: Offsets<O>,

@@ -1,4 +1,7 @@
-mod PageTypes
+mod BeginLemmas
+mod CellLemmas
 mod CollectLemmas
-mod KeyedLemmas
-mod RuleLemmas
+mod ColumnLemmas
+mod JoinedLemmas
+mod KeyLemmas
+pub mod PageLists

@@ -29,6 +29,6 @@ pub record Collects {X : Type 0} (arrays : X → List Array) (count : X → ℕ)
   pub counted : IfOk result (λ found. count found ≡ min (steps_now - steps) (2 ^ 64 - 1))
   pub lent : OnOk result (steps_now ≡ steps + pages_of left)
 
--- No page is lent for nulls, which are read without pages, nor for a pair that is not carried.
+-- No page is lent for a pair that is not carried.
 abbrev pub IsNotCarried : {X : Type 0} → Result X Error → ℕ → ℕ → Type 0
 IsNotCarried result steps steps_now = IsErrAnd result (λ error. cause_of error ≡ Some NotYetImplemented) × (steps_now ≡ steps)

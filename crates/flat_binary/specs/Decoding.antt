@@ -1,10 +1,10 @@
 -- How a column that is read as a type is decoded.
-use Rattle.std.specs.Prelude.{ℕ, List, Option, Some, None, option_map, Result}
+use Rattle.std.specs.Prelude.{ℕ, List, Option, Some, None, option_and_then, option_map, Result}
 use Rattle.columns_core.specs.Causes.{Cause}
-use Rattle.columns_core.specs.DictionaryType.{key_type}
-use Rattle.columns_core.specs.Types.{value_type}
+use Rattle.columns_core.specs.DictionaryType.{entry_type, key_type}
+use Rattle.columns_core.specs.Types.{Layer, value_type}
 use Rattle.columns_core.specs.declared.cell.Cell.{Cell}
-use Rattle.columns_core.specs.declared.data_type.DataType.{DataType}
+use Rattle.columns_core.specs.declared.data_type.DataType.{DataType, out-DataType}
 use Rattle.parquet_meta.specs.declared.metadata.PhysicalType.{PhysicalType}
 use Rattle.parquet_page.specs.Content.{DataContent, DictContent}
 use Rattle.page_decoding.specs.Outcome.{Outcome}
@@ -39,3 +39,7 @@ column_decoding physical data_type rule = record {
   outcomes = column_outcomes data_type rule;
   most_bytes = most_bytes data_type;
 }
+
+-- the conversion of the entries of a dictionary type, by a table of entries
+abbrev pub entry_conversion : (Layer → Option Conversion) → DataType → Option Conversion
+entry_conversion table data_type = option_and_then (λ value. table (out-DataType value)) (entry_type data_type)

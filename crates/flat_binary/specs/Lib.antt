@@ -1,5 +1,11 @@
-pub mod Paged
+pub mod NullType
 pub mod Decoding
 pub mod Left
 pub mod PagesWanted
 pub mod Collected
+pub mod EntryReaders
+pub mod Layers
+pub mod Begun
+pub mod Cuts
+pub mod JoinedStrings
+pub mod LowBits

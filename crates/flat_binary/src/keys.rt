@@ -1,34 +1,30 @@
-//! All arrays of a dictionary column, by its keys' type and the pair of its stored type and the type of its entries.
+//! Dictionary columns, by the type of their keys and the pair of the stored type and the type of the entries.
 ghost use Rattle.std.specs.Prelude.{◌≡◌, IfSome, None, Some, true};
 ghost use Rattle.std.specs.Option.{option_copied};
 ghost use Rattle.columns_core.specs.DictionaryType.{entry_type, key_type};
 ghost use Rattle.page_decoding.specs.Queue.{IsChunkSize};
-ghost use Rattle.parquet_meta.specs.declared.metadata.PhysicalType.TheVariants.{ByteArray, FixedLenByteArray, Int32, Int64};
 ghost use Rattle.parquet_page.specs.Lending.{has_data_behind};
-ghost use Rattle.flat_values.specs.Outcomes.{fitted_by};
-ghost use Rattle.flat_values.specs.Pairs.{entry_from_fixed, entry_from_int32, entry_from_int64, entry_from_physical, from_byte_array};
-ghost use Rattle.dictionary_values.specs.DictLeft.{keys_decoding};
+ghost use Rattle.flat_values.specs.Pairs.{entry_from_physical};
+ghost use Rattle.dictionary_values.specs.DictLeft.{dict_left, keys_decoding};
 ghost use Rattle.dictionary_values.specs.Keys.{keys_of};
-ghost use Rattle.flat_binary.specs.Collected.{Collects, IsNotCarried};
 ghost use Rattle.flat_binary.specs.Left.{converted_left, decoded_left, supply_of};
-ghost use Rattle.flat_binary.specs.Paged.{entry_conversion};
+ghost use Rattle.flat_binary.specs.Decoding.{entry_conversion};
+ghost use Rattle.flat_binary.specs.Begun.{BeginsColumn, IsRefusedPair};
+ghost use Rattle.flat_binary.specs.EntryReaders.{Reader, entries_read, reader_type};
+ghost use Rattle.flat_binary.specs.Layers.{array_left, keyed_column_left};
 
-use crate::collect::collect_arrays;
-use crate::column::rescaled;
-use crate::decoded::keyed_arrays;
-use binary_values::ByteValues;
-use columns_core::{Array, DataType, Error, IntegerType, IntervalUnit, Part};
-use dictionary_values::{IntoEntries, StoredKey};
-use flat_values::{ColumnArrays, FixedValues, IntoColumn, Keep, Narrow, NumberValues, Scale};
-use parquet_base::Steps;
+use crate::array_iter::ArrayIter;
+use crate::entry_reader::EntryReader;
+use crate::key_iter::KeysIter;
+use crate::readers::entry_reader;
+use columns_core::{DataType, Error, IntegerType, Part};
+use dictionary_values::{DictIter, StoredKey};
 use parquet_meta::{PhysicalType, PrimitiveLogicalType};
 use parquet_page::Pages;
 use std::alloc::Global;
-use std::collections::VecDeque;
-use std::sync::ledger::Ledger;
 
 /// The rows of pages, at most so many, in arrays of a dictionary type.
-pub(crate) fn collect_dictionary<I: Pages, L: Ledger>(
+pub(crate) fn keys_iter<I: Pages>(
     alloc: Global,
     pages: I,
     physical: PhysicalType,
@@ -36,325 +32,98 @@ pub(crate) fn collect_dictionary<I: Pages, L: Ledger>(
     data_type: DataType,
     chunk_size: Option<usize>,
     num_rows: usize,
-    steps: &mut Steps<L>,
-) -> Result<(VecDeque<Array>, usize), Error>
+) -> Result<ArrayIter<I>, Error>
     requires ordered { has_data_behind (I.to_come pages) ≡ true }
     requires size { IsChunkSize chunk_size }
-    requires fresh { I.lent_count pages ≡ 0 }
-    ensures collects { let table = entry_from_physical physical (option_copied logical.entry) in
+    ensures begins { let table = entry_from_physical physical (option_copied logical.entry) in
         IfSome (entry_conversion table data_type) (λ rule.
         let supply = supply_of I.to_come I.causes I.row_count I.lent_count pages in
-        let left = converted_left physical data_type chunk_size num_rows supply rule in
-        Collects (λ found. found.0.items) (λ found. found.1) left result steps.old steps.new) }
+        let left = array_left I.to_come I.causes I.row_count I.lent_count in
+        BeginsColumn left (converted_left physical data_type chunk_size num_rows supply rule) result) }
     ensures refused { let table = entry_from_physical physical (option_copied logical.entry) in
-        entry_conversion table data_type ≡ None → IsNotCarried result steps.old steps.new }
-{
-    match physical {
-        PhysicalType::Int32 => {
-            collect_int32_entries(alloc, pages, data_type, chunk_size, num_rows, steps)
-        }
-        PhysicalType::Int64 => collect_int64_entries(
-            alloc, pages, logical, data_type, chunk_size, num_rows, steps,
-        ),
-        PhysicalType::FixedLenByteArray(length) => collect_fixed_entries(
-            alloc, pages, length, data_type, chunk_size, num_rows, steps,
-        ),
-        PhysicalType::ByteArray => {
-            collect_byte_array_entries(alloc, pages, data_type, chunk_size, num_rows, steps)
-        }
-        PhysicalType::Boolean | PhysicalType::Int96 | PhysicalType::Float | PhysicalType::Double =>
-            Err(Error::NotYetImplemented(Part::Schema)),
-    }
-}
-
-fn collect_int32_entries<I: Pages, L: Ledger>(
-    alloc: Global,
-    pages: I,
-    data_type: DataType,
-    chunk_size: Option<usize>,
-    num_rows: usize,
-    steps: &mut Steps<L>,
-) -> Result<(VecDeque<Array>, usize), Error>
-    requires ordered { has_data_behind (I.to_come pages) ≡ true }
-    requires size { IsChunkSize chunk_size }
-    requires fresh { I.lent_count pages ≡ 0 }
-    ensures collects { IfSome (entry_conversion entry_from_int32 data_type) (λ rule.
-        let supply = supply_of I.to_come I.causes I.row_count I.lent_count pages in
-        let left = converted_left Int32 data_type chunk_size num_rows supply rule in
-        Collects (λ found. found.0.items) (λ found. found.1) left result steps.old steps.new) }
-    ensures refused { let rule = entry_conversion entry_from_int32 data_type in
-        rule ≡ None → IsNotCarried result steps.old steps.new }
+        entry_conversion table data_type ≡ None → IsRefusedPair result }
 {
     let DataType::Dictionary(key, entry, _) = &data_type else {
         return Err(Error::NotYetImplemented(Part::Schema));
     };
     let key = *key;
-    match entry.get() {
-        DataType::Int32
-        | DataType::Date32
-        | DataType::Time32(_)
-        | DataType::Interval(IntervalUnit::YearMonth) => {
-            let values = NumberValues::<i32, i32, Keep>::new(Keep);
-            collect_entries(
-                alloc, pages, values, key, data_type, chunk_size, num_rows, steps,
-            )
-        }
-        DataType::UInt8 => {
-            let values = NumberValues::<i32, u8, Narrow>::new(Narrow);
-            collect_entries(
-                alloc, pages, values, key, data_type, chunk_size, num_rows, steps,
-            )
-        }
-        DataType::UInt16 => {
-            let values = NumberValues::<i32, u16, Narrow>::new(Narrow);
-            collect_entries(
-                alloc, pages, values, key, data_type, chunk_size, num_rows, steps,
-            )
-        }
-        DataType::UInt32 => {
-            let values = NumberValues::<i32, u32, Narrow>::new(Narrow);
-            collect_entries(
-                alloc, pages, values, key, data_type, chunk_size, num_rows, steps,
-            )
-        }
-        DataType::Int8 => {
-            let values = NumberValues::<i32, i8, Narrow>::new(Narrow);
-            collect_entries(
-                alloc, pages, values, key, data_type, chunk_size, num_rows, steps,
-            )
-        }
-        DataType::Int16 => {
-            let values = NumberValues::<i32, i16, Narrow>::new(Narrow);
-            collect_entries(
-                alloc, pages, values, key, data_type, chunk_size, num_rows, steps,
-            )
-        }
-        _ => Err(Error::NotYetImplemented(Part::Schema)),
-    }
+    let reader = entry_reader(alloc, physical, logical, entry.get())?;
+    let arrays = keys_of_type(alloc, pages, reader, key, data_type, chunk_size, num_rows)?;
+    Ok(ArrayIter::Keys(arrays))
 }
 
-fn collect_int64_entries<I: Pages, L: Ledger>(
+/// By a reader of the entries.
+fn keys_of_type<I: Pages>(
     alloc: Global,
     pages: I,
-    logical: Option<&PrimitiveLogicalType>,
-    data_type: DataType,
-    chunk_size: Option<usize>,
-    num_rows: usize,
-    steps: &mut Steps<L>,
-) -> Result<(VecDeque<Array>, usize), Error>
-    requires ordered { has_data_behind (I.to_come pages) ≡ true }
-    requires size { IsChunkSize chunk_size }
-    requires fresh { I.lent_count pages ≡ 0 }
-    ensures collects { let table = entry_from_int64 (option_copied logical.entry) in
-        IfSome (entry_conversion table data_type) (λ rule.
-        let supply = supply_of I.to_come I.causes I.row_count I.lent_count pages in
-        let left = converted_left Int64 data_type chunk_size num_rows supply rule in
-        Collects (λ found. found.0.items) (λ found. found.1) left result steps.old steps.new) }
-    ensures refused { let table = entry_from_int64 (option_copied logical.entry) in
-        entry_conversion table data_type ≡ None → IsNotCarried result steps.old steps.new }
-{
-    let DataType::Dictionary(key, entry, _) = &data_type else {
-        return Err(Error::NotYetImplemented(Part::Schema));
-    };
-    let key = *key;
-    match entry.get() {
-        DataType::Int64 | DataType::Date64 | DataType::Time64(_) | DataType::Duration(_) => {
-            let values = NumberValues::<i64, i64, Keep>::new(Keep);
-            collect_entries(
-                alloc, pages, values, key, data_type, chunk_size, num_rows, steps,
-            )
-        }
-        DataType::Timestamp(unit, _) => {
-            let values = NumberValues::<i64, i64, Scale>::new(rescaled(logical, *unit));
-            collect_entries(
-                alloc, pages, values, key, data_type, chunk_size, num_rows, steps,
-            )
-        }
-        DataType::UInt64 => {
-            let values = NumberValues::<i64, u64, Narrow>::new(Narrow);
-            collect_entries(
-                alloc, pages, values, key, data_type, chunk_size, num_rows, steps,
-            )
-        }
-        _ => Err(Error::NotYetImplemented(Part::Schema)),
-    }
-}
-
-/// Of strings of `length` bytes.
-fn collect_fixed_entries<I: Pages, L: Ledger>(
-    alloc: Global,
-    pages: I,
-    length: usize,
-    data_type: DataType,
-    chunk_size: Option<usize>,
-    num_rows: usize,
-    steps: &mut Steps<L>,
-) -> Result<(VecDeque<Array>, usize), Error>
-    requires ordered { has_data_behind (I.to_come pages) ≡ true }
-    requires size { IsChunkSize chunk_size }
-    requires fresh { I.lent_count pages ≡ 0 }
-    ensures collects { IfSome (entry_conversion (entry_from_fixed length) data_type) (λ rule.
-        let supply = supply_of I.to_come I.causes I.row_count I.lent_count pages in
-        let left = converted_left (FixedLenByteArray length) data_type chunk_size num_rows supply rule in
-        Collects (λ found. found.0.items) (λ found. found.1) left result steps.old steps.new) }
-    ensures refused { let rule = entry_conversion (entry_from_fixed length) data_type in
-        rule ≡ None → IsNotCarried result steps.old steps.new }
-{
-    let DataType::Dictionary(key, entry, _) = &data_type else {
-        return Err(Error::NotYetImplemented(Part::Schema));
-    };
-    let key = *key;
-    match entry.get() {
-        DataType::FixedSizeBinary(wanted) if 0 < length && length == *wanted => {
-            let values = FixedValues::new(length);
-            collect_entries(
-                alloc, pages, values, key, data_type, chunk_size, num_rows, steps,
-            )
-        }
-        _ => Err(Error::NotYetImplemented(Part::Schema)),
-    }
-}
-
-/// Of strings that tell their own lengths.
-fn collect_byte_array_entries<I: Pages, L: Ledger>(
-    alloc: Global,
-    pages: I,
-    data_type: DataType,
-    chunk_size: Option<usize>,
-    num_rows: usize,
-    steps: &mut Steps<L>,
-) -> Result<(VecDeque<Array>, usize), Error>
-    requires ordered { has_data_behind (I.to_come pages) ≡ true }
-    requires size { IsChunkSize chunk_size }
-    requires fresh { I.lent_count pages ≡ 0 }
-    ensures collects { IfSome (entry_conversion from_byte_array data_type) (λ rule.
-        let supply = supply_of I.to_come I.causes I.row_count I.lent_count pages in
-        let left = converted_left ByteArray data_type chunk_size num_rows supply rule in
-        Collects (λ found. found.0.items) (λ found. found.1) left result steps.old steps.new) }
-    ensures refused { let rule = entry_conversion from_byte_array data_type in
-        rule ≡ None → IsNotCarried result steps.old steps.new }
-{
-    let DataType::Dictionary(key, entry, _) = &data_type else {
-        return Err(Error::NotYetImplemented(Part::Schema));
-    };
-    let key = *key;
-    match entry.get() {
-        DataType::Utf8 => {
-            let values = ByteValues::<i32>::new(true);
-            collect_entries(
-                alloc, pages, values, key, data_type, chunk_size, num_rows, steps,
-            )
-        }
-        DataType::LargeUtf8 => {
-            let values = ByteValues::<i64>::new(true);
-            collect_entries(
-                alloc, pages, values, key, data_type, chunk_size, num_rows, steps,
-            )
-        }
-        DataType::Binary => {
-            let values = ByteValues::<i32>::new(false);
-            collect_entries(
-                alloc, pages, values, key, data_type, chunk_size, num_rows, steps,
-            )
-        }
-        DataType::LargeBinary => {
-            let values = ByteValues::<i64>::new(false);
-            collect_entries(
-                alloc, pages, values, key, data_type, chunk_size, num_rows, steps,
-            )
-        }
-        _ => Err(Error::NotYetImplemented(Part::Schema)),
-    }
-}
-
-/// By a decoder of the entries.
-fn collect_entries<I: Pages, V: IntoEntries + IntoColumn + Drop, L: Ledger>(
-    alloc: Global,
-    pages: I,
-    values: V,
+    reader: EntryReader,
     key: IntegerType,
     data_type: DataType,
     chunk_size: Option<usize>,
     num_rows: usize,
-    steps: &mut Steps<L>,
-) -> Result<(VecDeque<Array>, usize), Error>
+) -> Result<KeysIter<I>, Error>
     requires keyed { key_type data_type ≡ Some key }
-    requires fits { IfSome (entry_type data_type) (V.is_type values) }
+    requires fits { entry_type data_type ≡ Some (reader_type reader) }
     requires ordered { has_data_behind (I.to_come pages) ≡ true }
     requires size { IsChunkSize chunk_size }
-    requires fresh { I.lent_count pages ≡ 0 }
-    ensures collects { let supply = supply_of I.to_come I.causes I.row_count I.lent_count pages in
-        let entries = fitted_by (V.most_bytes values) (V.rule values) (V.physical values) in
-        let left = decoded_left (keys_decoding entries (keys_of key)) data_type chunk_size num_rows supply in
-        Collects (λ found. found.0.items) (λ found. found.1) left result steps.old steps.new }
+    ensures { let supply = supply_of I.to_come I.causes I.row_count I.lent_count pages in
+        let decoding = keys_decoding (entries_read reader) (keys_of key) in
+        let left = keyed_column_left I.to_come I.causes I.row_count I.lent_count in
+        BeginsColumn left (decoded_left decoding data_type chunk_size num_rows supply) result }
 {
     match key {
         IntegerType::Int8 => {
-            collect_keys::<i8, I, V, L>(
-                alloc, pages, values, data_type, chunk_size, num_rows, steps,
-            )
+            let arrays = keys_in::<i8, I>(alloc, pages, reader, data_type, chunk_size, num_rows)?;
+            Ok(KeysIter::Int8(arrays))
         }
         IntegerType::Int16 => {
-            collect_keys::<i16, I, V, L>(
-                alloc, pages, values, data_type, chunk_size, num_rows, steps,
-            )
+            let arrays = keys_in::<i16, I>(alloc, pages, reader, data_type, chunk_size, num_rows)?;
+            Ok(KeysIter::Int16(arrays))
         }
         IntegerType::Int32 => {
-            collect_keys::<i32, I, V, L>(
-                alloc, pages, values, data_type, chunk_size, num_rows, steps,
-            )
+            let arrays = keys_in::<i32, I>(alloc, pages, reader, data_type, chunk_size, num_rows)?;
+            Ok(KeysIter::Int32(arrays))
         }
         IntegerType::Int64 => {
-            collect_keys::<i64, I, V, L>(
-                alloc, pages, values, data_type, chunk_size, num_rows, steps,
-            )
+            let arrays = keys_in::<i64, I>(alloc, pages, reader, data_type, chunk_size, num_rows)?;
+            Ok(KeysIter::Int64(arrays))
         }
         IntegerType::UInt8 => {
-            collect_keys::<u8, I, V, L>(
-                alloc, pages, values, data_type, chunk_size, num_rows, steps,
-            )
+            let arrays = keys_in::<u8, I>(alloc, pages, reader, data_type, chunk_size, num_rows)?;
+            Ok(KeysIter::UInt8(arrays))
         }
         IntegerType::UInt16 => {
-            collect_keys::<u16, I, V, L>(
-                alloc, pages, values, data_type, chunk_size, num_rows, steps,
-            )
+            let arrays = keys_in::<u16, I>(alloc, pages, reader, data_type, chunk_size, num_rows)?;
+            Ok(KeysIter::UInt16(arrays))
         }
         IntegerType::UInt32 => {
-            collect_keys::<u32, I, V, L>(
-                alloc, pages, values, data_type, chunk_size, num_rows, steps,
-            )
+            let arrays = keys_in::<u32, I>(alloc, pages, reader, data_type, chunk_size, num_rows)?;
+            Ok(KeysIter::UInt32(arrays))
         }
         IntegerType::UInt64 => {
-            collect_keys::<u64, I, V, L>(
-                alloc, pages, values, data_type, chunk_size, num_rows, steps,
-            )
+            let arrays = keys_in::<u64, I>(alloc, pages, reader, data_type, chunk_size, num_rows)?;
+            Ok(KeysIter::UInt64(arrays))
         }
     }
 }
 
-/// By a decoder of the entries, and keys of one type.
-fn collect_keys<K: StoredKey, I: Pages, V: IntoEntries + IntoColumn + Drop, L: Ledger>(
+/// By keys of one type.
+fn keys_in<K: StoredKey, I: Pages>(
     alloc: Global,
     pages: I,
-    values: V,
+    reader: EntryReader,
     data_type: DataType,
     chunk_size: Option<usize>,
     num_rows: usize,
-    steps: &mut Steps<L>,
-) -> Result<(VecDeque<Array>, usize), Error>
+) -> Result<DictIter<K, EntryReader, I>, Error>
     requires keyed { key_type data_type ≡ Some K.key_type }
-    requires fits { IfSome (entry_type data_type) (V.is_type values) }
+    requires fits { entry_type data_type ≡ Some (reader_type reader) }
     requires ordered { has_data_behind (I.to_come pages) ≡ true }
     requires size { IsChunkSize chunk_size }
-    requires fresh { I.lent_count pages ≡ 0 }
-    ensures collects { let supply = supply_of I.to_come I.causes I.row_count I.lent_count pages in
-        let entries = fitted_by (V.most_bytes values) (V.rule values) (V.physical values) in
-        let left = decoded_left (keys_decoding entries K.key_count) data_type chunk_size num_rows supply in
-        Collects (λ found. found.0.items) (λ found. found.1) left result steps.old steps.new }
+    ensures { let supply = supply_of I.to_come I.causes I.row_count I.lent_count pages in
+        let decoding = λ (own : Reader). keys_decoding (entries_read own) K.key_count in
+        let left = dict_left decoding I.to_come I.causes I.row_count I.lent_count in
+        BeginsColumn left (decoded_left (decoding reader) data_type chunk_size num_rows supply) result }
 {
-    let mut arrays = keyed_arrays::<K, I, V>(
-        alloc, pages, values, data_type, chunk_size, num_rows,
-    )?;
-    let found = collect_arrays(alloc, &mut arrays, steps)?;
-    Ok((found, ColumnArrays::lent(&arrays)))
+    DictIter::of_reader(alloc, pages, reader, data_type, num_rows, chunk_size)
 }

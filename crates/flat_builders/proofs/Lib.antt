@@ -2,4 +2,3 @@ pub mod MarkLemmas
 pub mod KeptLemmas
 pub mod TypeLemmas
 pub mod ShownLemmas
-pub mod JoinedLemmas

@@ -1,6 +1,6 @@
 -- What an error tells of: one of the causes of a part is one of the whole.
-use Rattle.std.proofs.Common.{refl, ℕ, zero, suc, ◌<◌, List, [], ◌∷◌, ◌++◌, length, get_or, inl, inr, arith}
-use Rattle.std.specs.Prelude.{◌⊎◌, Contains, Option, Some, None, flat_map}
+use Rattle.std.proofs.Common.{refl, ℕ, zero, suc, ◌<◌, List, [], ◌∷◌, length, get_or, inl, inr, arith}
+use Rattle.std.specs.Prelude.{◌⊎◌, Contains, Option, flat_map}
 use Rattle.columns_core.specs.Causes.{Cause, IsOneOf, IsWantOfMemory, cause_of}
 use Rattle.columns_core.specs.declared.error.Error.{Error}
 use Rattle.page_decoding.proofs.RowLemmas.{one_of-left, one_of-right}

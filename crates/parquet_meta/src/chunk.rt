@@ -5,6 +5,9 @@ use crate::typed_statistics::{is_carried, known_counts, typed_statistics};
 use columns_core::{Error, Part};
 use std::alloc::Global;
 
+/// The most values for each byte of a chunk.
+const MOST_VALUES: u64 = 2_147_483_647;
+
 impl ColumnChunkMetaData {
     ghost use Rattle.std.specs.Prelude.{◌≡◌};
     ghost use Rattle.parquet_meta.specs.Chunks.{chunk_start};
@@ -17,6 +20,7 @@ impl ColumnChunkMetaData {
         &self.descriptor
     }
 
+    /// Nulls are counted too.
     pub fn num_values(&self) -> u64
         ensures { result ≡ self.now.num_values }
     {
@@ -69,6 +73,7 @@ impl ColumnChunkMetaData {
 
 impl RowGroupMetaData {
     ghost use Rattle.std.specs.Prelude.{◌≡◌};
+    ghost use Rattle.parquet_meta.specs.Chunks as spec;
 
     /// The chunks, one for each leaf of the schema.
     pub fn columns(&self) -> &[ColumnChunkMetaData]
@@ -81,5 +86,14 @@ impl RowGroupMetaData {
         ensures { result ≡ self.now.num_rows }
     {
         self.num_rows
+    }
+
+    /// Whether a chunk has a value for each row, and no more values than its bytes can stand for.
+    pub fn has_each_value(&self, column: &ColumnChunkMetaData) -> bool
+        ensures { result ≡ spec.has_each_value self.now.num_rows column.now }
+    {
+        column.num_values == self.num_rows as u64
+            && column.num_values as u128
+                <= MOST_VALUES as u128 * column.total_compressed_size as u128
     }
 }

@@ -40,6 +40,7 @@ fn read_from<F: Read + Seek>(file: &mut F, place: u64, out: &mut [u8]) -> io::Re
 }
 
 impl<R: Files + Drop> FileSource<R> {
+    /// The file is opened when it is first asked.
     pub fn new(rt: R, path: String) -> Self
         ensures { result ≡ (0, 0) }
     {

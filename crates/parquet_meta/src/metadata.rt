@@ -2,11 +2,13 @@
 
 use columns_core::{Name, Seq};
 
+/// How the values of a column are stored (`Type` of the format).
 #[derive(Clone, Copy, Debug, PartialEq, Eq)]
 pub enum PhysicalType {
     Boolean,
     Int32,
     Int64,
+    /// Three words of 32 bits.
     Int96,
     Float,
     Double,
@@ -15,6 +17,7 @@ pub enum PhysicalType {
     FixedLenByteArray(usize),
 }
 
+/// What a column of times counts (`TimeUnit` of the format).
 #[derive(Clone, Copy, Debug, PartialEq, Eq)]
 pub enum ParquetTimeUnit {
     Milliseconds,
@@ -22,21 +25,28 @@ pub enum ParquetTimeUnit {
     Nanoseconds,
 }
 
+/// What stored values stand for, as far as reading hangs on it (`LogicalType` of the format).
 #[derive(Clone, Copy, Debug, PartialEq, Eq)]
 pub enum PrimitiveLogicalType {
+    /// Since 1970-01-01.
     Timestamp {
         unit: ParquetTimeUnit,
         is_adjusted_to_utc: bool,
     },
 }
 
+/// How many values a row has (`FieldRepetitionType` of the format).
 #[derive(Clone, Copy, Debug, PartialEq, Eq)]
 pub enum Repetition {
+    /// One.
     Required,
+    /// One or none: null.
     Optional,
+    /// Any number.
     Repeated,
 }
 
+/// The type of a column, as its file says it.
 #[derive(Clone, Copy, Debug, PartialEq, Eq)]
 pub struct PrimitiveType {
     pub physical_type: PhysicalType,
@@ -90,6 +100,7 @@ pub struct ColumnChunkMetaData {
     pub encrypted: bool,
 }
 
+/// A row group: rows that stand together in the file.
 #[derive(Drop)]
 pub struct RowGroupMetaData {
     /// One chunk for each leaf of the schema, in their order.
@@ -97,6 +108,7 @@ pub struct RowGroupMetaData {
     pub num_rows: usize,
 }
 
+/// What the footer of a file says.
 #[derive(Drop)]
 pub struct FileMetaData {
     /// The file's own count, which nothing is compared with.
@@ -114,6 +126,7 @@ pub struct Ends<T> {
     pub max_value: Option<T>,
 }
 
+/// The statistics of a chunk, by the type that its column is stored as.
 #[derive(Drop)]
 pub enum RawStatistics {
     Boolean(Ends<bool>),
@@ -122,6 +135,7 @@ pub enum RawStatistics {
     /// Three words, the lowest first.
     Int96(Ends<[u32; 3]>),
     ByteArray(Ends<Seq<u8>>),
+    /// The length of each byte string, and the ends.
     FixedLenByteArray(usize, Ends<Seq<u8>>),
 }
 
@@ -133,6 +147,7 @@ pub struct PageIndex<T> {
     pub null_count: Option<i64>,
 }
 
+/// The column index of a chunk, by the type that its column is stored as: one item for each page.
 #[derive(Drop)]
 pub enum Index {
     Boolean(Seq<PageIndex<bool>>),
@@ -141,6 +156,7 @@ pub enum Index {
     /// Three words, the lowest first.
     Int96(Seq<PageIndex<[u32; 3]>>),
     ByteArray(Seq<PageIndex<Seq<u8>>>),
+    /// The length of each byte string, and the pages.
     FixedLenByteArray(usize, Seq<PageIndex<Seq<u8>>>),
 }
 

@@ -8,7 +8,7 @@ use crate::page::FilteredPage;
 use parquet_base::{Interval, is_well_shaped};
 
 /// Whether some row of a page is selected.
-pub(crate) fn is_wanted(page: &FilteredPage) -> bool
+pub fn is_wanted(page: &FilteredPage) -> bool
     ensures { result ≡ is_wanted_by page.now }
 {
     !page.selected_rows.as_slice().is_empty()

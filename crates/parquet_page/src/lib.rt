@@ -20,7 +20,7 @@ mod validity;
 mod validity_part;
 
 pub use body::split_buffer;
-pub use entries::count_selected;
+pub use entries::{count_selected, is_wanted};
 pub use indexed::IndexedPageReader;
 pub use page::{DataPage, DictPage, FilteredPage, Page};
 pub use parquet_base::Interval;

@@ -19,6 +19,7 @@ pub struct DictPage<'a> {
     pub num_values: usize,
 }
 
+/// A page as it is lent to a decoder.
 #[derive(Drop)]
 pub enum Page<'a> {
     Data(DataPage<'a>),

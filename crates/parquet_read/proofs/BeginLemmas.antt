@@ -3,7 +3,7 @@ use Rattle.std.proofs.Common.{◌≡◌, true, ap}
 use Rattle.std.specs.Prelude.{IfErr, IfOk, IfSome, Option, Some, None, Result, Ok, Err, is_some, option_map}
 use Rattle.columns_core.specs.Causes.{IsWantOfMemory}
 use Rattle.columns_core.specs.declared.error.Error.{Error}
-use Rattle.column_arrays.specs.Begun.{BeginsColumn}
+use Rattle.flat_binary.specs.Begun.{BeginsColumn}
 use Rattle.flat_values.specs.ColumnLeft.{ColumnLeft}
 use Rattle.flat_values.specs.Conversion.{Conversion}
 

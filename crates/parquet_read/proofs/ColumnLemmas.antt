@@ -17,7 +17,7 @@ use Rattle.parquet_page.specs.Lent.{are_well_shaped, has_parts, is_wanted, locat
 use Rattle.parquet_page.specs.declared.indexed.IndexedPageReader.{IndexedPageReader}
 use Rattle.parquet_page.specs.declared.page.FilteredPage.{FilteredPage}
 use Rattle.flat_values.specs.ColumnLeft.{ColumnLeft}
-use Rattle.flat_binary.specs.Paged.{is_null_type}
+use Rattle.flat_binary.specs.NullType.{is_null_type}
 use Rattle.parquet_read.specs.Asked.{left_in_file}
 use Rattle.parquet_read.specs.Opening.{chunk_supply, counted_from, opened_left, opened_supply, placed_in, size_within}
 use Rattle.parquet_read.specs.declared.column_pages.ColumnPages.TheVariants.{Located}

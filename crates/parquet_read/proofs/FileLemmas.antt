@@ -20,8 +20,8 @@ use Rattle.flat_values.specs.Conversion.{Conversion}
 use Rattle.flat_values.specs.NullChunks.{nulls_left}
 use Rattle.flat_values.specs.Pairs.{conversion}
 use Rattle.flat_binary.specs.Left.{Supply, converted_left}
-use Rattle.flat_binary.specs.Paged.{is_null_type}
-use Rattle.column_arrays.specs.Begun.{column_left}
+use Rattle.flat_binary.specs.NullType.{is_null_type}
+use Rattle.flat_binary.specs.Begun.{column_left}
 use Rattle.parquet_read.specs.Asked.{AskedField, GroupReading, PageLists, asked_column, asked_fields, asked_left, left_in_file, rows_asked}
 use Rattle.parquet_read.specs.FileReader.{AnswersHere, GivesFileRows, GivesRowsAtHand, OpensInTurn, OpensNext, ReplacesGroup, answers_left, answers_to_come, file_lent, is_group_over, length_of_next, most_answers, opened_group, pages_at_hand, rows_at_hand}
 use Rattle.parquet_read.specs.GroupReader.{NextGroup, groups_left}

@@ -13,10 +13,8 @@ use Rattle.parquet_base.specs.Intervals.{is_well_shaped, row_count}
 use Rattle.parquet_base.specs.Reading.{given}
 use Rattle.parquet_meta.specs.Chunks.{chunk_start}
 use Rattle.parquet_meta.specs.declared.metadata.PhysicalType.{PhysicalType}
-use Rattle.parquet_meta.specs.declared.metadata.PrimitiveType.{PrimitiveType}
-use Rattle.parquet_page.specs.Content.{Content, DataOf, DictOf}
 use Rattle.parquet_page.specs.Indexed.{indexed_count, indexed_lent, indexed_pages, indexed_rows}
-use Rattle.parquet_page.specs.Lending.{AreOfType, DataPagesAre, has_data_behind}
+use Rattle.parquet_page.specs.Lending.{AreOfType, has_data_behind}
 use Rattle.parquet_page.specs.Lent.{Lent, are_well_shaped, chunk_lent, lie_within, located_chunk, selected_count}
 use Rattle.parquet_page.specs.Reader.{reader_count, reader_lent, reader_pages, reader_rows}
 use Rattle.parquet_page.specs.declared.indexed.IndexedPageReader.{IndexedPageReader}
@@ -28,18 +26,12 @@ use Rattle.flat_values.specs.ColumnLeft.{ColumnLeft}
 use Rattle.flat_values.specs.Conversion.{Conversion}
 use Rattle.flat_values.specs.NullChunks.{nulls_left}
 use Rattle.flat_binary.specs.Left.{Supply, converted_left}
-use Rattle.flat_binary.specs.Paged.{is_null_type}
-use Rattle.column_arrays.specs.Begun.{BeginsColumn, IsRefusedPair, column_left}
+use Rattle.flat_binary.specs.NullType.{is_null_type}
+use Rattle.flat_binary.specs.Begun.{BeginsColumn, IsRefusedPair, column_left}
 use Rattle.parquet_read.specs.ColumnPages.{column_pages, rows_to_lend}
 use Rattle.parquet_read.specs.Opening.{AreShaped, ChunkBytes, IsRefusal, OpensAsked, OpensPages, are_in_chunk, counted_from, fresh_supply, location_causes, placed_in, size_within, start_behind}
 use Rattle.parquet_read.specs.declared.column_pages.ColumnPages.{ColumnPages}
 use Rattle.parquet_read.specs.declared.column_pages.ColumnPages.TheVariants.{Located, Whole}
-
--- pages of a column have its type
-pub of_type : (stored : PrimitiveType) (pages : List Content) → AreOfType stored pages → DataPagesAre (λ page. page.type.physical_type ≡ stored.physical_type) pages
-of_type stored [] are = tt
-of_type stored (DataOf page ∷ pages) are = (ap (λ (type : PrimitiveType). type.physical_type) are.0, of_type stored pages are.1)
-of_type stored (DictOf page ∷ pages) are = of_type stored pages are
 
 -- ---- refusals
 

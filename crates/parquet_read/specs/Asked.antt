@@ -1,5 +1,5 @@
 -- Fields that are read from a group: which rows of their columns, what is refused before anything is read, and how many bytes are taken.
-use Rattle.std.specs.Prelude.{ℕ, ◌+◌, ◌-◌, ◌*◌, ◌==◌, ◌&&◌, nat_le, nat_lt, Bool, true, List, Vec, [], ◌∷◌, ◌++◌, filter, flat_map, length, map, sum_by, zip, if◌then◌else◌, Option, None, Some, option_and_then, option_map}
+use Rattle.std.specs.Prelude.{ℕ, ◌+◌, ◌-◌, ◌==◌, ◌&&◌, nat_lt, Bool, true, List, Vec, [], ◌∷◌, ◌++◌, filter, flat_map, length, map, sum_by, zip, if◌then◌else◌, Option, None, Some, option_and_then, option_map}
 use Rattle.std.specs.List.{list_all}
 use Rattle.std.specs.declared.alloc.Global.{Global}
 use Rattle.std.specs.Option.{option_map_or}
@@ -7,7 +7,7 @@ use Rattle.columns_core.specs.Causes.{Cause, ExternalFormat, NotYetImplemented, 
 use Rattle.columns_core.specs.declared.data_type.DataType.{DataType}
 use Rattle.columns_core.specs.declared.data_type.Field.{Field}
 use Rattle.parquet_base.specs.Intervals.{row_count}
-use Rattle.parquet_meta.specs.Chunks.{chunk_range, chunk_start}
+use Rattle.parquet_meta.specs.Chunks.{chunk_range, chunk_start, has_each_value}
 use Rattle.parquet_meta.specs.Indexes.{field_columns}
 use Rattle.parquet_meta.specs.Lists.{all_of}
 use Rattle.parquet_meta.specs.Places.{part_at}
@@ -17,7 +17,7 @@ use Rattle.parquet_meta.specs.declared.metadata.RowGroupMetaData.{RowGroupMetaDa
 use Rattle.parquet_page.specs.Lent.{are_well_shaped, first_start, is_wanted, lie_within, selected_count}
 use Rattle.parquet_page.specs.declared.page.FilteredPage.{FilteredPage}
 use Rattle.flat_values.specs.ColumnLeft.{ColumnLeft}
-use Rattle.flat_binary.specs.Paged.{is_null_type}
+use Rattle.flat_binary.specs.NullType.{is_null_type}
 use Rattle.parquet_read.specs.Columns.{is_here, range_length}
 use Rattle.parquet_read.specs.Opening.{column_causes_of, lone, opened_left, placed_in, start_behind, type_causes}
 use Rattle.parquet_read.specs.Rows.{limited}
@@ -103,14 +103,6 @@ rows_asked reading asked = limited reading.limit (selected_rows_of reading.group
 abbrev pub form_causes : DataType → ColumnChunkMetaData → List Cause
 form_causes data_type column = unless (is_here column) NotYetImplemented ++ (column_causes_of column ++ type_causes data_type column)
 
--- how many values a byte of a chunk stands for at most
-abbrev pub most_values : ℕ
-most_values = 2147483647
-
--- It has a value for each row of the group, and not more than its bytes can stand for.
-abbrev pub has_each_value : RowGroupMetaData → ColumnChunkMetaData → Bool
-has_each_value group column = (column.num_values == group.num_rows) && nat_le column.num_values (most_values * column.total_compressed_size)
-
 -- The pages with selected rows, and the part before the first page, lie in the chunk.
 abbrev pub are_in_range : ColumnChunkMetaData → List FilteredPage → Bool
 are_in_range column entries = start_behind (chunk_start column) entries && lie_within column.total_compressed_size (placed_in column entries)
@@ -123,7 +115,7 @@ range_causes is_null column (Some entries) = if is_null then [] else unless (are
 abbrev pub column_asked_causes : GroupReading → AskedField → ColumnChunkMetaData → List Cause
 column_asked_causes reading asked column =
     form_causes asked.0.data_type column
-    ++ (unless (has_each_value reading.group column) ExternalFormat
+    ++ (unless (has_each_value reading.group.num_rows column) ExternalFormat
     ++ range_causes (is_null_type asked.0.data_type) column asked.1)
 
 -- the only column of the field

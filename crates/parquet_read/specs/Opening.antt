@@ -14,8 +14,8 @@ use Rattle.page_decoding.specs.Queue.{IsChunkSize}
 use Rattle.flat_values.specs.ColumnLeft.{ColumnLeft}
 use Rattle.flat_values.specs.Pairs.{conversion}
 use Rattle.flat_binary.specs.Left.{Supply, supply_of}
-use Rattle.flat_binary.specs.Paged.{is_null_type}
-use Rattle.column_arrays.specs.Begun.{column_left}
+use Rattle.flat_binary.specs.NullType.{is_null_type}
+use Rattle.flat_binary.specs.Begun.{column_left}
 use Rattle.parquet_read.specs.ColumnPages.{column_causes, column_count, column_pages, rows_to_lend}
 use Rattle.parquet_read.specs.declared.column_pages.ColumnPages.{ColumnPages}
 

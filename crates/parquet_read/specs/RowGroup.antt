@@ -2,11 +2,11 @@
 use Rattle.std.specs.Prelude.{ℕ, ◌-◌, ◌^◌, List, map, min, sum_by, Option, Result}
 use Rattle.std.specs.Iterator.{Count, at_most}
 use Rattle.flat_values.specs.ColumnLeft.{ColumnLeft}
-use Rattle.column_arrays.specs.Layers.{array_left}
+use Rattle.flat_binary.specs.Layers.{array_left}
 use Rattle.parquet_read.specs.ColumnPages.{column_causes, column_count, column_pages, rows_to_lend}
 use Rattle.columns_core.specs.declared.array.Array.{Array}
 use Rattle.columns_core.specs.declared.error.Error.{Error}
-use Rattle.column_arrays.specs.declared.array_iter.ArrayIter.{ArrayIter}
+use Rattle.flat_binary.specs.declared.array_iter.ArrayIter.{ArrayIter}
 use Rattle.parquet_read.specs.declared.column_pages.ColumnPages.{ColumnPages}
 use Rattle.parquet_read.specs.declared.row_group.RowGroupDeserializer.{RowGroupDeserializer}
 use Rattle.parquet_read.specs.Rows.{GivesNextRows, GroupLeft}

@@ -5,21 +5,19 @@ ghost use Rattle.columns_core.specs.Causes.{ComesOf, IsWantOfMemory, is_invalid_
 ghost use Rattle.parquet_meta.specs.Indexes.{field_columns};
 ghost use Rattle.parquet_page.specs.Lent.{are_well_shaped as are_well_shaped_by};
 ghost use Rattle.parquet_read.specs.Asked as spec;
-ghost use Rattle.parquet_read.specs.Opening.{lone as lone_of};
+ghost use Rattle.parquet_read.specs.Opening.{lone as lone_of, type_causes};
 
 use crate::columns::is_here;
-use crate::deserializer::{is_null, lone, to_deserializer};
+use crate::deserializer::{check_column, is_null, lone};
 use crate::selected::{are_in_range, are_well_shaped, pages_within};
-use columns_core::{Error, Field, Part, Seq};
+use columns_core::{DataType, Error, Field, Part, Seq};
+use flat_binary::carries;
 use parquet_meta::{ColumnChunkMetaData, RowGroupMetaData, get_field_columns};
 use parquet_page::FilteredPage;
 use std::alloc::{AllocError, Global};
 
 /// A field, and the located pages of its column where they are told.
 pub(crate) type AskedField = (Field, Option<Seq<FilteredPage>>);
-
-/// The most values for each byte of a chunk.
-const MOST_VALUES: u64 = 2_147_483_647;
 
 /// Refuses a chunk size of 0, lists of pages that are not one for each field and its one column, and selected rows that are not well shaped.
 pub(crate) fn check_reading(
@@ -201,8 +199,8 @@ fn check_field(alloc: Global, group: &RowGroupMetaData, asked: &AskedField) -> R
     let Some(column) = lone_column(alloc, group, &asked.0)? else {
         return Err(Error::NotYetImplemented(Part::Schema));
     };
-    check_form(alloc, column, &asked.0)?;
-    if !has_each_value(group, column) {
+    check_form(column, &asked.0.data_type)?;
+    if !group.has_each_value(column) {
         return Err(Error::ExternalFormat(Part::Group));
     }
     check_range(column, is_null(&asked.0.data_type), &asked.1)
@@ -223,28 +221,26 @@ pub(crate) fn lone_column<'a>(
     Ok(lone(found))
 }
 
-/// Refuses a column that is not flat, stands in another file, is compressed, encrypted or not read as the field's type.
-fn check_form(alloc: Global, column: &ColumnChunkMetaData, field: &Field) -> Result<(), Error>
-    ensures ok { OnOk result (spec.form_causes field.now.data_type column.now ≡ []) }
-    ensures cause { ComesOf result (spec.form_causes field.now.data_type column.now) }
+/// Refuses a column that stands in another file, is encrypted, is not flat, is compressed or is not read as a type.
+fn check_form(column: &ColumnChunkMetaData, data_type: &DataType) -> Result<(), Error>
+    ensures ok { OnOk result (spec.form_causes data_type.now column.now ≡ []) }
+    ensures cause { ComesOf result (spec.form_causes data_type.now column.now) }
 {
     if !is_here(column) {
         return Err(Error::NotYetImplemented(Part::Column));
     }
-    // The column is opened without bytes, of which nothing is read.
-    let mut columns = Vec::new(alloc);
-    columns.push((column, Vec::new(alloc)))?;
-    let own = field.try_clone(alloc)?;
-    let _nothing = to_deserializer(alloc, columns, own, 0, None, None)?;
-    Ok(())
+    check_column(column)?;
+    check_type(column, data_type)
 }
 
-/// Whether a column has a value for each row of its group, and no more than its bytes can stand for.
-fn has_each_value(group: &RowGroupMetaData, column: &ColumnChunkMetaData) -> bool
-    ensures { result ≡ spec.has_each_value group.now column.now }
+fn check_type(column: &ColumnChunkMetaData, data_type: &DataType) -> Result<(), Error>
+    ensures ok { OnOk result (type_causes data_type.now column.now ≡ []) }
+    ensures cause { ComesOf result (type_causes data_type.now column.now) }
 {
-    column.num_values == group.num_rows as u64
-        && column.num_values as u128 <= MOST_VALUES as u128 * column.total_compressed_size as u128
+    if carries(&column.descriptor.primitive_type, data_type) {
+        return Ok(());
+    }
+    Err(Error::NotYetImplemented(Part::Schema))
 }
 
 /// Refuses pages with selected rows, and a part before the first page, that do not lie in the chunk. Of nulls no place is looked at.

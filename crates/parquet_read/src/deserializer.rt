@@ -1,15 +1,15 @@
 //! The arrays of a field, over the column that it has.
 ghost use Rattle.std.specs.Prelude.{◌≡◌, [], Bool, None, map, length, IfErr, IfSome, OnOk, option_and_then, option_map};
 ghost use Rattle.columns_core.specs.Causes.{ComesOf, IsMisfit};
-ghost use Rattle.flat_binary.specs.Paged.{is_null_type};
+ghost use Rattle.flat_binary.specs.NullType.{is_null_type};
 ghost use Rattle.page_decoding.specs.Queue.{IsChunkSize};
 ghost use Rattle.parquet_read.specs.Opening as spec;
 ghost use Rattle.parquet_read.specs.RowGroup.{iter_left};
 
 use crate::ColumnPages;
 use crate::locations::{open_located, open_nulls};
-use column_arrays::{ArrayIter, page_iter_to_arrays};
 use columns_core::{DataType, Error, Field, Part};
+use flat_binary::{ArrayIter, page_iter_to_arrays};
 use parquet_meta::ColumnChunkMetaData;
 use parquet_page::{FilteredPage, PageReader};
 use std::alloc::Global;
@@ -17,7 +17,7 @@ use std::alloc::Global;
 /// The arrays of a field in a group of so many rows, over the only column of the field and the bytes of that column's
 /// chunk: of all its rows, or of those that are selected in located pages, whose starts are places in the file.
 ///
-/// `InvalidArgument` for a chunk size of 0, for lists of pages that are not one for each column, and for rows that are not
+/// `InvalidArgumentError` for a chunk size of 0, for lists of pages that are not one for each column, and for rows that are not
 /// well shaped; `NotYetImplemented` where there is not one column, or it is not flat, is compressed or is not read as the
 /// field's type; `ExternalFormat` where a page with selected rows does not lie in the chunk.
 pub fn to_deserializer(
@@ -115,7 +115,7 @@ fn open_chunk(
 }
 
 /// Refuses a column that is not flat or is compressed.
-fn check_column(column: &ColumnChunkMetaData) -> Result<(), Error>
+pub(crate) fn check_column(column: &ColumnChunkMetaData) -> Result<(), Error>
     ensures ok { OnOk result (spec.column_causes_of column.now ≡ []) }
     ensures cause { ComesOf result (spec.column_causes_of column.now) }
 {

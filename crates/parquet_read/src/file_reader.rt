@@ -25,7 +25,7 @@ impl<S: Source + Drop> FileReader<S> {
     ghost use Rattle.parquet_read.specs.GroupReader.{all_lists, groups_left};
     ghost use Rattle.parquet_read.specs.Groups.{is_legal_file};
 
-    /// Over the first `limit` selected rows of these groups, or all of them, in chunks of at most `chunk_size` rows. `InvalidArgument` exactly where the chunk
+    /// Over the first `limit` selected rows of these groups, or all of them, in chunks of at most `chunk_size` rows. `InvalidArgumentError` exactly where the chunk
     /// size is 0, or there is not one list of pages for each group, field and one column.
     pub fn new(
         alloc: Global,

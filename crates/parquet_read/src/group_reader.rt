@@ -28,7 +28,7 @@ impl<S: Source + Drop> RowGroupReader<S> {
     ghost use Rattle.parquet_read.specs.GroupReader.{NextGroup, all_lists, groups_left};
     ghost use Rattle.parquet_read.specs.Groups.{is_legal_file};
 
-    /// Over the first `limit` selected rows of these groups, or all of them. `InvalidArgument` exactly where the chunk size is 0, or there is not one list of
+    /// Over the first `limit` selected rows of these groups, or all of them. `InvalidArgumentError` exactly where the chunk size is 0, or there is not one list of
     /// pages for each group, field and one column.
     pub fn new(
         alloc: Global,

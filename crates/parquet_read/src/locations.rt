@@ -9,7 +9,7 @@ ghost use Rattle.parquet_read.specs.Opening as spec;
 use crate::ColumnPages;
 use columns_core::{Error, Part};
 use parquet_meta::ColumnChunkMetaData;
-use parquet_page::{FilteredPage, IndexedPageReader};
+use parquet_page::{FilteredPage, IndexedPageReader, is_wanted};
 use std::alloc::Global;
 
 /// The located pages of a chunk, whose starts are places in the file.
@@ -61,13 +61,6 @@ fn no_bodies(alloc: Global, pages: &[FilteredPage]) -> Result<Vec<Vec<u8>>, Erro
         }
     }
     Ok(bodies)
-}
-
-/// Whether some row of a page is selected.
-pub(crate) fn is_wanted(page: &FilteredPage) -> bool
-    ensures { result ≡ is_wanted_by page.now }
-{
-    !page.selected_rows.as_slice().is_empty()
 }
 
 /// Whether each page with selected rows starts at a place or behind it.

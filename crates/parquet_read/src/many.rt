@@ -10,8 +10,8 @@ ghost use Rattle.parquet_read.specs.RowGroup.{iter_left};
 use crate::ColumnPages;
 use crate::asked::{ask, check_fields, check_reading};
 use crate::open_field::open_fields;
-use column_arrays::ArrayIter;
 use columns_core::{Error, Field};
+use flat_binary::ArrayIter;
 use parquet_meta::{RowGroupMetaData, Source};
 use parquet_page::FilteredPage;
 use std::alloc::Global;
@@ -20,7 +20,7 @@ use std::alloc::Global;
 /// and a chunk is read whole; with them the part of a chunk before its first page is read, and the pages that hold one of these rows. Of a field that is read as nulls
 /// nothing is read.
 ///
-/// Before anything is read: `InvalidArgument` for a chunk size of 0, for lists of pages that are not one for each field and its one column, and for selected rows that
+/// Before anything is read: `InvalidArgumentError` for a chunk size of 0, for lists of pages that are not one for each field and its one column, and for selected rows that
 /// are not well shaped; `NotYetImplemented` where a field has not one column, or it is not flat, stands in another file, is compressed, encrypted or not read as the
 /// field's type; `ExternalFormat` where it has not a value for each row of the group, or a part that is to be read does not lie in its chunk. Then `ExternalFormat` where
 /// a chunk does not lie in the file, and `Io` where a call of the source failed.

@@ -17,12 +17,12 @@ ghost use Rattle.parquet_read.specs.RowGroup.{iter_left};
 
 use crate::ColumnPages;
 use crate::deserializer::size_within;
-use crate::locations::{counted_from, is_wanted};
+use crate::locations::counted_from;
 use crate::selected::first_start;
-use column_arrays::{ArrayIter, page_iter_to_arrays};
 use columns_core::{DataType, Error};
+use flat_binary::{ArrayIter, page_iter_to_arrays};
 use parquet_meta::{ColumnChunkMetaData, Place, Source, read_range};
-use parquet_page::{FilteredPage, IndexedPageReader};
+use parquet_page::{FilteredPage, IndexedPageReader, is_wanted};
 use std::alloc::Global;
 
 /// The arrays of so many selected rows of a column, of which the pages with selected rows are read and, where there is one, the part before the first page.

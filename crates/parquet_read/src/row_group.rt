@@ -3,8 +3,8 @@ ghost use Rattle.std.specs.Prelude.{◌≡◌, ◌==◌, [], ◌<◌, map, lengt
 
 use crate::ColumnPages;
 use crate::rows::{next_chunk, pages_lent, wanted_after};
-use column_arrays::ArrayIter;
 use columns_core::{Chunk, Error, Part};
+use flat_binary::ArrayIter;
 use parquet_base::Steps;
 use std::alloc::Global;
 use std::iter::Iterator;
@@ -25,7 +25,7 @@ impl RowGroupDeserializer {
     ghost use Rattle.parquet_read.specs.Rows.{GivesNextRows, limited};
     ghost use Rattle.parquet_read.specs.RowGroup.{GivesRowsAlone, iter_left, group_left, group_lent};
 
-    /// Over the columns of a group of so many rows. `InvalidArgument` exactly where there is no column.
+    /// Over the columns of a group of so many rows. `InvalidArgumentError` exactly where there is no column.
     pub fn new(
         alloc: Global,
         column_chunks: Vec<ArrayIter<ColumnPages>>,

@@ -6,11 +6,11 @@ ghost use Rattle.parquet_page.specs.Lent.{are_well_shaped as are_well_shaped_by,
 ghost use Rattle.parquet_read.specs.Asked as spec;
 ghost use Rattle.parquet_read.specs.Opening.{counted_from};
 
-use crate::locations::{is_wanted, start_behind};
+use crate::locations::start_behind;
 use columns_core::Seq;
 use parquet_base::Interval;
 use parquet_meta::ColumnChunkMetaData;
-use parquet_page::{FilteredPage, count_selected};
+use parquet_page::{FilteredPage, count_selected, is_wanted};
 use std::alloc::Global;
 
 /// Whether the selected rows of all pages are well shaped, and can be counted.

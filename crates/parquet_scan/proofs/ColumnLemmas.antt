@@ -21,7 +21,7 @@ use Rattle.parquet_meta.specs.declared.metadata.ColumnChunkMetaData.{ColumnChunk
 use Rattle.parquet_meta.specs.declared.metadata.RowGroupMetaData.{RowGroupMetaData}
 use Rattle.page_decoding.specs.Queue.{IsChunkSize}
 use Rattle.flat_values.specs.Conversion.{Item, Value}
-use Rattle.flat_binary.specs.Paged.{is_null_at}
+use Rattle.flat_binary.specs.NullType.{is_null_at}
 use Rattle.column_ends.specs.Converted.{as_cell}
 use Rattle.parquet_scan.specs.Cells.{column_cell, is_null_type, located_item, walked_item}
 use Rattle.parquet_scan.proofs.CellLemmas.{map_passing}

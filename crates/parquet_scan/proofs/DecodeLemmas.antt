@@ -1,26 +1,24 @@
 -- The arrays of a column, by the definitions of a scan.
-use Rattle.std.proofs.Common.{◌≡◌, ◌∙◌, ℕ, ◌+◌, ◌-◌, ◌^◌, ◌≤◌, Bool, true, false, List, [], ◌∷◌, length, map, take, Option, ap, ap₂, refl, subst, sym}
-use Rattle.std.specs.Prelude.{is_some, min, All, None, Some, Result, Ok, Err, IfErr, IfOk, IfSome, OnOk, if◌then◌else◌, sum_by}
+use Rattle.std.proofs.Common.{◌≡◌, ◌∙◌, ℕ, ◌+◌, ◌-◌, ◌^◌, ◌≤◌, true, false, List, [], length, map, take, Option, ap, ap₂, refl, subst, sym}
+use Rattle.std.specs.Prelude.{is_some, min, All, None, Some, Result, Ok, Err, IfErr, IfOk, IfSome, OnOk, sum_by}
 use Rattle.std.specs.Option.{option_map_or}
 use Rattle.columns_core.specs.Array.{cells, data_type_of}
 use Rattle.columns_core.specs.Causes.{NotYetImplemented}
 use Rattle.columns_core.specs.declared.array.Array.{Array}
-use Rattle.columns_core.specs.declared.data_type.DataType.{DataType, out-DataType}
+use Rattle.columns_core.specs.declared.data_type.DataType.{DataType}
 use Rattle.columns_core.specs.declared.error.Error.{Error}
 use Rattle.parquet_base.specs.Pieces.{cut}
-use Rattle.parquet_meta.specs.declared.metadata.PrimitiveLogicalType.{PrimitiveLogicalType}
 use Rattle.parquet_meta.specs.declared.metadata.PrimitiveType.{PrimitiveType}
-use Rattle.parquet_page.specs.Content.{Content, DataOf, DictOf}
-use Rattle.parquet_page.specs.Lending.{AreOfType, DataPagesAre}
 use Rattle.page_decoding.specs.Bytes.{IsCausedByChunks, cell_bytes, fits_most}
 use Rattle.page_decoding.specs.Outcome.{Given}
 use Rattle.flat_values.specs.ColumnLeft.{ColumnLeft, wanted}
 use Rattle.flat_values.specs.Conversion.{Conversion}
 use Rattle.flat_values.specs.MostBytes.{most_bytes}
-use Rattle.flat_values.specs.Pairs.{conversion, conversion_at, is_repeated}
+use Rattle.flat_values.specs.Pairs.{conversion}
+use Rattle.flat_binary.specs.Begun.{column_left}
 use Rattle.flat_binary.specs.Collected.{AreCollected, Collects}
 use Rattle.flat_binary.specs.Left.{Supply, converted_left}
-use Rattle.flat_binary.specs.Paged.{is_null_type, paged_conversion}
+use Rattle.flat_binary.specs.NullType.{is_null_type}
 use Rattle.flat_binary.specs.PagesWanted.{pages_wanted}
 use Rattle.parquet_scan.specs.Causes.{pair_causes}
 use Rattle.parquet_scan.specs.Decoded.{column_rows, pages_by, pages_for, rows_by}
@@ -28,30 +26,9 @@ use Rattle.parquet_page.proofs.SpelledLemmas.{none_of}
 
 -- ---- pairs of types
 
-found_only : (repeated : Bool) (rule : Option Conversion) → is_some (if repeated then None else rule) ≡ true → (if repeated then None else rule) ≡ rule
-found_only true rule some = cc
-found_only false rule some = refl
-
 chosen : (found : Option Conversion) → is_some found ≡ true → (rule : Conversion) × (found ≡ Some rule)
 chosen None some = absurd cc
 chosen (Some rule) some = (rule, refl)
-
--- A pair that is carried has a conversion, by which its pages are read where it is not read as nulls.
-record IsCarried (stored : PrimitiveType) (data_type : DataType) : Type 0 where
-  rule : Conversion
-  pair : conversion stored data_type ≡ Some rule
-  paged : paged_conversion stored.physical_type stored.logical_type data_type ≡ Some rule
-
-is_carried : (stored : PrimitiveType) (data_type : DataType) → pair_causes stored data_type ≡ [] → is_null_type data_type ≡ false → IsCarried stored data_type
-is_carried stored data_type none present =
-    let some = none_of (is_some (conversion stored data_type)) NotYetImplemented none in
-    let at = conversion_at stored.physical_type stored.logical_type (out-DataType data_type) in
-    let found = chosen (conversion stored data_type) some in
-    record {
-      rule = found.0;
-      pair = found.1;
-      paged = ap (λ null. if null then None else at) present ∙ sym (found_only (is_repeated stored.repetition) at some) ∙ found.1;
-    }
 
 -- ---- what is left of a column
 
@@ -74,12 +51,6 @@ whole_by stored data_type size rows supply rule pair = record {
   pages_left = ap (λ found. option_map_or (pages_by data_type stored.physical_type rows supply.pages) found []) (sym pair);
   lent = refl;
 }
-
--- pages of a column have its type
-pub of_type : (stored : PrimitiveType) (pages : List Content) → AreOfType stored pages → DataPagesAre (λ page. page.type.physical_type ≡ stored.physical_type) pages
-of_type stored [] are = tt
-of_type stored (DataOf page ∷ pages) are = (ap (λ (type : PrimitiveType). type.physical_type) are.0, of_type stored pages are.1)
-of_type stored (DictOf page ∷ pages) are = of_type stored pages are
 
 -- ---- all arrays of a column
 
@@ -123,17 +94,17 @@ decoded_by arrays count stored data_type size rows supply left result steps step
       lent = subst (λ n. OnOk result (steps_now ≡ steps + n)) (ap length whole.pages_left) collects.lent;
     }
 
--- A column of a pair that is carried, collected by its conversion.
-pub is_decoded : {X : Type 0} (arrays : X → List Array) (count : X → ℕ) (stored : PrimitiveType) (data_type own : DataType) (logical : Option PrimitiveLogicalType) (size : Option ℕ) (rows : ℕ) (supply : Supply) (result : Result X Error) (steps steps_now : ℕ)
-    → pair_causes stored data_type ≡ [] → is_null_type data_type ≡ false → logical ≡ stored.logical_type → own ≡ data_type
-    → IfSome (paged_conversion stored.physical_type logical own) (λ rule. Collects arrays count (converted_left stored.physical_type own size rows supply rule) result steps steps_now)
+-- A column of a pair that is carried and is not read as nulls, collected by its conversion.
+pub is_decoded : {X : Type 0} (arrays : X → List Array) (count : X → ℕ) (stored : PrimitiveType) (data_type own : DataType) (size : Option ℕ) (rows : ℕ) (supply : Supply) (result : Result X Error) (steps steps_now : ℕ)
+    → pair_causes stored data_type ≡ [] → is_null_type data_type ≡ false → own ≡ data_type
+    → IfSome (conversion stored own) (λ rule. Collects arrays count (column_left stored.physical_type own size rows supply rule) result steps steps_now)
     → IsDecoded arrays count stored data_type size rows supply result steps steps_now
-is_decoded arrays count stored data_type own logical size rows supply result steps steps_now none present same copy collects =
-    let carried = is_carried stored data_type none present in
-    let W : DataType → Type 0 = λ type. IfSome (paged_conversion stored.physical_type logical type) (λ rule. Collects arrays count (converted_left stored.physical_type type size rows supply rule) result steps steps_now) in
-    let R : Conversion → Type 0 = λ rule. Collects arrays count (converted_left stored.physical_type data_type size rows supply rule) result steps steps_now in
-    let L : Option PrimitiveLogicalType → Type 0 = λ logical. IfSome (paged_conversion stored.physical_type logical data_type) R in
-    let found : IfSome (paged_conversion stored.physical_type stored.logical_type data_type) R = subst L same (subst W copy collects) in
-    let by : R carried.rule = subst (λ rule. IfSome rule R) carried.paged found in
-    let whole = whole_by stored data_type size rows supply carried.rule carried.pair in
-    decoded_by arrays count stored data_type size rows supply (converted_left stored.physical_type data_type size rows supply carried.rule) result steps steps_now whole by
+is_decoded arrays count stored data_type own size rows supply result steps steps_now none present copy collects =
+    let found = chosen (conversion stored data_type) (none_of (is_some (conversion stored data_type)) NotYetImplemented none) in
+    let left = converted_left stored.physical_type data_type size rows supply found.0 in
+    let W : DataType → Type 0 = λ type. IfSome (conversion stored type) (λ rule. Collects arrays count (column_left stored.physical_type type size rows supply rule) result steps steps_now) in
+    let R : Conversion → Type 0 = λ rule. Collects arrays count (column_left stored.physical_type data_type size rows supply rule) result steps steps_now in
+    let by : R found.0 = subst (λ rule. IfSome rule R) found.1 (subst W copy collects) in
+    let same : column_left stored.physical_type data_type size rows supply found.0 ≡ left = rw present refl in
+    decoded_by arrays count stored data_type size rows supply left result steps steps_now (whole_by stored data_type size rows supply found.0 found.1)
+    (subst (λ left. Collects arrays count left result steps steps_now) same by)

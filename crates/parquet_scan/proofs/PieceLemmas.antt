@@ -3,7 +3,7 @@ use Rattle.std.proofs.Common.{◌≡◌, ℕ, zero, suc, ◌+◌, ◌*◌, ◌<�
 use Rattle.std.specs.Prelude.{All, flat_map, sum_by}
 use Rattle.std.specs.Option.{option_map_or}
 use Rattle.std.proofs.lemmas.Bool.{le-leb, leb-false, lt-leb, true≢false}
-use Rattle.std.proofs.lemmas.List.{append-nil, drop-drop, drop-map, length-drop, length-map, map-append, take-append-drop, take-map}
+use Rattle.std.proofs.lemmas.List.{drop-drop, drop-map, length-drop, length-map, map-append, take-map}
 use Rattle.std.proofs.lemmas.List.Elements.{All-head, All-tail}
 use Rattle.std.proofs.lemmas.List.Sums.{sum_by-cons}
 use Rattle.columns_core.specs.Causes.{Cause, IsOneOf, Overflow, unless}
@@ -13,6 +13,7 @@ use Rattle.parquet_base.specs.Pieces.{cut, pieces}
 use Rattle.page_decoding.specs.Bytes.{SomePasses, cell_bytes, chunk_at, fits_most, row_bytes}
 use Rattle.page_decoding.specs.Outcome.{Outcome, Given, Refused, cells_in}
 use Rattle.page_decoding.specs.Queue.{IsChunkSize, joined}
+use Rattle.page_decoding.proofs.CutLemmas.{cut-joined}
 use Rattle.page_decoding.proofs.RowLemmas.{one_of-left, one_of-right}
 use Rattle.flat_values.specs.Conversion.{Item, Value, NotInRange, NotText}
 use Rattle.flat_values.specs.MostBytes.{most_bytes}
@@ -36,20 +37,6 @@ pub cut-map : {X Y : Type 0} (f : X → Y) (size : Option ℕ) (xs : List X) →
 cut-map f None [] = refl
 cut-map f None (x ∷ xs) = refl
 cut-map f (Some size) xs = ap (λ turns. pieces turns size (map f xs)) (length-map xs f) ∙ pieces-map f (length xs) size xs
-
-pieces-joined : {X : Type 0} (turns size : ℕ) (xs : List X) → 0 < size → length xs ≤ turns → joined (pieces turns size xs) ≡ xs
-pieces-joined zero size [] some enough = refl
-pieces-joined zero size (x ∷ xs) some enough = absurd (omega (arith, enough))
-pieces-joined (suc turns) size [] some enough = refl
-pieces-joined (suc turns) size (x ∷ xs) some enough =
-    ap (λ rest. take size (x ∷ xs) ++ rest) (pieces-joined turns size (drop size (x ∷ xs)) some (omega (arith, length-drop size (x ∷ xs), enough, some)))
-    ∙ take-append-drop size (x ∷ xs)
-
--- the pieces of a list together are the list
-cut-joined : {X : Type 0} (size : Option ℕ) (xs : List X) → IsChunkSize size → joined (cut size xs) ≡ xs
-cut-joined None [] some = refl
-cut-joined None (x ∷ xs) some = append-nil (x ∷ xs)
-cut-joined (Some size) xs some = pieces-joined (length xs) size xs some (omega arith)
 
 -- lists of one length are cut alike
 pub cut-lengths : {X Y : Type 0} (size : Option ℕ) (xs : List X) (ys : List Y) → IsChunkSize size → length xs ≡ length ys → map length (cut size xs) ≡ map length (cut size ys)

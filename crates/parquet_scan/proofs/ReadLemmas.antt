@@ -7,19 +7,18 @@ use Rattle.columns_core.specs.declared.error.Error.TheVariants as error
 use Rattle.parquet_meta.specs.declared.metadata.ColumnChunkMetaData.{ColumnChunkMetaData}
 use Rattle.parquet_meta.specs.declared.metadata.Place.{Place}
 use Rattle.parquet_meta.specs.declared.metadata.RowGroupMetaData.{RowGroupMetaData}
-use Rattle.parquet_meta.specs.Chunks.{chunk_causes, chunk_range}
+use Rattle.parquet_meta.specs.Chunks.{chunk_causes, chunk_range, has_each_value}
 use Rattle.parquet_meta.specs.Places.{place_end, bytes_at, lies_in, part_at}
 use Rattle.parquet_meta.specs.Source.{Finds, IsReadFailure}
 use Rattle.parquet_scan.specs.Cells.{chunk_of}
 use Rattle.parquet_scan.specs.Causes.{chunk_read_causes}
-use Rattle.parquet_scan.specs.Column.{has_values}
 use Rattle.parquet_scan.specs.Located.{part_causes, part_in}
 use Rattle.columns_core.specs.declared.error.Part.{Part}
 
-pub placed : (bytes : List ℕ) (group : RowGroupMetaData) (column : ColumnChunkMetaData) → chunk_causes column ≡ [] → has_values group column ≡ true
+pub placed : (bytes : List ℕ) (group : RowGroupMetaData) (column : ColumnChunkMetaData) → chunk_causes column ≡ [] → has_each_value group.num_rows column ≡ true
     → chunk_of bytes group column ≡ (if nat_le (place_end (chunk_range column)) (length bytes) then Some (chunk_range column) else None)
 placed bytes group column none whole =
-    ap (λ causes. if is_empty causes && (nat_le (place_end (chunk_range column)) (length bytes) && has_values group column) then Some (chunk_range column) else None) none
+    ap (λ causes. if is_empty causes && (nat_le (place_end (chunk_range column)) (length bytes) && has_each_value group.num_rows column) then Some (chunk_range column) else None) none
     ∙ ap (λ b. if nat_le (place_end (chunk_range column)) (length bytes) && b then Some (chunk_range column) else None) whole
     ∙ by (nat_le (place_end (chunk_range column)) (length bytes)) where
       by : (b : Bool) → (if b && true then Some (chunk_range column) else None) ≡ (if b then Some (chunk_range column) else None)
@@ -27,7 +26,7 @@ placed bytes group column none whole =
       by false = refl
 
 -- the bytes of a part are those of the chunk
-pub found : (bytes : List ℕ) (group : RowGroupMetaData) (column : ColumnChunkMetaData) → chunk_causes column ≡ [] → has_values group column ≡ true
+pub found : (bytes : List ℕ) (group : RowGroupMetaData) (column : ColumnChunkMetaData) → chunk_causes column ≡ [] → has_each_value group.num_rows column ≡ true
     → option_map (bytes_at bytes) (chunk_of bytes group column) ≡ part_at bytes (chunk_range column)
 found bytes group column none whole = ap (option_map (bytes_at bytes)) (placed bytes group column none whole) ∙ by (nat_le (place_end (chunk_range column)) (length bytes)) where
   by : (b : Bool) → option_map (bytes_at bytes) (if b then Some (chunk_range column) else None) ≡ (if b then Some (bytes_at bytes (chunk_range column)) else None)
@@ -38,14 +37,14 @@ missing : (o : Option Place) (bytes : List ℕ) → option_map (bytes_at bytes) 
 missing None bytes e = refl
 missing (Some place) bytes e = absurd cc
 
-damaged : (bytes : List ℕ) (group : RowGroupMetaData) (column : ColumnChunkMetaData) → chunk_causes column ≡ [] → has_values group column ≡ true → part_at bytes (chunk_range column) ≡ None
+damaged : (bytes : List ℕ) (group : RowGroupMetaData) (column : ColumnChunkMetaData) → chunk_causes column ≡ [] → has_each_value group.num_rows column ≡ true → part_at bytes (chunk_range column) ≡ None
     → chunk_read_causes bytes group column ≡ ExternalFormat ∷ []
 damaged bytes group column none whole gone =
     ap (λ causes. and_then causes (unless (is_some (chunk_of bytes group column)) ExternalFormat)) none
     ∙ ap (λ b. unless b ExternalFormat) (missing (chunk_of bytes group column) bytes (found bytes group column none whole ∙ gone))
 
 pub gives_chunk : {X : Type 0} (view : X → List ℕ) (told : Option (List ℕ)) (before now : ℕ) (group : RowGroupMetaData) (column : ColumnChunkMetaData) (r : Result X Error)
-    → chunk_causes column ≡ [] → has_values group column ≡ true → Finds view (λ file. part_at file (chunk_range column)) told before now r
+    → chunk_causes column ≡ [] → has_each_value group.num_rows column ≡ true → Finds view (λ file. part_at file (chunk_range column)) told before now r
     → IfOk r (λ x. IfSome told (λ bytes. option_map (bytes_at bytes) (chunk_of bytes group column) ≡ Some (view x)))
 gives_chunk view None before now group column (Ok x) none whole finds = finds
 gives_chunk view (Some bytes) before now group column (Ok x) none whole finds = found bytes group column none whole ∙ finds
@@ -68,7 +67,7 @@ finds_fails view spelled causes told before now (Err error.Io) damaged finds = f
 finds_fails view spelled causes told before now (Err error.OutOfMemory) damaged finds = tt
 
 pub fails_by : {X : Type 0} (view : X → List ℕ) (told : Option (List ℕ)) (before now : ℕ) (group : RowGroupMetaData) (column : ColumnChunkMetaData) (r : Result X Error)
-    → chunk_causes column ≡ [] → has_values group column ≡ true → Finds view (λ file. part_at file (chunk_range column)) told before now r
+    → chunk_causes column ≡ [] → has_each_value group.num_rows column ≡ true → Finds view (λ file. part_at file (chunk_range column)) told before now r
     → IfErr r (IsReadFailure told before now (λ bytes. chunk_read_causes bytes group column))
 fails_by view told before now group column r none whole finds =
     finds_fails view (λ file. part_at file (chunk_range column)) (λ bytes. chunk_read_causes bytes group column) told before now r

@@ -23,7 +23,7 @@ use Rattle.parquet_page.specs.Located.{located_dictionary}
 use Rattle.parquet_page.specs.Locations.{located, part_of}
 use Rattle.parquet_page.specs.Spelling.{has_plain_entries}
 use Rattle.parquet_page.specs.Values.{all_some}
-pub use Rattle.flat_binary.specs.Paged.{is_null_type}
+pub use Rattle.flat_binary.specs.NullType.{is_null_type}
 use Rattle.column_ends.specs.Converted.{as_cell}
 use Rattle.flat_values.specs.Conversion.{Item, Value}
 use Rattle.flat_values.specs.Items.{page_items}

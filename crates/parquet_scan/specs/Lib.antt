@@ -2,7 +2,6 @@ pub mod Bound
 pub mod Causes
 pub mod Cells
 pub mod Chunks
-pub mod Column
 pub mod Costs
 pub mod Counting
 pub mod Decoded

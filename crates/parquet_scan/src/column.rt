@@ -7,14 +7,10 @@ ghost use Rattle.parquet_meta.specs.Keeps.{Keeps};
 ghost use Rattle.parquet_meta.specs.Source.{IsReadFailure};
 ghost use Rattle.parquet_scan.specs.Causes.{chunk_read_causes};
 ghost use Rattle.parquet_scan.specs.Cells.{chunk_of};
-ghost use Rattle.parquet_scan.specs.Column.{has_values};
 
 use columns_core::{Error, Part};
 use parquet_meta::{ColumnChunkMetaData, Place, RowGroupMetaData, Source, read_range};
 use std::alloc::Global;
-
-/// The most values for each byte of a chunk.
-const MOST_VALUES: u64 = 2_147_483_647;
 
 /// The bytes of a column's chunk in a group.
 pub(crate) fn read_chunk<S: Source>(
@@ -35,7 +31,7 @@ pub(crate) fn read_chunk<S: Source>(
     ensures taken { S.taken source.new ≤ S.taken source.old + (chunk_range column.now).length }
 {
     check_chunk(column)?;
-    if !has_all_values(group, column) {
+    if !group.has_each_value(column) {
         return Err(Error::ExternalFormat(Part::Group));
     }
     let (offset, length) = column.byte_range();
@@ -59,7 +55,7 @@ pub(crate) fn place_of_chunk<S: Source>(
     ensures taken { S.taken source.new ≡ S.taken source.old }
 {
     check_chunk(column)?;
-    if !has_all_values(group, column) {
+    if !group.has_each_value(column) {
         return Err(Error::ExternalFormat(Part::Group));
     }
     let (offset, length) = column.byte_range();
@@ -79,12 +75,4 @@ fn check_chunk(column: &ColumnChunkMetaData) -> Result<(), Error>
         return Err(Error::NotYetImplemented(Part::Column));
     }
     Ok(())
-}
-
-/// Whether a chunk has a value for each row of its group, and no more than its bytes can stand for.
-fn has_all_values(group: &RowGroupMetaData, column: &ColumnChunkMetaData) -> bool
-    ensures { result ≡ has_values group.now column.now }
-{
-    column.num_values == group.num_rows as u64
-        && column.num_values as u128 <= MOST_VALUES as u128 * column.total_compressed_size as u128
 }

@@ -53,14 +53,5 @@ pub(crate) fn decode_column<I: Pages, L: Ledger>(
         steps.new ≡ steps.old + length (pages_for stored.now data_type.now num_rows (I.to_come pages))) }
 {
     let own_type = data_type.try_clone(alloc)?;
-    collect_column(
-        alloc,
-        pages,
-        stored.physical_type,
-        stored.logical_type.as_ref(),
-        own_type,
-        chunk_size,
-        num_rows,
-        steps,
-    )
+    collect_column(alloc, pages, stored, own_type, chunk_size, num_rows, steps)
 }

@@ -27,7 +27,7 @@ use crate::pairs::TypedColumn;
 use columns_core::{Array, Error, Part};
 use parquet_base::Steps;
 use parquet_meta::{Place, Source, read_exact_at};
-use parquet_page::{FilteredPage, IndexedPageReader, select_pages};
+use parquet_page::{FilteredPage, IndexedPageReader, is_wanted, select_pages};
 use std::alloc::Global;
 use std::collections::VecDeque;
 use std::sync::ledger::Ledger;
@@ -124,12 +124,6 @@ fn read_bodies<S: Source>(
         }
     }
     Ok(bodies)
-}
-
-fn is_wanted(page: &FilteredPage) -> bool
-    ensures { result ≡ is_wanted_by page.now }
-{
-    !page.selected_rows.as_slice().is_empty()
 }
 
 fn part_of_page(page: &FilteredPage) -> Place

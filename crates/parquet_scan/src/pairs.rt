@@ -1,7 +1,7 @@
 //! Pairs of a column's type and a type that is asked for: those that are not carried are refused, and nulls are told.
 ghost use Rattle.std.specs.Prelude.{◌≡◌, [], OnOk};
 ghost use Rattle.columns_core.specs.Causes.{ComesOf};
-ghost use Rattle.flat_binary.specs.Paged as paged;
+ghost use Rattle.flat_binary.specs.NullType as nulls;
 ghost use Rattle.parquet_scan.specs.Causes.{pair_causes};
 
 use columns_core::{DataType, Error, Part};
@@ -27,7 +27,7 @@ pub(crate) fn check_pair(stored: &PrimitiveType, data_type: &DataType) -> Result
 }
 
 pub(crate) fn is_null_type(data_type: &DataType) -> bool
-    ensures { result ≡ paged.is_null_type data_type.now }
+    ensures { result ≡ nulls.is_null_type data_type.now }
 {
     matches!(data_type, DataType::Null)
 }

@@ -15,7 +15,7 @@ use Rattle.flat_builders.specs.Flat.{flatness}
 use Rattle.parquet_statistics.specs.BuiltTypes.{OfType, are_each, is_empty_at, is_empty_dictionary, is_empty_list, is_empty_map, is_empty_of, is_empty_over, is_empty_struct, is_flat_shape, is_same_type, item_type}
 use Rattle.parquet_statistics.specs.Made.{Made, dictionary_made, freely_made, list_made, made_by, made_at, made_cells, made_dictionary, made_list, made_map, made_struct, map_made, struct_made}
 use Rattle.parquet_statistics.specs.declared.dyn_mutable.DynMutable.TheViews
-use Rattle.parquet_statistics.specs.declared.dyn_mutable.DynMutable.{DynMutable, Flat, Dictionary, List as ListBuilder, Map, Struct, fold-roll-DynMutable, out-DynMutable}
+use Rattle.parquet_statistics.specs.declared.dyn_mutable.DynMutable.{DynMutable, Flat, Dictionary, List as ListBuilder, Map, Struct, fold-roll-DynMutable}
 use Rattle.parquet_statistics.specs.declared.dyn_mutable.DynMutable.TheOpen.{DynMutable-F}
 use Rattle.parquet_statistics.specs.declared.dyn_mutable.DynMutable.TheVariants.{rolls-Flat, rolls-Dictionary, rolls-List, rolls-Map, rolls-Struct}
 use Rattle.parquet_statistics.specs.declared.dyn_mutable.DynMutableDictionary.{DynMutableDictionary, fold_out-DynMutableDictionary}

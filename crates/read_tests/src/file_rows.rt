@@ -1,9 +1,9 @@
 //! The chunks of all groups of a file, under a chunk size and a limit.
 ghost use Rattle.std.specs.Prelude.{◌≡◌, ◌<◌};
 
-use crate::asked::{Located, check_chunks, field_of, numbers_of, opened, pages_of};
+use crate::asked::{Located, answer_of, check_chunks, numbers_of, opened, pages_of, schema_of};
 use crate::files::{FIVE_ROWS, TWO_GROUPS};
-use columns_core::{DataType, Error, Part, Schema, Seq};
+use columns_core::{Error, Part};
 use files_for_tests::Levels::Absent;
 use files_for_tests::Values::{Bytes, Numbers};
 use files_for_tests::{CHUNK, Chunk, Page, file_of};
@@ -58,35 +58,25 @@ const ALL: Asked = Asked {
 /// The lists of each group, of one field and one column.
 fn lists_of(
     alloc: Global,
-    groups: &[&[Located]],
-) -> Result<Vec<Vec<Vec<Vec<FilteredPage>>>>, AllocError> {
+    groups: Option<&[&[Located]]>,
+) -> Result<Option<Vec<Vec<Vec<Vec<FilteredPage>>>>>, AllocError> {
+    let Some(groups) = groups else {
+        return Ok(None);
+    };
     let mut lists = Vec::new(alloc);
     for pages in groups {
         let column = vec![in alloc; pages_of(alloc, pages)?]?;
         lists.push(vec![in alloc; column]?)?;
     }
-    Ok(lists)
-}
-
-fn schema_of(alloc: Global, names: &[&str]) -> Result<Schema, AllocError> {
-    let mut fields = Vec::new(alloc);
-    for name in names {
-        fields.push(field_of(alloc, name, DataType::Int32)?)?;
-    }
-    Ok(Schema {
-        fields: Seq::new(fields),
-    })
+    Ok(Some(lists))
 }
 
 fn reader_of(alloc: Global, asked: Asked) -> Result<FileReader<MemorySource>, Error> {
+    let schema = schema_of(alloc, asked.names)?;
+    let pages = lists_of(alloc, asked.pages)?;
     let bytes = file_of(alloc, asked.groups)?;
     let (source, metadata) = opened(alloc, bytes.as_slice())?;
-    let schema = schema_of(alloc, asked.names)?;
     let groups = metadata.row_groups.into_vec();
-    let pages = match asked.pages {
-        Some(pages) => Some(lists_of(alloc, pages)?),
-        None => None,
-    };
     FileReader::new(
         alloc,
         source,
@@ -249,21 +239,23 @@ fn groups_behind_errors(rt: HostRuntime) -> Result<(), Fail> {
     check_errors(rt.alloc(), &ERRORS)
 }
 
-#[test]
-fn a_source_that_fails_once(rt: HostRuntime) -> Result<(), Fail> {
-    let alloc = rt.alloc();
+/// Both groups, from a source whose first call fails.
+fn failing_reader(alloc: Global) -> Result<FileReader<FailingSource>, Error> {
+    let schema = schema_of(alloc, &["a"])?;
+    let failing = vec![in alloc; 1]?;
     let bytes = file_of(alloc, TWO_GROUPS)?;
     let (_, metadata) = opened(alloc, bytes.as_slice())?;
-    let source = FailingSource::new(bytes, vec![in alloc; 1]?);
-    let schema = schema_of(alloc, &["a"])?;
+    let source = FailingSource::new(bytes, failing);
     let groups = metadata.row_groups.into_vec();
-    let mut reader = FileReader::new(alloc, source, groups, schema, None, Some(5), None)?;
-    assert!(rt; matches!(reader.next(), Some(Err(Error::Io))));
-    let Some(chunk) = reader.next() else {
-        return Err(Fail::new(format_args!("no chunk behind the failure")));
-    };
-    assert_eq!(rt; chunk?.len(), 5);
-    assert!(rt; reader.next().is_none());
+    FileReader::new(alloc, source, groups, schema, None, Some(5), None)
+}
+
+#[test]
+fn a_source_that_fails_once(rt: HostRuntime) -> Result<(), Fail> {
+    let mut reader = failing_reader(rt.alloc())?;
+    for answer in [Some(Err(Error::Io)), Some(Ok(5)), None] {
+        assert_eq!(rt; answer_of(reader.next()), answer);
+    }
     Ok(())
 }
 

@@ -1,6 +1,6 @@
 //! Groups of a file, one after another, under a limit.
-use crate::asked::{check_chunks, field_of, numbers_of, opened};
-use columns_core::{DataType, Error, Part, Schema, Seq};
+use crate::asked::{check_chunks, numbers_of, opened, schema_of};
+use columns_core::{Error, Part};
 use files_for_tests::Levels::Absent;
 use files_for_tests::Values::Numbers;
 use files_for_tests::{CHUNK, Chunk, Page, file_of};
@@ -33,13 +33,9 @@ fn groups_of(
     chunk_size: Option<usize>,
     limit: Option<usize>,
 ) -> Result<RowGroupReader<MemorySource>, Error> {
+    let schema = schema_of(alloc, &[name])?;
     let bytes = file_of(alloc, groups)?;
     let (source, metadata) = opened(alloc, bytes.as_slice())?;
-    let mut fields = Vec::new(alloc);
-    fields.push(field_of(alloc, name, DataType::Int32)?)?;
-    let schema = Schema {
-        fields: Seq::new(fields),
-    };
     let row_groups = metadata.row_groups.into_vec();
     RowGroupReader::new(alloc, source, schema, row_groups, chunk_size, limit, None)
 }
@@ -83,25 +79,21 @@ fn groups_under_a_limit(rt: HostRuntime) -> Result<(), Fail> {
     check_reads(rt.alloc(), &CHUNKS)
 }
 
+/// The error of the next group that comes.
+fn next_refusal(reader: &mut RowGroupReader<MemorySource>) -> Option<Option<Error>> {
+    reader.next().map(Result::err)
+}
+
 #[test]
 fn groups_that_are_refused(rt: HostRuntime) -> Result<(), Fail> {
     let alloc = rt.alloc();
-    let none = groups_of(alloc, TWO_GROUPS, "a", Some(0), None);
-    assert!(rt; matches!(none, Err(Error::InvalidArgumentError(Part::Request))));
+    let none = groups_of(alloc, TWO_GROUPS, "a", Some(0), None).err();
+    assert_eq!(rt; none, Some(Error::InvalidArgumentError(Part::Request)));
     // A group whose reading failed is not tried again.
+    let refused = Some(Some(Error::NotYetImplemented(Part::Schema)));
     let mut missing = groups_of(alloc, TWO_GROUPS, "z", None, Some(1))?;
-    assert!(rt;
-        matches!(
-            missing.next(),
-            Some(Err(Error::NotYetImplemented(Part::Schema)))
-        )
-    );
-    assert!(rt;
-        matches!(
-            missing.next(),
-            Some(Err(Error::NotYetImplemented(Part::Schema)))
-        )
-    );
-    assert!(rt; missing.next().is_none());
+    for refusal in [refused, refused, None] {
+        assert_eq!(rt; next_refusal(&mut missing), refusal);
+    }
     Ok(())
 }

@@ -1,9 +1,12 @@
 //! The rows of a group in chunks.
-use crate::asked::{Located, check_chunks, field_of, numbers_of, opened, pages_of};
-use column_arrays::ArrayIter;
-use columns_core::{DataType, Error, Part};
+use crate::asked::{
+    Answer, AskedField, Located, answer_of, arrays_of, check_chunks, numbers_of, opened,
+};
+use columns_core::{Error, Part};
 use files_for_tests::{F1, F2, F3};
-use parquet_read::{ColumnPages, RowGroupDeserializer, read_columns, to_deserializer};
+use flat_binary::ArrayIter;
+use parquet_meta::{MemorySource, RowGroupMetaData};
+use parquet_read::{ColumnPages, RowGroupDeserializer};
 use std::alloc::Global;
 use std::iter::Iterator;
 use std::test::*;
@@ -85,24 +88,36 @@ static CHUNKS: [Given<'static>; 8] = [
     ),
 ];
 
-/// The columns of the only group of a file.
-fn columns_of(alloc: Global, asked: Asked<'_>) -> Result<Vec<ArrayIter<ColumnPages>>, Error> {
+/// Appends the columns of the only group of a file.
+fn push_columns(
+    alloc: Global,
+    columns: &mut Vec<ArrayIter<ColumnPages>>,
+    asked: Asked<'_>,
+) -> Result<(), Error> {
     let (mut source, metadata) = opened(alloc, asked.file)?;
-    let mut columns = Vec::new(alloc);
     for group in metadata.row_groups.as_slice() {
-        for name in asked.names {
-            let chunks = read_columns(alloc, &mut source, group.columns(), name)?;
-            let field = field_of(alloc, name, DataType::Int32)?;
-            let lists = match asked.pages {
-                Some(pages) => Some(vec![in alloc; pages_of(alloc, pages)?]?),
-                None => None,
-            };
-            let rows = group.num_rows();
-            let column = to_deserializer(alloc, chunks, field, rows, asked.chunk_size, lists)?;
-            columns.push(column)?;
-        }
+        push_group(alloc, columns, &mut source, group, asked)?;
     }
-    Ok(columns)
+    Ok(())
+}
+
+fn push_group(
+    alloc: Global,
+    columns: &mut Vec<ArrayIter<ColumnPages>>,
+    source: &mut MemorySource,
+    group: &RowGroupMetaData,
+    asked: Asked<'_>,
+) -> Result<(), Error> {
+    for name in asked.names {
+        let field = AskedField {
+            name,
+            is_null: false,
+            chunk_size: asked.chunk_size,
+            pages: asked.pages,
+        };
+        columns.push(arrays_of(alloc, source, group, field)?)?;
+    }
+    Ok(())
 }
 
 /// The number of rows, and the numbers of all chunks.
@@ -112,7 +127,8 @@ fn numbers_in(
     rows: usize,
     limit: Option<usize>,
 ) -> Result<(usize, Vec<Vec<i128>>), Error> {
-    let columns = columns_of(alloc, asked)?;
+    let mut columns = Vec::new(alloc);
+    push_columns(alloc, &mut columns, asked)?;
     let group = RowGroupDeserializer::new(alloc, columns, rows, limit)?;
     let own = group.num_rows();
     let mut given = Vec::new(alloc);
@@ -138,23 +154,48 @@ fn chunks_of_groups(rt: HostRuntime) -> Result<(), Fail> {
     check_groups(rt.alloc(), &CHUNKS)
 }
 
+/// What is asked of each column, how many rows are wanted, and the first three answers.
+type Ending<'a> = (&'a [Asked<'a>], usize, [Answer; 3]);
+
+const UNEVEN: Answer = Some(Err(Error::ExternalFormat(Part::Chunk)));
+
+static ENDINGS: [Ending<'static>; 2] = [
+    // A column ends where its rows do, before the rows that are wanted are given.
+    (&[WHOLE], 6, [Some(Ok(5)), UNEVEN, None]),
+    // An array of two rows of one column stands beside one of three of another.
+    (&[IN_PAIRS, TWICE], 5, [UNEVEN, None, None]),
+];
+
+/// The group of these columns side by side.
+fn group_of(
+    alloc: Global,
+    asked: &[Asked<'_>],
+    rows: usize,
+) -> Result<RowGroupDeserializer, Error> {
+    let mut columns = Vec::new(alloc);
+    for own in asked {
+        push_columns(alloc, &mut columns, *own)?;
+    }
+    RowGroupDeserializer::new(alloc, columns, rows, None)
+}
+
+fn check_endings(alloc: Global, endings: &[Ending<'_>]) -> Result<(), Fail> {
+    for (asked, rows, answers) in endings {
+        let mut group = group_of(alloc, *asked, *rows)?;
+        for answer in answers {
+            if answer_of(group.next()) != *answer {
+                return Err(Fail::new(format_args!("no {answer:?}")));
+            }
+        }
+    }
+    Ok(())
+}
+
 #[test]
 fn columns_that_do_not_fit(rt: HostRuntime) -> Result<(), Fail> {
     let alloc = rt.alloc();
-    let none = RowGroupDeserializer::new(alloc, Vec::new(alloc), 5, None);
-    assert!(rt; matches!(none, Err(Error::InvalidArgumentError(Part::Request))));
-    // A column ends where its rows do, before the rows that are wanted are given.
-    let mut short = RowGroupDeserializer::new(alloc, columns_of(alloc, WHOLE)?, 6, None)?;
-    assert!(rt; matches!(short.next(), Some(Ok(_))));
-    assert!(rt; matches!(short.next(), Some(Err(Error::ExternalFormat(Part::Chunk)))));
-    assert!(rt; short.next().is_none());
-    // An array of two rows of one column stands beside one of three of another.
-    let mut uneven = columns_of(alloc, IN_PAIRS)?;
-    for column in columns_of(alloc, TWICE)? {
-        uneven.push(column)?;
-    }
-    let mut uneven = RowGroupDeserializer::new(alloc, uneven, 5, None)?;
-    assert!(rt; matches!(uneven.next(), Some(Err(Error::ExternalFormat(Part::Chunk)))));
-    assert!(rt; uneven.next().is_none());
+    check_endings(alloc, &ENDINGS)?;
+    let none = RowGroupDeserializer::new(alloc, Vec::new(alloc), 5, None).err();
+    assert_eq!(rt; none, Some(Error::InvalidArgumentError(Part::Request)));
     Ok(())
 }

@@ -1,9 +1,12 @@
 //! Fields of a group that are opened together, of whose columns only the needed parts are read.
-use crate::asked::{Located, field_of, opened, pages_of, push_numbers};
-use columns_core::{DataType, Error, Part};
+use crate::asked::{Located, field_of, opened, pages_of, push_arrays, type_of};
+use columns_core::{Error, Field, Part};
 use files_for_tests::{F1, F2, F3};
-use parquet_read::read_columns_many;
-use std::alloc::Global;
+use flat_binary::ArrayIter;
+use parquet_meta::{MemorySource, RowGroupMetaData};
+use parquet_page::FilteredPage;
+use parquet_read::{ColumnPages, read_columns_many};
+use std::alloc::{AllocError, Global};
 use std::iter::Iterator;
 use std::test::*;
 
@@ -93,46 +96,59 @@ static READ: [(Asked<'static>, &'static [i128]); 8] = [
     ),
 ];
 
-fn numbers_in(alloc: Global, asked: Asked<'_>) -> Result<Vec<i128>, Error> {
-    let (mut source, metadata) = opened(alloc, asked.file)?;
+fn fields_of(alloc: Global, asked: Asked<'_>) -> Result<Vec<Field>, AllocError> {
+    let mut fields = Vec::new(alloc);
+    for name in asked.names {
+        fields.push(field_of(alloc, name, type_of(asked.are_nulls))?)?;
+    }
+    Ok(fields)
+}
+
+/// A list for each field, of its one column.
+fn lists_of(
+    alloc: Global,
+    asked: Asked<'_>,
+) -> Result<Option<Vec<Vec<Vec<FilteredPage>>>>, AllocError> {
+    let Some(pages) = asked.pages else {
+        return Ok(None);
+    };
+    let mut lists = Vec::new(alloc);
+    for own in pages {
+        lists.push(vec![in alloc; pages_of(alloc, own)?]?)?;
+    }
+    Ok(Some(lists))
+}
+
+fn columns_of(
+    alloc: Global,
+    source: &mut MemorySource,
+    group: &RowGroupMetaData,
+    asked: Asked<'_>,
+) -> Result<Vec<ArrayIter<ColumnPages>>, Error> {
+    let fields = fields_of(alloc, asked)?;
+    let lists = lists_of(alloc, asked)?;
+    let (chunk_size, limit) = (asked.chunk_size, asked.limit);
+    read_columns_many(alloc, source, group, fields, chunk_size, limit, lists)
+}
+
+fn numbers_of_groups(
+    alloc: Global,
+    source: &mut MemorySource,
+    groups: &[RowGroupMetaData],
+    asked: Asked<'_>,
+) -> Result<Vec<i128>, Error> {
     let mut numbers = Vec::new(alloc);
-    for group in metadata.row_groups.as_slice() {
-        let mut fields = Vec::new(alloc);
-        for name in asked.names {
-            let data_type = if asked.are_nulls {
-                DataType::Null
-            } else {
-                DataType::Int32
-            };
-            fields.push(field_of(alloc, name, data_type)?)?;
-        }
-        let lists = match asked.pages {
-            Some(pages) => {
-                let mut lists = Vec::new(alloc);
-                for own in pages {
-                    lists.push(vec![in alloc; pages_of(alloc, own)?]?)?;
-                }
-                Some(lists)
-            }
-            None => None,
-        };
-        let columns = read_columns_many(
-            alloc,
-            &mut source,
-            group,
-            fields,
-            asked.chunk_size,
-            asked.limit,
-            lists,
-        )?;
-        for arrays in columns {
-            for array in arrays {
-                push_numbers(alloc, &mut numbers, &array?)?;
-                numbers.push(-9)?;
-            }
+    for group in groups {
+        for arrays in columns_of(alloc, source, group, asked)? {
+            push_arrays(alloc, &mut numbers, arrays)?;
         }
     }
     Ok(numbers)
+}
+
+fn numbers_in(alloc: Global, asked: Asked<'_>) -> Result<Vec<i128>, Error> {
+    let (mut source, metadata) = opened(alloc, asked.file)?;
+    numbers_of_groups(alloc, &mut source, metadata.row_groups.as_slice(), asked)
 }
 
 /// Fails at the first row that gives other numbers.

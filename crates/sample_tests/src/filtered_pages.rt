@@ -1,7 +1,7 @@
 //! What the column indexes of a sample file of 2000 rows tell of its fields, and the pages that a closure chooses by it.
 use crate::page_maps::{are_selected, field, number_of_pages};
 use crate::page_statistics::{has_cells, has_counts};
-use columns_core::{Boxed, Cell, DataType, Error, Field, IntegerType, Name, Seq};
+use columns_core::{Boxed, Cell, DataType, Error, Field, IntegerType, Seq};
 use parquet_base::Interval;
 use parquet_indexes::{FieldPageStatistics, read_columns_indexes, read_filtered_pages};
 use parquet_meta::{MemorySource, RowGroupMetaData, read_metadata};

@@ -7,13 +7,17 @@ use parquet_statistics::{
 use std::alloc::Global;
 use std::test::*;
 
-pub(crate) fn item(alloc: Global, data_type: DataType) -> Result<Boxed<Field>, Error> {
-    let field = Field {
-        name: Name::new(String::from_str(alloc, "item")?),
+/// A field that may have nulls.
+pub(crate) fn named(alloc: Global, name: &str, data_type: DataType) -> Result<Field, Error> {
+    Ok(Field {
+        name: Name::new(String::from_str(alloc, name)?),
         data_type,
         is_nullable: true,
-    };
-    Ok(Boxed::new(alloc, field)?)
+    })
+}
+
+pub(crate) fn item(alloc: Global, data_type: DataType) -> Result<Boxed<Field>, Error> {
+    Ok(Boxed::new(alloc, named(alloc, "item", data_type)?)?)
 }
 
 pub(crate) fn list_of(alloc: Global, data_type: DataType) -> Result<DataType, Error> {

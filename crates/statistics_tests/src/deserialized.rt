@@ -1,6 +1,6 @@
 //! The statistics of fields in row groups, cell by cell, and what is refused.
-use crate::arrays::{item, keyed, list_of, write_cell};
-use columns_core::{Array, Cell, DataType, Error, Field, IntegerType, Name, Seq};
+use crate::arrays::{item, keyed, list_of, named, write_cell};
+use columns_core::{Array, Cell, DataType, Error, IntegerType, Name, Seq};
 use parquet_meta::{
     ColumnChunkMetaData, ColumnDescriptor, PhysicalType, PrimitiveType, Repetition,
     RowGroupMetaData, StatisticsBytes,
@@ -8,14 +8,6 @@ use parquet_meta::{
 use parquet_statistics::{Statistics, deserialize};
 use std::alloc::Global;
 use std::test::*;
-
-fn named(alloc: Global, name: &str, data_type: DataType) -> Result<Field, Error> {
-    Ok(Field {
-        name: Name::new(String::from_str(alloc, name)?),
-        data_type,
-        is_nullable: true,
-    })
-}
 
 fn bytes_of(alloc: Global, number: i32) -> Result<Option<Seq<u8>>, Error> {
     Ok(Some(Seq::new(Vec::from_slice(alloc, &number.to_le_bytes())?)))

@@ -1,6 +1,6 @@
 //! Times in the unit that is asked for, the types of counts, and the shapes that builders refuse.
-use crate::arrays::{is_misfit, list_of};
-use columns_core::{DataType, Error, Field, Name, Seq, TimeUnit};
+use crate::arrays::{is_misfit, list_of, named};
+use columns_core::{DataType, Error, Seq, TimeUnit};
 use parquet_meta::{ParquetTimeUnit, PrimitiveLogicalType};
 use parquet_statistics::{
     DynMutableDictionary, DynMutableListArray, DynMutableMapArray, DynMutableStructArray,
@@ -32,14 +32,6 @@ fn times_in_other_units(rt: HostRuntime) {
         Err(Error::Overflow)
     );
     assert_eq!(rt; timestamp(None, TimeUnit::Second, 7), Ok(7));
-}
-
-fn named(alloc: Global, name: &str, data_type: DataType) -> Result<Field, Error> {
-    Ok(Field {
-        name: Name::new(String::from_str(alloc, name)?),
-        data_type,
-        is_nullable: true,
-    })
 }
 
 /// A struct of a field `a` of a type, and of a field `b` of lists of another.

@@ -4,14 +4,14 @@ use Rattle.std.proofs.lemmas.Result.{err_from_is_err_and}
 use Rattle.columns_core.specs.DictionaryType.{key_type}
 use Rattle.page_decoding.specs.Queue.{IsChunkSize}
 use Rattle.flat_values.specs.Pairs.{conversion}
-use Rattle.flat_binary.specs.Paged.{is_null_type}
-use Rattle.column_arrays.specs.Begun.{BeginsColumn, column_left}
-use Rattle.column_arrays.proofs.PageOrder.{ordered_for}
+use Rattle.flat_binary.specs.NullType.{is_null_type}
+use Rattle.flat_binary.specs.Begun.{BeginsColumn, column_left}
+use Rattle.flat_binary.proofs.PageLists.{ordered_for, stored_as}
 use Rattle.parquet_page.specs.declared.page.FilteredPage.{FilteredPage}
 use Rattle.parquet_read.specs.ColumnPages.{column_pages}
 use Rattle.parquet_read.specs.Opening.{AreShaped, ChunkBytes, IsRefusal, chunk_supply, column_causes_of, location_causes, opened_supply, size_within, type_causes}
 use Rattle.parquet_read.specs.RowGroup.{iter_left}
-use Rattle.parquet_read.proofs.OpenLemmas.{arrays_begin, of_type, refusal_left, refusal_right, size_stays, supply_same}
+use Rattle.parquet_read.proofs.OpenLemmas.{arrays_begin, refusal_left, refusal_right, size_stays, supply_same}
 use Rattle.parquet_read.proofs.deserializer.open_chunk.Goals as goal
 
 abbrev shown : Option (Vec FilteredPage Global) → Option (List FilteredPage)
@@ -46,7 +46,7 @@ pub page_iter_to_arrays-requires : goal.page_iter_to_arrays-requires
 page_iter_to_arrays-requires c =
     let pages = column_pages c.in_ok-opened.opened in
     record {
-      typed = of_type c.args.column.now.descriptor.primitive_type pages c.in_ok-opened.ensures.typed;
+      typed = stored_as c.args.column.now.descriptor.primitive_type pages c.in_ok-opened.ensures.typed;
       ordered = ordered_for (key_type c.args.data_type) pages c.in_ok-opened.ensures.ordered;
     }
 

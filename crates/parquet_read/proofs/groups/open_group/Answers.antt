@@ -2,7 +2,7 @@ use Rattle.std.proofs.Common.{◌∙◌, Vec, Global, List, length, map, arith}
 use Rattle.std.proofs.lemmas.Bool.{and_parts}
 use Rattle.std.proofs.lemmas.List.{length-map}
 use Rattle.std.proofs.lemmas.Result.{err_from_is_err_and}
-use Rattle.column_arrays.specs.declared.array_iter.ArrayIter.{ArrayIter}
+use Rattle.flat_binary.specs.declared.array_iter.ArrayIter.{ArrayIter}
 use Rattle.flat_values.specs.ColumnLeft.{ColumnLeft}
 use Rattle.parquet_read.specs.Asked.{are_shaped_pages, asked_fields, fields_left, group_reading, have_one_list, is_chunk_size, is_legal_reading, is_readable, lists_of}
 use Rattle.parquet_read.specs.RowGroup.{group_left, iter_left}

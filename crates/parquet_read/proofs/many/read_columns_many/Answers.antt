@@ -4,7 +4,7 @@ use Rattle.std.specs.List.{list_all}
 use Rattle.std.proofs.lemmas.Bool.{and_parts}
 use Rattle.std.proofs.lemmas.Result.{err_from_is_err_and}
 use Rattle.columns_core.specs.Causes.{IsOneOf, IsWantOfMemory, cause_of, is_empty}
-use Rattle.column_arrays.specs.declared.array_iter.ArrayIter.{ArrayIter}
+use Rattle.flat_binary.specs.declared.array_iter.ArrayIter.{ArrayIter}
 use Rattle.flat_values.specs.ColumnLeft.{ColumnLeft}
 use Rattle.parquet_meta.specs.Source.{Finds}
 use Rattle.parquet_read.specs.Asked.{AskedField, are_shaped_pages, asked_fields, fields_causes, fields_left, group_reading, have_one_list, is_chunk_size, is_legal_reading, is_shaped_field}

@@ -2,7 +2,7 @@ use Rattle.std.proofs.Common.{◌∙◌, Vec, Global, length, map, sym, ap, rule
 use Rattle.std.proofs.lemmas.Bool.{and_parts}
 use Rattle.std.proofs.lemmas.List.{length_push, map_push}
 use Rattle.std.proofs.lemmas.Result.{err_from_is_err_and}
-use Rattle.column_arrays.specs.declared.array_iter.ArrayIter.{ArrayIter}
+use Rattle.flat_binary.specs.declared.array_iter.ArrayIter.{ArrayIter}
 use Rattle.parquet_meta.proofs.EachLemmas.{each_ends, each_goes_on, each_refused}
 use Rattle.parquet_read.specs.Asked.{GroupReading, asked_causes, asked_left, asked_length, fields_causes}
 use Rattle.parquet_read.specs.RowGroup.{iter_left}

@@ -5,19 +5,19 @@ use Rattle.columns_core.specs.DictionaryType.{key_type}
 use Rattle.flat_values.specs.Pairs.{conversion}
 use Rattle.flat_binary.specs.Left.{Supply}
 use Rattle.page_decoding.specs.Queue.{IsChunkSize}
-use Rattle.column_arrays.specs.Begun.{BeginsColumn, column_left}
-use Rattle.column_arrays.proofs.PageOrder.{ordered_for}
+use Rattle.flat_binary.specs.Begun.{BeginsColumn, column_left}
+use Rattle.flat_binary.proofs.PageLists.{ordered_for, stored_as}
 use Rattle.parquet_read.specs.ColumnPages.{column_pages}
 use Rattle.parquet_read.specs.Opening.{chunk_supply, opened_supply, size_within}
 use Rattle.parquet_read.specs.RowGroup.{iter_left}
 use Rattle.parquet_read.proofs.BeginLemmas.{pages_begin, pages_memory}
 use Rattle.parquet_read.proofs.ColumnLemmas.{unless_true}
-use Rattle.parquet_read.proofs.OpenLemmas.{of_type, size_stays}
+use Rattle.parquet_read.proofs.OpenLemmas.{size_stays}
 use Rattle.parquet_read.proofs.parts.open_pages.Goals as goal
 
 pub page_iter_to_arrays-requires : goal.page_iter_to_arrays-requires
 page_iter_to_arrays-requires c = record {
-  typed = of_type c.args.column.now.descriptor.primitive_type (column_pages c.args.pages) c.requires.typed;
+  typed = stored_as c.args.column.now.descriptor.primitive_type (column_pages c.args.pages) c.requires.typed;
   ordered = ordered_for (key_type c.args.data_type) (column_pages c.args.pages) c.requires.ordered;
 }
 

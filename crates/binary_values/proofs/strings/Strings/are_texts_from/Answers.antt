@@ -4,7 +4,8 @@ use Rattle.std.specs.Str.{IsAscii}
 use Rattle.std.proofs.lemmas.List.{length-drop, take_all}
 use Rattle.columns_core.proofs.OffsetLemmas.{length-parts, some-offset}
 use Rattle.binary_values.proofs.AsciiLemmas.{ascii-further}
-use Rattle.binary_values.proofs.StringLemmas.{below-last, texts-apart, texts-ascii, texts-cut, texts-together}
+use Rattle.columns_core.proofs.PartLemmas.{below-last}
+use Rattle.binary_values.proofs.StringLemmas.{texts-apart, texts-ascii, texts-cut, texts-together}
 use Rattle.binary_values.proofs.strings.Strings.are_texts_from.Goals as goal
 
 pub start_of-start-requires : goal.start_of-start-requires

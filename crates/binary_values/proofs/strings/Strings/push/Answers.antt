@@ -4,7 +4,7 @@ use Rattle.std.proofs.lemmas.List.{length-append, take_all, take-append-le}
 use Rattle.columns_core.specs.Offsets.{AreOffsets, last, parts}
 use Rattle.columns_core.proofs.OffsetLemmas.{last-pushed, more_offsets}
 use Rattle.binary_values.proofs.AsciiLemmas.{none-behind}
-use Rattle.binary_values.proofs.StringLemmas.{parts-push, sum-parts}
+use Rattle.columns_core.proofs.PartLemmas.{parts-push, sum-parts}
 use Rattle.binary_values.proofs.strings.Strings.push.Goals as goal
 
 pub invariant_of-self-in-Ok : goal.invariant_of-self-in-Ok

@@ -1,6 +1,6 @@
 use Rattle.std.proofs.Common.{◌∙◌, ◌++◌, ◌+◌, [], ◌∷◌, ap, append-nil, sym}
 use Rattle.columns_core.specs.Offsets.{last, parts}
-use Rattle.binary_values.proofs.StringLemmas.{parts-push}
+use Rattle.columns_core.proofs.PartLemmas.{parts-push}
 use Rattle.binary_values.proofs.strings.Strings.push_end.Goals as goal
 
 pub returns-clause-ok : goal.returns-clause-ok

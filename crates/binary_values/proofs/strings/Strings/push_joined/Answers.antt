@@ -7,7 +7,7 @@ use Rattle.columns_core.proofs.OffsetLemmas.{more_ends}
 use Rattle.binary_values.specs.JoinedStrings.{cut_into}
 use Rattle.binary_values.proofs.AsciiLemmas.{ascii-more, none-behind}
 use Rattle.binary_values.proofs.EndLemmas.{parts-joined}
-use Rattle.binary_values.proofs.StringLemmas.{sum-parts}
+use Rattle.columns_core.proofs.PartLemmas.{sum-parts}
 use Rattle.binary_values.proofs.strings.Strings.push_joined.Goals as goal
 use Rattle.binary_values.proofs.strings.Strings.push_joined.Goals.{then-are_ascii, else-are_ascii}
 

@@ -1,6 +1,0 @@
-use Rattle.columns_core.specs.DictionaryType.{key_type}
-use Rattle.column_arrays.proofs.PageOrder.{ordered_for}
-use Rattle.column_array_tests.proofs.keys.keys_of.Goals as goal
-
-pub page_iter_to_arrays-requires-clause-ordered : goal.page_iter_to_arrays-requires-clause-ordered
-page_iter_to_arrays-requires-clause-ordered g c = ordered_for (key_type c.args.data_type) (g.I.Pages.to_come c.args.pages) c.requires.ordered

@@ -1,6 +1,0 @@
-mod BeginLemmas
-mod CellLemmas
-mod JoinedLemmas
-mod KeyLemmas
-pub mod PageOrder
-mod PageTypes
