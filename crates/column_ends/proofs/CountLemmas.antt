@@ -1,6 +1,6 @@
 -- The bytes of ends, counted one after another, and whether they fit.
 use Rattle.std.proofs.Common.{rules, ◌≡◌, ℕ, ◌<◌, ◌^◌, ◌-◌, Bool, true, false, List, [], ◌∷◌, ◌++◌, refl, sym, ◌∙◌, ap₂, arith}
-use Rattle.std.specs.Prelude.{◌↔◌, Option, Some, None, Contains, ◌&&◌, sum_by, nat_le}
+use Rattle.std.specs.Prelude.{◌↔◌, Option, Contains, ◌&&◌, sum_by, nat_le}
 use Rattle.std.proofs.lemmas.Grind.{common_steps}
 use Rattle.columns_core.specs.Causes.{Cause, Overflow, unless}
 use Rattle.columns_core.specs.declared.cell.Cell.{Cell}

@@ -1,5 +1,5 @@
 -- Ends are values of the type that they are read as.
-use Rattle.std.proofs.Common.{◌≡◌, ℕ, ◌+◌, ◌/◌, ℤ, Bool, true, false, List, [], ◌∷◌, map, refl, ◌∙◌, sym, ap, subst, arith}
+use Rattle.std.proofs.Common.{◌≡◌, ℕ, ◌/◌, ℤ, Bool, true, false, List, [], ◌∷◌, map, refl, ◌∙◌, sym, ap, subst, arith}
 use Rattle.std.specs.Prelude.{Option, Some, None, IfSome, option_map, if◌then◌else◌}
 use Rattle.std.specs.List.{AllByRecursion}
 use Rattle.std.proofs.lemmas.Option.{none-some}
@@ -12,7 +12,7 @@ use Rattle.columns_core.specs.declared.data_type.DataType.{DataType, out-DataTyp
 use Rattle.columns_core.specs.declared.data_type.DataType.TheOpen.{DataType-F}
 use Rattle.columns_core.specs.Types.{Layer, signed_range, unsigned_range, value_type, value_type_at}
 use Rattle.parquet_meta.specs.ColumnIndex.{column_index_in}
-use Rattle.parquet_meta.specs.Indexes.{index_at, index_in, raw_index, type_of}
+use Rattle.parquet_meta.specs.Indexes.{index_at, index_in, type_of}
 use Rattle.parquet_meta.specs.Places.{part_at}
 use Rattle.parquet_meta.specs.PageIndexes.{page_end, page_index, page_indexes, pages, typed_index}
 use Rattle.parquet_meta.specs.StoredEnds.{boolean_end, int32_end, int64_end, int96_end, bytes_end, fixed_end}
@@ -35,14 +35,14 @@ use Rattle.flat_values.specs.CellTypes.{is_cell_at, is_in}
 use Rattle.flat_values.specs.Conversion.{Conversion, Item, Value, NotInRange, NotText, Nulls, LowNanoseconds, convert, modulo_bits}
 use Rattle.flat_values.specs.Ends.{stored_end}
 use Rattle.flat_values.specs.Numbers.{words_of}
-use Rattle.flat_values.specs.Pairs.{from_physical, leaf_conversion, page_conversion, page_from_physical, page_from_int96, page_from_fixed}
+use Rattle.flat_values.specs.Pairs.{leaf_conversion, page_conversion, page_from_physical, page_from_int96, page_from_fixed}
 use Rattle.flat_values.specs.Sound.{is_stored_as}
 use Rattle.flat_values.specs.Units.{nanoseconds_of, per_second}
 use Rattle.flat_values.proofs.ConversionLemmas.{Gives, IsItemAt, Within, from_boolean-gives, from_int32-gives, from_int64-gives, from_byte_array-gives, from_fixed-gives, from_physical-gives, has_unit, low_bits_in, since, to_item}
 use Rattle.flat_values.proofs.EndLemmas.{ends_are_stored}
 use Rattle.flat_values.proofs.PageLemmas.{mapped}
 use Rattle.flat_values.proofs.PairLemmas.{leaf_here, leaf_out, page_here, page_out}
-use Rattle.column_ends.specs.Converted.{as_cell, cell_ends, cell_page, end_cell, group_cells, index_cells, index_rule, statistics_rule, told_cells}
+use Rattle.column_ends.specs.Converted.{as_cell, cell_ends, cell_page, end_cell, index_rule, statistics_rule, told_cells}
 use Rattle.column_ends.specs.Laws.{AreEndsOf, GroupEndsHaveType, IsEndOf, PageEndsHaveType}
 use Rattle.column_ends.specs.Told.{counts_alone, stored_by, stored_ends, stored_page, stored_pages, told_ends}
 use Rattle.column_ends.proofs.GroupLemmas.{ends_told}
@@ -223,7 +223,7 @@ page_fixed-gives : (size : ℕ) (layer : Layer) (value : Stored) → is_stored_a
 page_fixed-gives size (DataType-F.Interval unit) value e = tt
 page_fixed-gives size layer value e = from_fixed-gives size layer value e
 
-page_physical-gives : (type : PhysicalType) (logical : Option PrimitiveLogicalType) (layer : Layer) (value : Stored) → is_stored_as type value ≡ true → Gives layer value (page_from_physical type logical layer)
+pub page_physical-gives : (type : PhysicalType) (logical : Option PrimitiveLogicalType) (layer : Layer) (value : Stored) → is_stored_as type value ≡ true → Gives layer value (page_from_physical type logical layer)
 page_physical-gives physical.Boolean logical layer value e = from_boolean-gives layer value e
 page_physical-gives physical.Int32 logical layer value e = from_int32-gives layer value e
 page_physical-gives physical.Int64 logical layer value e = from_int64-gives logical layer value e

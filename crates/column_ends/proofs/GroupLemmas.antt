@@ -1,8 +1,8 @@
 -- What the statistics of a column tell by a rule for its values.
-use Rattle.std.proofs.Common.{◌≡◌, List, [], ◌∷◌, refl, ap, ◌∙◌}
+use Rattle.std.proofs.Common.{◌≡◌, [], ◌∷◌, refl, ap, ◌∙◌}
 use Rattle.std.specs.Prelude.{Option, Some, None, option_map, Result, Ok, Err, IfOk}
 use Rattle.std.specs.Option.{option_map_or}
-use Rattle.columns_core.specs.Causes.{Cause, ExternalFormat}
+use Rattle.columns_core.specs.Causes.{ExternalFormat}
 use Rattle.columns_core.specs.declared.cell.Cell.{Cell}
 use Rattle.columns_core.specs.declared.error.Error.{Error}
 use Rattle.parquet_meta.specs.Indexes.{type_of}

@@ -1,6 +1,6 @@
 -- All arrays of a column whose iterator has begun.
 use Rattle.std.proofs.Common.{◌≡◌, ℕ, Bool, true, false, List, Option, None, Some, arith, inl, refl, subst, sym}
-use Rattle.std.specs.Prelude.{IfSome, Result, Ok, Err, if◌then◌else◌}
+use Rattle.std.specs.Prelude.{IfSome, Ok, Err, if◌then◌else◌}
 use Rattle.columns_core.specs.declared.array.Array.{Array}
 use Rattle.columns_core.specs.declared.data_type.DataType.{DataType}
 use Rattle.columns_core.specs.declared.error.Error.{Error}
@@ -8,7 +8,6 @@ use Rattle.parquet_meta.specs.declared.metadata.PhysicalType.{PhysicalType}
 use Rattle.page_decoding.specs.Queue.{IsChunkSize}
 use Rattle.flat_values.specs.ColumnLeft.{ColumnLeft}
 use Rattle.flat_values.specs.Conversion.{Conversion}
-use Rattle.flat_values.specs.NullChunks.{NullsLeft, nulls_left}
 use Rattle.flat_binary.specs.Begun.{BeginsColumn, IsRefusedPair, column_left}
 use Rattle.flat_binary.specs.Collected.{Collects}
 use Rattle.flat_binary.specs.Left.{Supply, converted_left}

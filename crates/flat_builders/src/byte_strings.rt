@@ -9,9 +9,8 @@ ghost use Rattle.flat_builders.specs.Built.{byte_layer};
 ghost use Rattle.flat_builders.specs.Kept.{IsRefusedCell, bytes_fit};
 ghost use Rattle.flat_builders.specs.Strings.{cells_with, string_cell};
 
-use crate::joined::JoinedStrings;
 use crate::marked::bits_of;
-use columns_core::{BinaryArray, Cell, DataType, Error, Offset, Part, Utf8Array};
+use columns_core::{BinaryArray, Cell, DataType, Error, JoinedStrings, Offset, Part, Utf8Array};
 use std::alloc::Global;
 use std::marker::Model;
 

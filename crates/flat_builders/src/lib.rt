@@ -6,7 +6,6 @@ mod byte_strings;
 mod fixed_bytes;
 mod flat_mutable;
 mod from_cell;
-mod joined;
 mod marked;
 
 pub use flat_mutable::FlatMutable;

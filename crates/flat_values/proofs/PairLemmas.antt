@@ -4,7 +4,7 @@ use Rattle.std.specs.Prelude.{Option, Some}
 use denote.Hole.Carrier
 use Rattle.columns_core.specs.declared.data_type.DataType.TheBlock
 use Rattle.columns_core.specs.Types.{Layer}
-use Rattle.columns_core.specs.declared.data_type.DataType.{DataType, out-DataType, fold-DataType, fold_out-DataType, map-DataType}
+use Rattle.columns_core.specs.declared.data_type.DataType.{DataType, out-DataType, fold_out-DataType, map-DataType}
 use Rattle.columns_core.specs.declared.data_type.DataType as type
 use Rattle.columns_core.specs.declared.data_type.IntegerType.{IntegerType}
 use Rattle.columns_core.specs.declared.data_type.DataType.TheOpen.{DataType-F, Field-F}

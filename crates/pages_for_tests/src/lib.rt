@@ -1,29 +1,22 @@
 //! Chunks of pages, and columns that they are chunks of, for tests to be run over.
 #![tactic(auto)]
 
-ghost use Rattle.std.specs.Prelude.{◌≡◌, true, IfOk};
+ghost use Rattle.std.specs.Prelude.{◌≡◌, ◌++◌, ◌+◌, length, true, IfErr, IfOk, OnOk};
+ghost use Rattle.columns_core.specs.Causes.{IsWantOfMemory};
+ghost use Rattle.pages_for_tests.specs.Pages as spec;
 ghost use Rattle.parquet_page.specs.Lending.{DataPagesAre, has_data_behind};
-ghost use Rattle.parquet_page.specs.Reader.{reader_pages};
+ghost use Rattle.parquet_page.specs.Lent.{chunk_lent};
+ghost use Rattle.parquet_page.specs.Reader.{reader_lent, reader_pages};
+
+mod page;
 
 use columns_core::{Error, Seq};
+pub use page::Page;
 use parquet_meta::{
     ColumnChunkMetaData, ColumnDescriptor, PhysicalType, PrimitiveType, Repetition,
 };
 use parquet_page::PageReader;
 use std::alloc::{AllocError, Global};
-
-/// A page of a chunk. It has less than 64 values and a body of less than 64 bytes.
-#[derive(Clone, Copy)]
-pub enum Page<'a> {
-    /// Of the first form: how many values, the number of their encoding, the levels, and the values. Its header has 17 bytes.
-    First(u8, u8, &'a [u8], &'a [u8]),
-    /// Of the second form: how many values, the levels, and the plain values.
-    Second(u8, &'a [u8], &'a [u8]),
-    /// A dictionary: how many entries, and these. Its header has 13 bytes.
-    Entries(u8, &'a [u8]),
-    /// Bytes as they are.
-    Bytes(&'a [u8]),
-}
 
 /// A chunk: whether its values are optional, how many there are, and its pages.
 pub type Stored<'a> = (Repetition, u64, &'a [Page<'a>]);
@@ -34,6 +27,10 @@ pub fn pages_of(
     physical: PhysicalType,
     stored: Stored<'_>,
 ) -> Result<PageReader, Error>
+    ensures lends { let type = spec.type_of_column physical stored.entry.0 in
+        IfOk result (λ reader. reader_lent reader
+        ≡ chunk_lent type stored.entry.1 (spec.bytes_of_pages stored.entry.2.now)) }
+    ensures memory { IfErr result IsWantOfMemory }
     ensures typed { IfOk result (λ reader.
         DataPagesAre (λ page. page.type.physical_type ≡ physical) (reader_pages reader)) }
     ensures ordered { IfOk result (λ reader. has_data_behind (reader_pages reader) ≡ true) }
@@ -44,7 +41,9 @@ pub fn pages_of(
 }
 
 /// These pages, one behind the other.
-pub fn chunk_of(alloc: Global, pages: &[Page<'_>]) -> Result<Vec<u8>, AllocError> {
+pub fn chunk_of(alloc: Global, pages: &[Page<'_>]) -> Result<Vec<u8>, AllocError>
+    ensures { IfOk result (λ chunk. chunk.items ≡ spec.bytes_of_pages pages.now) }
+{
     let mut chunk = Vec::new(alloc);
     for page in pages {
         push_page(&mut chunk, *page)?;
@@ -52,7 +51,9 @@ pub fn chunk_of(alloc: Global, pages: &[Page<'_>]) -> Result<Vec<u8>, AllocError
     Ok(chunk)
 }
 
-fn push_page(chunk: &mut Vec<u8>, page: Page<'_>) -> Result<(), AllocError> {
+fn push_page(chunk: &mut Vec<u8>, page: Page<'_>) -> Result<(), AllocError>
+    ensures { OnOk result (chunk.new.items ≡ chunk.old.items ++ spec.bytes_of_page page.entry) }
+{
     match page {
         Page::First(count, encoding, levels, values) => {
             push_head(chunk, 0x00, size_of(levels, values), 0x2C)?;
@@ -77,22 +78,30 @@ fn push_page(chunk: &mut Vec<u8>, page: Page<'_>) -> Result<(), AllocError> {
 }
 
 /// The kind of a page, its size twice, and the head of the field of its kind.
-fn push_head(chunk: &mut Vec<u8>, kind: u8, size: u8, field: u8) -> Result<(), AllocError> {
+fn push_head(chunk: &mut Vec<u8>, kind: u8, size: u8, field: u8) -> Result<(), AllocError>
+    ensures { OnOk result (chunk.new.items ≡ chunk.old.items ++ spec.front kind size field) }
+{
     chunk.extend_from_slice(&[0x15, kind, 0x15, size, 0x15, size, field])
 }
 
-fn push_body(chunk: &mut Vec<u8>, levels: &[u8], values: &[u8]) -> Result<(), AllocError> {
+fn push_body(chunk: &mut Vec<u8>, levels: &[u8], values: &[u8]) -> Result<(), AllocError>
+    ensures { OnOk result (chunk.new.items ≡ chunk.old.items ++ (levels.now ++ values.now)) }
+{
     chunk.extend_from_slice(levels)?;
     chunk.extend_from_slice(values)
 }
 
 /// A small number as it is stored.
-fn twice(number: u8) -> u8 {
+fn twice(number: u8) -> u8
+    ensures { result ≡ spec.stored number }
+{
     number.wrapping_mul(2)
 }
 
 /// How many bytes these are, as it is stored.
-fn size_of(levels: &[u8], values: &[u8]) -> u8 {
+fn size_of(levels: &[u8], values: &[u8]) -> u8
+    ensures { result ≡ spec.size (length levels.now + length values.now) }
+{
     let size = levels.len().saturating_add(values.len());
     twice((size % 64) as u8)
 }
@@ -104,7 +113,7 @@ pub fn column(
     repetition: Repetition,
     num_values: u64,
 ) -> ColumnChunkMetaData
-    ensures { result.descriptor.primitive_type.physical_type ≡ physical_type }
+    ensures { result ≡ spec.column_of_values physical_type repetition num_values }
 {
     ColumnChunkMetaData {
         descriptor: ColumnDescriptor {

@@ -21,7 +21,7 @@ use Rattle.parquet_indexes.specs.PageMaps.{InFields, field_maps, in_fields, loca
 use Rattle.parquet_indexes.specs.declared.page_statistics.FieldPageStatistics.{FieldPageStatistics}
 use Rattle.parquet_indexes.proofs.ErrorLemmas.{first_of}
 use Rattle.parquet_indexes.proofs.MadeLemmas.{some_next}
-use Rattle.parquet_indexes.proofs.TellingLemmas.{fails_more}
+use Rattle.parquet_meta.proofs.FailureLemmas.{fails_more}
 
 module _ (group : RowGroupMetaData) (fields : List Field) where
   abbrev Found : List ℕ → Option (InFields PageLocation)

@@ -19,7 +19,7 @@ use Rattle.parquet_indexes.specs.FieldTypes.{arranged}
 use Rattle.parquet_indexes.specs.declared.page_statistics.ColumnPageStatistics.{ColumnPageStatistics}
 use Rattle.parquet_indexes.specs.declared.page_statistics.FieldPageStatistics.{FieldPageStatistics}
 use Rattle.parquet_indexes.proofs.ErrorLemmas.{first_of}
-use Rattle.parquet_indexes.proofs.TellingLemmas.{fails_more}
+use Rattle.parquet_meta.proofs.FailureLemmas.{fails_more}
 use Rattle.parquet_indexes.proofs.TypedLemmas.{sum_beside}
 
 module _ (chunks : List ColumnChunkMetaData) (field : Field) where

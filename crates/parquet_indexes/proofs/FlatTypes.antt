@@ -1,5 +1,5 @@
 -- Types that the ends of pages are read as are flat, and ends are values of them.
-use Rattle.std.proofs.Common.{◌≡◌, refl, sym, ◌∙◌, ap, subst, ℕ, ◌/◌, ℤ, Bool, true, false, List, [], ◌∷◌, ◌++◌, map, arith}
+use Rattle.std.proofs.Common.{◌≡◌, refl, sym, ◌∙◌, ap, subst, ℕ, Bool, true, false, List, [], ◌∷◌, ◌++◌, map, arith}
 use Rattle.std.specs.Prelude.{Option, Some, None, IfSome, option_map, flat_map, nat_lt, is_some, ◌==◌, ◌&&◌, if◌then◌else◌}
 use Rattle.std.specs.List.{AllByRecursion}
 use Rattle.std.specs.Option.{option_map_or}
@@ -8,8 +8,8 @@ use Rattle.std.proofs.lemmas.Option.{none-some}
 use Rattle.parquet_base.specs.Reading.{given}
 use Rattle.columns_core.specs.Causes.{Cause, ExternalFormat, NotYetImplemented, unless}
 use Rattle.columns_core.specs.DictionaryType.{entry_type, entry_type_at}
-use Rattle.columns_core.specs.Types.{Layer, signed_range, unsigned_range, value_type, value_type_at}
-use Rattle.columns_core.specs.declared.cell.Cell.{Cell, Int}
+use Rattle.columns_core.specs.Types.{Layer, value_type, value_type_at}
+use Rattle.columns_core.specs.declared.cell.Cell.{Cell}
 use Rattle.columns_core.specs.declared.data_type.DataType.{DataType, out-DataType}
 use Rattle.columns_core.specs.declared.data_type.DataType.TheOpen.{DataType-F}
 use Rattle.parquet_meta.specs.TypedStatistics.{known_count}
@@ -20,18 +20,18 @@ use Rattle.parquet_meta.specs.declared.metadata.PhysicalType.TheVariants as phys
 use Rattle.parquet_meta.specs.declared.metadata.PrimitiveLogicalType.{PrimitiveLogicalType}
 use Rattle.parquet_meta.specs.declared.metadata.PrimitiveType.{PrimitiveType}
 use Rattle.parquet_encoding.proofs.StepLemmas.{some_is}
-use Rattle.parquet_page.specs.Stored.{Stored, Number, Truth, Words, Octets}
-use Rattle.flat_values.specs.CellTypes.{is_cell_at, is_in}
-use Rattle.flat_values.specs.Conversion.{Conversion, Item, Value, NotInRange, NotText, Keep, LowNanoseconds, convert, modulo_bits}
+use Rattle.parquet_page.specs.Stored.{Stored}
+use Rattle.flat_values.specs.CellTypes.{is_cell_at}
+use Rattle.flat_values.specs.Conversion.{Conversion, Item, Value, NotInRange, NotText, Keep, convert}
 use Rattle.flat_values.specs.Pairs.{from_boolean, from_int32, from_int64, from_byte_array, page_from_fixed, page_from_int96, page_from_physical}
 use Rattle.flat_values.specs.Sound.{is_stored_as}
-use Rattle.flat_values.specs.Units.{nanoseconds_of, per_second}
-use Rattle.flat_values.proofs.ConversionLemmas.{Gives, IsItemAt, Within, from_boolean-gives, from_int32-gives, from_int64-gives, from_byte_array-gives, from_fixed-gives, has_unit, low_bits_in, since, to_item}
+use Rattle.flat_values.proofs.ConversionLemmas.{Gives, IsItemAt}
 use Rattle.flat_values.proofs.PairLemmas.{page_here, page_out}
 use Rattle.flat_builders.specs.Flat.{Flat, Sizeless, flatness, flatness_at}
 use Rattle.column_ends.specs.Converted.{as_cell, causes_of_index, causes_of_page, cell_page, end_causes, end_cell, index_cells, index_rule, page_array_causes}
 use Rattle.column_ends.specs.Laws.{AreEndsOf, IsEndOf}
 use Rattle.column_ends.specs.Told.{stored_pages}
+use Rattle.column_ends.proofs.EndTypes.{page_physical-gives}
 
 -- ---- types that pages are read as
 
@@ -96,41 +96,6 @@ own_values data_type _ flat = refl
 pub own_value_type : (data_type : DataType) → flatness data_type ≡ Flat → value_type data_type ≡ data_type
 own_value_type data_type flat = own_values data_type (out-DataType data_type) flat
 
--- ---- what is read is of the type
-
-low_if : (test : Bool) (n : ℤ) → Within (unsigned_range 64) (if test then Value (Int (modulo_bits 64 n)) else NotInRange)
-low_if true n = low_bits_in 64 n
-low_if false n = tt
-
-low_nanoseconds_of : (value : Stored) → Within (unsigned_range 64) (convert LowNanoseconds value)
-low_nanoseconds_of (Words low high day) = low_if (is_in (signed_range 64) (nanoseconds_of low high day)) (nanoseconds_of low high day)
-low_nanoseconds_of (Number n) = tt
-low_nanoseconds_of (Truth b) = tt
-low_nanoseconds_of (Octets bytes) = tt
-
-from_int96-gives : (layer : Layer) (value : Stored) → Gives layer value (page_from_int96 layer)
-from_int96-gives DataType-F.UInt64 value = to_item DataType-F.UInt64 (unsigned_range 64) refl _ (low_nanoseconds_of value)
-from_int96-gives DataType-F.Int64 value = to_item DataType-F.Int64 (signed_range 64) refl _ (since 1 tt value)
-from_int96-gives DataType-F.Date64 value = to_item DataType-F.Date64 (signed_range 64) refl _ (since 1 tt value)
-from_int96-gives (DataType-F.Time64 unit) value = to_item (DataType-F.Time64 unit) (signed_range 64) refl _ (since 1 tt value)
-from_int96-gives (DataType-F.Duration unit) value = to_item (DataType-F.Duration unit) (signed_range 64) refl _ (since 1 tt value)
-from_int96-gives (DataType-F.Timestamp unit zone) value = to_item (DataType-F.Timestamp unit zone) (signed_range 64) refl _ (since (1000000000 / per_second unit) (has_unit unit) value)
-from_int96-gives _ value = tt
-
-from_fixed_page-gives : (size : ℕ) (layer : Layer) (value : Stored) → is_stored_as (physical.FixedLenByteArray size) value ≡ true → Gives layer value (page_from_fixed size layer)
-from_fixed_page-gives size (DataType-F.Interval unit) value e = tt
-from_fixed_page-gives size layer value e = from_fixed-gives size layer value e
-
-read-gives : (type : PhysicalType) (logical : Option PrimitiveLogicalType) (layer : Layer) (value : Stored) → is_stored_as type value ≡ true → Gives layer value (page_from_physical type logical layer)
-read-gives physical.Boolean logical layer value e = from_boolean-gives layer value e
-read-gives physical.Int32 logical layer value e = from_int32-gives layer value e
-read-gives physical.Int64 logical layer value e = from_int64-gives logical layer value e
-read-gives physical.Int96 logical layer value e = from_int96-gives layer value
-read-gives physical.Float logical layer value e = tt
-read-gives physical.Double logical layer value e = tt
-read-gives physical.ByteArray logical layer value e = from_byte_array-gives layer value e
-read-gives (physical.FixedLenByteArray size) logical layer value e = from_fixed_page-gives size layer value e
-
 -- ---- ends without a cause
 
 pub both_empty : (first rest : List Cause) → first ++ rest ≡ [] → (first ≡ []) × (rest ≡ [])
@@ -161,7 +126,7 @@ module _ (type : PhysicalType) (logical : Option PrimitiveLogicalType) (data_typ
       let layer = out-DataType data_type in
       let stored = stored_if (is_stored_as type value) _ none in
       of_own_type data_type (as_cell (convert rule value)) (own_value_type data_type is_flat)
-      (item_end layer (convert rule value) (subst (Gives layer value) found (read-gives type logical layer value stored)))
+      (item_end layer (convert rule value) (subst (Gives layer value) found (page_physical-gives type logical layer value stored)))
 
   read_page : (page : PageIndex Stored) → causes_of_page type rule page ≡ [] → AreEndsOf data_type (cell_page rule page)
   read_page page none =

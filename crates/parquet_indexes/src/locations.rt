@@ -6,8 +6,7 @@ ghost use Rattle.parquet_meta.specs.Source.{Finds};
 ghost use Rattle.parquet_indexes.specs.PageMaps as spec;
 
 use columns_core::{Error, Field, Part};
-use parquet_meta::{ColumnChunkMetaData, PageLocation, Source, read_pages_locations};
-use parquet_statistics::begins_with;
+use parquet_meta::{ColumnChunkMetaData, PageLocation, Source, begins_with, read_pages_locations};
 use std::alloc::Global;
 use std::slice;
 
@@ -49,7 +48,7 @@ fn locations_of_field<S: Source>(
 {
     let mut lists = Vec::new(alloc);
     for column in columns {
-        if !begins_with(column, &field.name) {
+        if !begins_with(column, field.name.as_str()) {
             continue;
         }
         lists.push(locations_of_column(alloc, source, column)?)?;

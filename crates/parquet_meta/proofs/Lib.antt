@@ -7,6 +7,7 @@ pub mod TreeLemmas
 pub mod FooterLemmas
 pub mod FileRows
 pub mod EndLemmas
+pub mod FailureLemmas
 pub mod StructFronts
 pub mod FrontLemmas
 pub mod PageHeaderLemmas

@@ -2,7 +2,8 @@
 use Rattle.std.proofs.Common.{◌≡◌, ℕ, ◌+◌, ◌<◌, ◌≤◌, ℤ, pos, Bool, true, false, List, [], ◌∷◌, ◌++◌, Option, Some, None, refl, sym, ap, ◌∙◌, arith, length, drop, get_or, option_map, nat_eq, ◌&&◌}
 use Rattle.std.proofs.lemmas.Bool.{and_parts, eqb-true}
 use Rattle.std.proofs.lemmas.List.{append-nil, drop_all, drop_more}
-use Rattle.std.specs.Prelude.{IfSome}
+use Rattle.std.proofs.lemmas.Option.{get_or_from_slice_get}
+use Rattle.std.specs.Prelude.{IfSome, slice_get}
 use Rattle.std.specs.Option.{option_map_or}
 use Rattle.parquet_meta.specs.ColumnIndex.{has_one_length}
 use Rattle.parquet_meta.specs.PageIndexes.{count_at, page_index, pages, page_indexes}
@@ -102,16 +103,19 @@ ends {A = A} end index page items typing le =
 
 -- a page that the lists have an entry for
 pub starts : (index : ColumnIndex) (page : ℕ) (low high : List ℕ) → has_one_length index ≡ true → page < length index.null_pages →
-    low ≡ get_or index.min_values page low → high ≡ get_or index.max_values page high → StartsWith index page (get_or index.null_pages page false) low high
+    slice_get index.min_values page ≡ Some low → slice_get index.max_values page ≡ Some high → StartsWith index page (get_or index.null_pages page false) low high
 starts index page low high even lt l h =
     let long = has_lengths index even in
     record {
       null_pages = drop_more index.null_pages page false lt;
-      min_values = item_and_others index.min_values page low (omega (arith, lt, long.min_values)) l;
-      max_values = item_and_others index.max_values page high (omega (arith, lt, long.max_values)) h;
+      min_values = there index.min_values low (omega (arith, lt, long.min_values)) l;
+      max_values = there index.max_values high (omega (arith, lt, long.max_values)) h;
       counted = counted index.null_counts long.null_counts;
     }
   where
+    there : (ends : List (List ℕ)) (end : List ℕ) → page < length ends → slice_get ends page ≡ Some end → drop page ends ≡ end ∷ drop (page + 1) ends
+    there ends end within is = item_and_others ends page end within (sym (get_or_from_slice_get ends page end end is))
+
     counted : (o : Option (List ℤ)) → IfSome o (λ counts. length counts ≡ length index.null_pages) → IfSome o (λ counts. page < length counts)
     counted None e = tt
     counted (Some ns) e = omega (arith, e, lt)

@@ -4,13 +4,13 @@ ghost use Rattle.std.specs.Prelude.{◌≡◌, true, IfOk};
 ghost use Rattle.parquet_thrift.specs.Values.{in_list, in_struct};
 ghost use Rattle.parquet_meta.specs.ColumnIndex.{column_index_in, has_one_length};
 ghost use Rattle.parquet_meta.specs.Fault.{MakesOr, ReadsOr};
-ghost use Rattle.parquet_meta.specs.Meaning.{by_rule, elements_by_rule, list_of, truth_element};
+ghost use Rattle.parquet_meta.specs.Meaning.{by_rule, byte_string, elements_by_rule, list_of, truth_element};
 
-use crate::decode::{Make, decode_list_field, pass_over};
+use crate::decode::{MOST_RESERVED, Make, decode_bytes, decode_list_field, pass_over};
 use crate::fault::Fault;
 use crate::front::decode_front;
 use crate::structure::Structure;
-use columns_core::Seq;
+use columns_core::{JoinedStrings, Seq};
 use parquet_thrift::{Compact, FALSE, FieldHeader, LIST, TRUE};
 use std::alloc::Global;
 
@@ -18,16 +18,16 @@ use std::alloc::Global;
 #[derive(Drop)]
 pub(crate) struct ColumnIndex {
     pub null_pages: Seq<bool>,
-    pub min_values: Seq<Seq<u8>>,
-    pub max_values: Seq<Seq<u8>>,
+    pub min_values: JoinedStrings<i64>,
+    pub max_values: JoinedStrings<i64>,
     pub null_counts: Option<Seq<i64>>,
 }
 
 #[derive(Drop)]
 pub(crate) struct ColumnIndexFields {
     pub null_pages: Option<Seq<bool>>,
-    pub min_values: Option<Seq<Seq<u8>>>,
-    pub max_values: Option<Seq<Seq<u8>>>,
+    pub min_values: Option<JoinedStrings<i64>>,
+    pub max_values: Option<JoinedStrings<i64>>,
     pub null_counts: Option<Seq<i64>>,
 }
 
@@ -36,8 +36,8 @@ fn has_one_length(index: &ColumnIndex) -> bool
     ensures { result ≡ has_one_length index.now }
 {
     let pages = index.null_pages.as_slice().len();
-    index.min_values.as_slice().len() == pages
-        && index.max_values.as_slice().len() == pages
+    index.min_values.len() == pages
+        && index.max_values.len() == pages
         && match &index.null_counts {
             Some(counts) => counts.as_slice().len() == pages,
             None => true,
@@ -58,8 +58,8 @@ impl Structure<Global> for ColumnIndexFields {
     ) -> Result<(), Fault> {
         match header.id {
             1 => self.null_pages = Some(decode_truths(alloc, header.kind, compact)?),
-            2 => self.min_values = Some(decode_list_field(alloc, header.kind, compact)?),
-            3 => self.max_values = Some(decode_list_field(alloc, header.kind, compact)?),
+            2 => self.min_values = Some(decode_strings(alloc, header.kind, compact)?),
+            3 => self.max_values = Some(decode_strings(alloc, header.kind, compact)?),
             5 => self.null_counts = Some(decode_list_field(alloc, header.kind, compact)?),
             _ => pass_over(alloc, header.kind, compact)?,
         }
@@ -135,6 +135,46 @@ fn decode_truth(kind: u8, compact: &mut Compact<'_>) -> Result<bool, Fault>
         return Err(Fault::Unspelled);
     }
     Ok(compact.read_bool()?)
+}
+
+/// A list of byte strings.
+#[tactic(auto, using(crate::proofs::Rules::list_rules))]
+fn decode_strings(
+    alloc: Global,
+    kind: u8,
+    compact: &mut Compact<'_>,
+) -> Result<JoinedStrings<i64>, Fault>
+    ensures { ReadsOr true (λ s. s)
+        (by_rule in_struct (list_of byte_string) kind) compact.old result compact.new }
+{
+    if kind != LIST {
+        return Err(Fault::Unspelled);
+    }
+    let header = compact.read_list()?;
+    decode_string_elements(alloc, header.count, header.kind, compact)
+}
+
+/// So many byte strings of a list.
+fn decode_string_elements(
+    alloc: Global,
+    count: usize,
+    kind: u8,
+    compact: &mut Compact<'_>,
+) -> Result<JoinedStrings<i64>, Fault>
+    ensures { ReadsOr true (λ s. s)
+        (elements_by_rule byte_string kind count) compact.old result compact.new }
+{
+    let Ok(mut strings) = JoinedStrings::with_capacity(alloc, count.min(MOST_RESERVED)) else {
+        return Err(Fault::OutOfMemory);
+    };
+    'elements: for _ in 0..count {
+        let string = decode_bytes(kind, compact)?;
+        // (there are fewer bytes than places of 64 bits, so memory alone can be wanting)
+        let Ok(()) = strings.push(string) else {
+            return Err(Fault::OutOfMemory);
+        };
+    }
+    Ok(strings)
 }
 
 /// The column index that the bytes begin with.

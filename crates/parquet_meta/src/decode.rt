@@ -48,15 +48,23 @@ impl<M: Memory> Decode<M> for i64 {
     }
 }
 
+/// A byte string, not copied.
+#[tactic(auto, using(crate::proofs::Rules::byte_string_rules))]
+pub(crate) fn decode_bytes<'a>(kind: u8, compact: &mut Compact<'a>) -> Result<&'a [u8], Fault>
+    ensures { (context : Context) → ReadsOr true
+        (λ bytes. bytes.now) (by_rule context byte_string kind) compact.old result compact.new }
+{
+    if kind != BINARY {
+        return Err(Fault::Unspelled);
+    }
+    Ok(compact.read_binary()?)
+}
+
 impl Decode<Global> for Seq<u8> {
     ghost rule = { byte_string };
 
-    #[tactic(auto, using(crate::proofs::Rules::byte_string_rules))]
     fn decode(alloc: Global, kind: u8, compact: &mut Compact<'_>) -> Result<Seq<u8>, Fault> {
-        if kind != BINARY {
-            return Err(Fault::Unspelled);
-        }
-        let bytes = compact.read_binary()?;
+        let bytes = decode_bytes(kind, compact)?;
         Ok(Seq::new(Vec::from_slice(alloc, bytes)?))
     }
 }

@@ -41,8 +41,24 @@ pub fn read_range<S: Source>(alloc: Global, source: &mut S, range: Place) -> Res
         (S.told source.old) (S.faults source.old) (S.faults source.new) result }
     ensures taken { S.taken source.new ≤ S.taken source.old + range.length }
 {
-    match read_exact_at(alloc, source, range) {
-        Err(Error::ExternalFormat(_)) => Err(Error::ExternalFormat(Part::Group)),
+    read_as(alloc, source, range, Part::Group)
+}
+
+/// The bytes of a place, all of them. What does not lie in the file is told of as this part's.
+pub(crate) fn read_as<S: Source>(
+    alloc: Global,
+    source: &mut S,
+    place: Place,
+    part: Part,
+) -> Result<Vec<u8>, Error>
+    ensures keeps { Keeps S.Source source.old source.new }
+    ensures quiet { OnOk result (S.faults source.new ≡ S.faults source.old) }
+    ensures part { Finds (λ bytes. bytes.items) (λ file. part_at file place)
+        (S.told source.old) (S.faults source.old) (S.faults source.new) result }
+    ensures taken { S.taken source.new ≤ S.taken source.old + place.length }
+{
+    match read_exact_at(alloc, source, place) {
+        Err(Error::ExternalFormat(_)) => Err(Error::ExternalFormat(part)),
         found => found,
     }
 }

@@ -8,8 +8,8 @@ use crate::metadata::ColumnChunkMetaData;
 use columns_core::Error;
 use std::alloc::Global;
 
-/// The column's path begins with this name.
-pub(crate) fn begins_with(column: &ColumnChunkMetaData, name: &str) -> bool
+/// Whether the column's path begins with this name.
+pub fn begins_with(column: &ColumnChunkMetaData, name: &str) -> bool
     ensures { result ≡ begins_with name.now column.now }
 {
     match column.descriptor.path_in_schema.as_slice() {

@@ -2,15 +2,13 @@
 
 ghost use Rattle.std.specs.Prelude.{◌≡◌, ◌+◌, ◌≤◌, map, sum_by, true, OnOk};
 ghost use Rattle.parquet_meta.specs.Fault.{MakesOr};
-ghost use Rattle.parquet_meta.specs.Indexes.{FindsIndex, FindsIndexes, column_index_length, field_columns, index_in, is_read, place_length, locations_at, locations_of, offset_index_length};
+ghost use Rattle.parquet_meta.specs.Indexes.{FindsIndex, FindsIndexes, column_index_length, field_columns, index_in, place_length, locations_at, locations_of, offset_index_length};
 ghost use Rattle.parquet_meta.specs.Lists.{all_of};
-ghost use Rattle.parquet_meta.specs.OffsetIndex.{locations_in};
-ghost use Rattle.parquet_meta.specs.Places.{part_at};
 ghost use Rattle.parquet_meta.specs.Keeps.{Keeps};
 ghost use Rattle.parquet_meta.specs.Source.{Finds};
 
 use crate::column_index::decode_column_index;
-use crate::exact::read_exact_at;
+use crate::exact::{read_as, read_exact_at};
 use crate::fault::Fault;
 use crate::fields::begins_with;
 use crate::metadata::{ColumnChunkMetaData, Index, PageLocation, PhysicalType, Place};
@@ -107,7 +105,7 @@ fn read_raw_index<S: Source>(
     let Some(place) = column.column_index else {
         return Err(Error::ExternalFormat(Part::Index));
     };
-    let bytes = read_exact_at(alloc, source, place)?;
+    let bytes = read_as(alloc, source, place, Part::Index)?;
     match decode_index(alloc, physical_type, bytes.as_slice()) {
         Ok(index) => Ok(index),
         Err(fault) => Err(fault.at(Part::Index)),

@@ -32,7 +32,7 @@ mod typed_statistics;
 
 pub use exact::{read_exact_at, read_range};
 pub use failing_source::FailingSource;
-pub use fields::{get_field_columns, get_field_pages};
+pub use fields::{begins_with, get_field_columns, get_field_pages};
 pub use file_source::FileSource;
 pub use indexes::{read_pages_locations, read_raw_indexes};
 pub use memory_source::MemorySource;

@@ -70,12 +70,10 @@ fn page_indexes<F: EndForm<T>, T: Drop>(
     ensures { MakesOr true result (page_indexes (F.end form.now) index.now) }
 {
     let null_pages = index.null_pages.as_slice();
-    let min_values = index.min_values.as_slice();
-    let max_values = index.max_values.as_slice();
     let mut pages = Vec::new(alloc);
     for (page, is_null) in null_pages.iter().enumerate() {
-        let min = min_values[page].as_slice();
-        let max = max_values[page].as_slice();
+        let min = index.min_values.value(page);
+        let max = index.max_values.value(page);
         let nulls = null_count(index, page);
         pages.push(page_index(alloc, form, *is_null, min, max, nulls)?)?;
     }

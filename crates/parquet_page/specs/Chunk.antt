@@ -1,5 +1,5 @@
 -- A column chunk: headers and bodies in turn, a dictionary page at most as the first of them.
-use Rattle.std.specs.Prelude.{ℕ, ℤ, zero, suc, ◌+◌, ◌-◌, nat_le, Bool, true, false, List, [], ◌∷◌, length, take, drop, Option, Some, None}
+use Rattle.std.specs.Prelude.{ℕ, ℤ, pos, zero, suc, ◌+◌, ◌-◌, nat_le, Bool, true, false, List, [], ◌∷◌, length, take, drop, Option, Some, None}
 use Rattle.std.specs.Option.{option_map_or}
 use Rattle.parquet_base.specs.Reading.{Read, ◌>>=◌, given}
 use Rattle.parquet_meta.specs.PageHeader.{page_header}
@@ -7,6 +7,7 @@ use Rattle.parquet_meta.specs.declared.page_header.PageKind.{PageKind}
 use Rattle.parquet_meta.specs.declared.page_header.PageKind.TheVariants as kind
 use Rattle.parquet_page.specs.Content.{header_values}
 use Rattle.parquet_meta.specs.declared.page_header.DataPageHeader.{DataPageHeader}
+use Rattle.parquet_meta.specs.declared.metadata.PageLocation.{PageLocation}
 
 -- a page of any kind
 pub record AnyPage : Type 0 where
@@ -42,6 +43,10 @@ pub record PlacedPage : Type 0 where
   pub start : ℕ
   pub first_row : ℕ
   pub page : ChunkPage
+
+-- what an offset index that is right says of it: its place in the file, its length with the header, and its first row
+abbrev pub location_of_page : ℕ → PlacedPage → PageLocation
+location_of_page chunk_start placed = record { offset = pos (chunk_start + placed.start); compressed_page_size = pos placed.page.size; first_row_index = pos placed.first_row }
 
 -- ---- pages at the front of bytes
 

@@ -13,14 +13,14 @@ use Rattle.parquet_meta.specs.PageHeader.{page_header}
 use Rattle.parquet_meta.specs.declared.metadata.PageLocation.{PageLocation}
 use Rattle.parquet_meta.specs.declared.page_header.DataPageHeader.TheVariants.{V1}
 use Rattle.parquet_meta.specs.declared.page_header.PageKind.TheVariants.{Data}
-use Rattle.parquet_page.specs.Chunk.{PlacedPage, page_at, data_page_at, dictionary_at, chunk_dictionary, NoDictionary, pages_from, chunk_pages, placed_pages, pages_of_chunk}
+use Rattle.parquet_page.specs.Chunk.{PlacedPage, location_of_page, page_at, data_page_at, dictionary_at, chunk_dictionary, NoDictionary, pages_from, chunk_pages, placed_pages, pages_of_chunk}
 use Rattle.parquet_page.specs.Content.{header_values}
 use Rattle.parquet_page.specs.Located.{page_in}
 use Rattle.parquet_plain.specs.Description.{PlainPage, page_bytes, locations_from, rows_of_pages}
 use Rattle.parquet_plain.specs.Structs.{page_header_bytes}
 use Rattle.parquet_plain.proofs.StructLemmas.{page_header-written}
 use Rattle.parquet_plain.specs.Fits.{FitsPage}
-use Rattle.parquet_plain.specs.Found.{chunk_page, location_met, whole_walk}
+use Rattle.parquet_plain.specs.Found.{chunk_page, whole_walk}
 
 -- ---- a page
 
@@ -90,7 +90,7 @@ pub pages_of_chunk-written : (pages : List PlainPage) → All FitsPage pages →
 pages_of_chunk-written pages all = rw (no_dictionary pages all, chunk_pages-written pages all) refl
 
 -- the offset index says where they are
-pub locations-true : (start at row : ℕ) (pages : List PlainPage) → map (location_met start) (placed_pages at row (map chunk_page pages)) ≡ locations_from (start + at) row pages
+pub locations-true : (start at row : ℕ) (pages : List PlainPage) → map (location_of_page start) (placed_pages at row (map chunk_page pages)) ≡ locations_from (start + at) row pages
 locations-true start at row [] = refl
 locations-true start at row (page ∷ pages) =
     let place : start + (at + length (page_bytes page)) ≡ start + at + length (page_bytes page) = omega arith in

@@ -10,7 +10,7 @@ use Rattle.parquet_meta.specs.declared.page_header.DataPageHeader.{DataPageHeade
 use Rattle.parquet_meta.specs.declared.page_header.DataPageHeader.TheVariants.{V1}
 use Rattle.parquet_meta.specs.declared.page_header.PageHeader.{PageHeader}
 use Rattle.parquet_meta.specs.declared.page_header.PageKind.TheVariants.{Data}
-use Rattle.parquet_page.specs.Chunk.{ChunkPage, PlacedPage, PageWalk}
+use Rattle.parquet_page.specs.Chunk.{ChunkPage, PageWalk}
 use Rattle.parquet_page.specs.Content.{DataContent}
 use Rattle.parquet_page.specs.Locations.{located}
 use Rattle.parquet_page.specs.Stored.{Stored}
@@ -60,11 +60,6 @@ plain_content type items =
     record { header = plain_page_header (length items); body = body_bytes type.physical_type type.repetition items; type = type; selected = None }
 
 -- ---- pages by their locations
-
--- where a page stands that was met in a chunk
-abbrev pub location_met : ℕ → PlacedPage → PageLocation
-location_met chunk_start placed =
-    record { offset = pos (chunk_start + placed.start); compressed_page_size = pos placed.page.size; first_row_index = pos placed.first_row }
 
 abbrev pub location_at : ℕ → ℕ → PlainPage → PageLocation
 location_at place row page = record { offset = pos place; compressed_page_size = pos (length (page_bytes page)); first_row_index = pos row }

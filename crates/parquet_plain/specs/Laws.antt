@@ -10,7 +10,7 @@ use Rattle.parquet_meta.specs.PageHeader.{page_header}
 use Rattle.parquet_meta.specs.StoredEnds.{int32_end, int64_end}
 use Rattle.parquet_meta.specs.declared.metadata.PageLocation.{PageLocation}
 use Rattle.parquet_meta.specs.declared.metadata.PrimitiveType.{PrimitiveType}
-use Rattle.parquet_page.specs.Chunk.{NoDictionary, chunk_dictionary, chunk_pages, pages_of_chunk}
+use Rattle.parquet_page.specs.Chunk.{NoDictionary, chunk_dictionary, chunk_pages, location_of_page, pages_of_chunk}
 use Rattle.parquet_page.specs.Content.{header_values}
 use Rattle.parquet_page.specs.Locations.{has_shape, page_intervals}
 use Rattle.parquet_page.specs.Spelling.{spelled}
@@ -20,7 +20,7 @@ use Rattle.parquet_plain.specs.Columns.{greatest, least}
 use Rattle.parquet_plain.specs.Description.{PlainFile, PlainPage, locations_from, page_bytes, rows_of_pages}
 use Rattle.parquet_plain.specs.File.{chunks_of, first_starts, meta_data_of_plain, plain_file}
 use Rattle.parquet_plain.specs.Fits.{FitsFile, FitsIndex, FitsItems, FitsLocation, FitsPage, HasPlaces}
-use Rattle.parquet_plain.specs.Found.{AllLocated, GroupsStand, intervals_from, location_met, plain_content, plain_header, whole_walk}
+use Rattle.parquet_plain.specs.Found.{AllLocated, GroupsStand, intervals_from, plain_content, plain_header, whole_walk}
 use Rattle.parquet_plain.specs.Structs.{column_index_bytes, offset_index_bytes, page_header_bytes}
 
 -- ---- structs
@@ -62,7 +62,7 @@ HaveNoDictionary = (pages : List PlainPage) → All FitsPage pages → chunk_dic
 abbrev pub LocationsAreTrue : Type 0
 LocationsAreTrue =
     (start : ℕ) (pages : List PlainPage) → All FitsPage pages →
-    map (location_met start) (pages_of_chunk (rows_of_pages pages) (flat_map page_bytes pages)) ≡ locations_from start 0 pages
+    map (location_of_page start) (pages_of_chunk (rows_of_pages pages) (flat_map page_bytes pages)) ≡ locations_from start 0 pages
 
 -- the headers count as many values as the chunk has rows
 abbrev pub CountsAreTrue : Type 0

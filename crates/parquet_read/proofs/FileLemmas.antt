@@ -15,7 +15,6 @@ use Rattle.parquet_meta.specs.declared.metadata.ColumnChunkMetaData.{ColumnChunk
 use Rattle.parquet_meta.specs.declared.metadata.RowGroupMetaData.{RowGroupMetaData}
 use Rattle.parquet_meta.specs.declared.source.Source.{Ghosts}
 use Rattle.parquet_page.specs.declared.page.FilteredPage.{FilteredPage}
-use Rattle.flat_values.specs.ColumnLeft.{ColumnLeft}
 use Rattle.flat_values.specs.Conversion.{Conversion}
 use Rattle.flat_values.specs.NullChunks.{nulls_left}
 use Rattle.flat_values.specs.Pairs.{conversion}
@@ -23,8 +22,8 @@ use Rattle.flat_binary.specs.Left.{Supply, converted_left}
 use Rattle.flat_binary.specs.NullType.{is_null_type}
 use Rattle.flat_binary.specs.Begun.{column_left}
 use Rattle.parquet_read.specs.Asked.{AskedField, GroupReading, PageLists, asked_column, asked_fields, asked_left, left_in_file, rows_asked}
-use Rattle.parquet_read.specs.FileReader.{AnswersHere, GivesFileRows, GivesRowsAtHand, OpensInTurn, OpensNext, ReplacesGroup, answers_left, answers_to_come, file_lent, is_group_over, length_of_next, most_answers, opened_group, pages_at_hand, rows_at_hand}
-use Rattle.parquet_read.specs.GroupReader.{NextGroup, groups_left}
+use Rattle.parquet_read.specs.FileReader.{AnswersHere, GivesFileRows, GivesRowsAtHand, OpensInTurn, ReplacesGroup, answers_left, answers_to_come, file_lent, is_group_over, length_of_next, most_answers, opened_group, pages_at_hand, rows_at_hand}
+use Rattle.parquet_read.specs.GroupReader.{groups_left}
 use Rattle.parquet_read.specs.Groups.{GroupsLeft, OpensGroup, front_lists, front_reading, length_of_front, rows_of_group}
 use Rattle.parquet_read.specs.Opening.{ChunkBytes, chunk_supply, opened_left, size_within}
 use Rattle.parquet_read.specs.RowGroup.{group_left, group_lent}

@@ -1,5 +1,5 @@
 -- Pages that are lent for the chunks of a group.
-use Rattle.std.proofs.Common.{◌≡◌, ◌∙◌, ℕ, zero, suc, ◌+◌, ◌-◌, ◌^◌, ◌≤◌, List, [], ◌∷◌, ◌++◌, length, refl, sym, ap, arith}
+use Rattle.std.proofs.Common.{◌≡◌, ◌∙◌, ℕ, zero, suc, ◌+◌, ◌-◌, ◌^◌, ◌≤◌, List, [], ◌∷◌, length, refl, sym, ap, arith}
 use Rattle.std.specs.Prelude.{min, sum_by, Option, Some, None, Result}
 use Rattle.std.proofs.lemmas.List.Sums.{sum_by-append, sum_by-cons}
 use Rattle.columns_core.specs.declared.array.Array.{Array}
@@ -8,8 +8,8 @@ use Rattle.parquet_base.specs.Reading.{◌>>=◌}
 use Rattle.parquet_meta.specs.Lists.{all_of}
 use Rattle.parquet_meta.specs.Source.{raised}
 use Rattle.page_decoding.specs.Chunks.{lent_more}
-use Rattle.flat_values.specs.ColumnLeft.{ColumnLeft, GivesColumn}
-use Rattle.parquet_read.specs.Rows.{Answer, AnswerInTurn, AreAsked, GivesNextRows, GroupLeft, MakesChunk}
+use Rattle.flat_values.specs.ColumnLeft.{ColumnLeft}
+use Rattle.parquet_read.specs.Rows.{Answer, AnswerInTurn, AreAsked, GivesNextRows, GroupLeft}
 
 -- how many pages were lent for some columns
 abbrev pub all_lent : List ColumnLeft → ℕ

@@ -1,5 +1,5 @@
 -- Names of numbers that have equally many digits come in the order of the numbers.
-use Rattle.std.proofs.Common.{◌-◌, not, Option, Some, None, map, ◌≡◌, ℕ, zero, suc, ◌+◌, ◌*◌, ◌/◌, ◌%◌, ◌^◌, ◌<◌, ◌≤◌, ◌==◌, ◌⊎◌, inl, inr, Bool, true, false, List, [], ◌∷◌, refl, sym, ap, ◌∙◌, arith, nat_lt, if◌then◌else◌, decimal}
+use Rattle.std.proofs.Common.{◌-◌, not, Some, None, map, ◌≡◌, ℕ, zero, suc, ◌+◌, ◌*◌, ◌/◌, ◌%◌, ◌^◌, ◌<◌, ◌≤◌, ◌==◌, inl, inr, Bool, true, false, List, [], ◌∷◌, refl, sym, ap, ◌∙◌, arith, if◌then◌else◌, decimal}
 use Rattle.std.specs.Cmp.Lexicographic.{slice_cmp}
 use Rattle.std.specs.declared.cmp.Ordering.{Ordering}
 use Rattle.std.specs.declared.cmp.Ordering.TheVariants.{Less, Equal, Greater}
@@ -10,7 +10,7 @@ use Rattle.std.proofs.lemmas.Bool.{cases_lt, lt-ltb, le-ltb, eq-eqb, ne_eqb}
 use Rattle.std.proofs.Math.Nat.{pow-suc, pow-zero}
 use Rattle.parquet_page.specs.Stored.{Stored, Octets}
 use Rattle.parquet_plain.specs.Bodies.{present}
-use Rattle.parquet_plain.specs.Columns.{first_of, last_of}
+use Rattle.parquet_plain.specs.Columns.{first_of}
 use Rattle.parquet_sample.specs.Ends.{Bounds, bounds_after}
 use Rattle.parquet_sample.specs.Sample.{name_item, name_text, texts_at_most}
 use Rattle.parquet_sample.proofs.BoundLemmas.{AreBounds, bounds_begin, bounds_end, bounds_go_on}

@@ -7,7 +7,8 @@ use Rattle.parquet_meta.specs.Keeps.{Keeps}
 use Rattle.parquet_meta.specs.Reads.{ReadsFile}
 use Rattle.parquet_meta.specs.Source.{IsReadFailure}
 use Rattle.parquet_meta.specs.declared.source.Source.{Ghosts}
-use Rattle.parquet_scan.proofs.ScanLemmas.{fails_more, fails_same, none_as, none_of_both}
+use Rattle.parquet_meta.proofs.FailureLemmas.{fails_more}
+use Rattle.parquet_scan.proofs.ScanLemmas.{fails_same, none_as, none_of_both}
 
 pub keeps_itself : {S : Type 0} {g : Ghosts S} {s : S} → Keeps g s s
 keeps_itself = record { same = refl; kept = refl; later = omega arith }

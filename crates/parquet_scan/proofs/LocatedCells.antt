@@ -19,7 +19,7 @@ use Rattle.parquet_meta.specs.declared.metadata.RowGroupMetaData.{RowGroupMetaDa
 use Rattle.parquet_meta.specs.Chunks.{chunk_causes, chunk_range, chunk_start, has_range}
 use Rattle.parquet_meta.specs.Places.{place_end, bytes_at}
 use Rattle.parquet_page.specs.Alone.{IsReadAlone}
-use Rattle.parquet_page.specs.Chunk.{ChunkPage, Dictionary, DictionaryPage, NoDictionary, PlacedPage, Undefined, chunk_dictionary, chunk_pages, dictionary_at, dictionary_size, if_defined, pages_of_chunk, placed_pages}
+use Rattle.parquet_page.specs.Chunk.{ChunkPage, Dictionary, DictionaryPage, NoDictionary, PlacedPage, Undefined, chunk_dictionary, chunk_pages, dictionary_at, dictionary_size, if_defined, location_of_page, pages_of_chunk, placed_pages}
 use Rattle.parquet_page.specs.Content.{header_values}
 use Rattle.parquet_page.specs.Located.{dictionary_in, located_dictionary, located_page}
 use Rattle.parquet_page.specs.Locations.{located, next_row, page_intervals, rows_between}
@@ -31,7 +31,7 @@ use Rattle.parquet_scan.specs.Cells.{Reading, dictionary_by_locations, chunk_of,
 use Rattle.parquet_scan.specs.Laws.{LocatedCellsAreCells}
 use Rattle.parquet_scan.specs.Pages.{location_rows, locations}
 use Rattle.parquet_scan.proofs.CellLemmas.{sum-placed}
-use Rattle.parquet_scan.specs.Truth.{AreTrueCounts, AreTrueLocations, location_of_page}
+use Rattle.parquet_scan.specs.Truth.{AreTrueCounts, AreTrueLocations}
 
 -- ---- lists
 

@@ -1,5 +1,5 @@
 -- How the causes of parts are put together to those of a file.
-use Rattle.std.proofs.Common.{◌≡◌, ℕ, zero, suc, ◌+◌, ◌<◌, ◌≤◌, Bool, true, false, not, List, [], ◌∷◌, ◌++◌, length, map, drop, get_or, refl, sym, subst, ◌∙◌, ap, arith, append_assoc, inl, inr}
+use Rattle.std.proofs.Common.{◌≡◌, ℕ, zero, suc, ◌+◌, ◌<◌, Bool, true, false, not, List, [], ◌∷◌, ◌++◌, length, map, drop, get_or, refl, sym, subst, ◌∙◌, ap, arith, append_assoc, inl, inr}
 use Rattle.std.specs.Prelude.{Option, Some, None, zip, filter, ◌&&◌, ◌||◌, ◌==◌, nat_lt, IfSome, if◌then◌else◌}
 use Rattle.std.specs.List.{flat_map, list_all}
 use Rattle.columns_core.specs.Causes.{Cause, Overflow, and_then, IsOneOf, IsWantOfMemory, cause_of}
@@ -18,6 +18,7 @@ use Rattle.std.proofs.lemmas.List.{drop_more}
 use Rattle.parquet_base.specs.Intervals.{maximal_runs}
 use Rattle.parquet_meta.specs.declared.metadata.ColumnChunkMetaData.{ColumnChunkMetaData}
 use Rattle.parquet_meta.specs.Source.{IsReadFailure}
+use Rattle.parquet_meta.proofs.FailureLemmas.{fails_more}
 use Rattle.parquet_scan.specs.Causes.{causes_of_chunk, causes_of_read, chunk_read_causes, pair_causes}
 use Rattle.parquet_scan.specs.Cells.{is_null_type}
 use Rattle.parquet_scan.proofs.CauseLemmas.{TellsOf, among_first, then_next}
@@ -49,22 +50,6 @@ same_pruning request groups counts e =
     ∙ (λ i. some_bound request.bounds i && all_counting (group_counts request) (has_needed_indexes request) groups i)
 
 -- ---- parts of a file that are read
-
--- An error of a part is one of the whole, which began before.
-pub fails_more : (told : Option (List ℕ)) (before mid now : ℕ) (part whole : List ℕ → List Cause) (e : Error) → before ≤ mid
-    → IfSome told (λ bytes. (o : Option Cause) → IsOneOf (part bytes) o → IsOneOf (whole bytes) o)
-    → IsReadFailure told mid now part e → IsReadFailure told before now whole e
-fails_more told before mid now part whole (error.InvalidArgumentError p) h f k = k
-fails_more None before mid now part whole (error.NotYetImplemented p) h f k = k
-fails_more (Some bytes) before mid now part whole (error.NotYetImplemented p) h f k = f (cause_of (error.NotYetImplemented p)) k
-fails_more None before mid now part whole (error.ExternalFormat p) h f k = k
-fails_more (Some bytes) before mid now part whole (error.ExternalFormat p) h f k = f (cause_of (error.ExternalFormat p)) k
-fails_more None before mid now part whole (error.OutOfSpec p) h f k = k
-fails_more (Some bytes) before mid now part whole (error.OutOfSpec p) h f k = f (cause_of (error.OutOfSpec p)) k
-fails_more None before mid now part whole error.Overflow h f k = k
-fails_more (Some bytes) before mid now part whole error.Overflow h f k = f (cause_of error.Overflow) k
-fails_more told before mid now part whole error.Io h f k = omega (arith, h, k)
-fails_more told before mid now part whole error.OutOfMemory h f k = tt
 
 -- an error by causes that are those of the whole
 pub fails_same : (told : Option (List ℕ)) (before now : ℕ) (part whole : List ℕ → List Cause) (e : Error) → IfSome told (λ bytes. whole bytes ≡ part bytes) → IsReadFailure told before now part e → IsReadFailure told before now whole e

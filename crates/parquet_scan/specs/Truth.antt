@@ -1,5 +1,5 @@
 -- When what a file says of its own rows is true of them: ends and numbers of nulls, counts, and locations of pages.
-use Rattle.std.specs.Prelude.{◌≡◌, ℕ, ◌+◌, ◌<◌, pos, Bool, true, false, ◌&&◌, ◌==◌, List, All, IfSome, IsSomeAnd, IsTrue, is_some, count_by, filter, filter_map, map, sum_by, zip, Option, option_and_then}
+use Rattle.std.specs.Prelude.{◌≡◌, ℕ, ◌<◌, Bool, true, false, ◌&&◌, ◌==◌, List, All, IfSome, IsSomeAnd, IsTrue, is_some, count_by, filter, filter_map, map, sum_by, zip, Option, option_and_then}
 use Rattle.std.specs.List.{list_all, range_with_len}
 use Rattle.std.specs.Option.{option_map_or}
 use Rattle.columns_core.specs.declared.cell.Cell.{Cell, Null}
@@ -7,9 +7,8 @@ use Rattle.columns_core.specs.declared.data_type.Field.{Field}
 use Rattle.parquet_base.specs.declared.interval.Interval.{Interval}
 use Rattle.parquet_meta.specs.Chunks.{chunk_start}
 use Rattle.parquet_meta.specs.declared.metadata.ColumnChunkMetaData.{ColumnChunkMetaData}
-use Rattle.parquet_meta.specs.declared.metadata.PageLocation.{PageLocation}
 use Rattle.parquet_meta.specs.declared.metadata.RowGroupMetaData.{RowGroupMetaData}
-use Rattle.parquet_page.specs.Chunk.{PlacedPage}
+use Rattle.parquet_page.specs.Chunk.{PlacedPage, location_of_page}
 use Rattle.parquet_page.specs.Content.{header_values}
 use Rattle.parquet_scan.specs.declared.bound.Bound.{Bound}
 use Rattle.parquet_scan.specs.declared.bound.Scalar.{Scalar}
@@ -61,10 +60,6 @@ has_true_index bytes group field column = list_all (is_true_of_page bytes group 
 pub record AreTrueCounts (bytes : List ℕ) (group : RowGroupMetaData) (column : ColumnChunkMetaData) : Type 0 where
   pub chunk : IsTrue (is_some (chunk_of bytes group column))
   pub all_values : sum_by (λ (placed : PlacedPage). header_values placed.page.header) (walked_pages bytes group column) ≡ column.num_values
-
--- what a location says of a page, where the chunk begins at a place of the file
-abbrev pub location_of_page : ℕ → PlacedPage → PageLocation
-location_of_page chunk_start placed = record { offset = pos (chunk_start + placed.start); compressed_page_size = pos placed.page.size; first_row_index = pos placed.first_row }
 
 -- there is a location for each data page, with its place, its whole length and its first row, and no other
 pub record AreTrueLocations (bytes : List ℕ) (group : RowGroupMetaData) (column : ColumnChunkMetaData) : Type 0 where

@@ -42,28 +42,8 @@ pub(crate) fn read_page_ends<S: Source>(
     Ok(ends)
 }
 
-/// The column index of a column that this name begins. One that is not in the file is told of as an index.
+/// The column index of a column that this name begins.
 fn read_index<S: Source>(
-    alloc: Global,
-    source: &mut S,
-    column: &ColumnChunkMetaData,
-    name: &Name,
-) -> Result<Index, Error>
-    requires named { begins name.now column.now.descriptor ≡ true }
-    ensures keeps { Keeps S.Source source.old source.new }
-    ensures quiet { OnOk result (S.faults source.new ≡ S.faults source.old) }
-    ensures found { FindsIndex column.now (S.told source.old) (S.faults source.old)
-        (S.faults source.new) result }
-    ensures taken { S.taken source.new ≤ S.taken source.old + column_index_length column.now }
-{
-    match find_index(alloc, source, column, name) {
-        Err(Error::ExternalFormat(_)) => Err(Error::ExternalFormat(Part::Index)),
-        found => found,
-    }
-}
-
-/// The same, told of as the place that it is read from.
-fn find_index<S: Source>(
     alloc: Global,
     source: &mut S,
     column: &ColumnChunkMetaData,

@@ -13,7 +13,7 @@ use Rattle.columns_core.specs.Keyed.{KeyedColumn, keyed_cells, keyed_column}
 use Rattle.columns_core.specs.declared.cell.Cell.{Cell, Null}
 use Rattle.columns_core.specs.declared.data_type.DataType.{DataType}
 use Rattle.columns_core.specs.declared.error.Error.{Error}
-use Rattle.parquet_statistics.specs.Made.{keys_of_all}
+use Rattle.parquet_statistics.specs.Made.{keyed_in_turn, keys_of_all}
 
 module _ {K : Type 0} (number : K → ℤ) where
   pub counted_more : (keys pushed : List K) (key : K) (n : ℕ) → pushed ≡ keys ++ key ∷ [] → map number keys ≡ map pos (range_with_len 0 n) → number key ≡ pos n → map number pushed ≡ map pos (range_with_len 0 (n + 1))
@@ -59,8 +59,8 @@ module _ {K : Type 0} (number : K → ℤ) where
     all_places =
         sym (placed_by keys) ∙ ap (map (option_map place_of_key)) count ∙ map-map (option_map place_of_key) (λ place. Some (pos place)) (range_with_len 0 (length entries))
 
-    pub all_keyed : (column : KeyedColumn) (data_type : DataType) → column ≡ keyed_column number data_type keys entries → Some column.keys ≡ Some (keys_of_all entries)
-    all_keyed column data_type is = ap (λ (column : KeyedColumn). Some column.keys) is ∙ ap Some all_places
+    pub all_keyed : (column : KeyedColumn) (data_type : DataType) → column ≡ keyed_column number data_type keys entries → Some (column.keys, column.entries) ≡ Some (keyed_in_turn entries)
+    all_keyed column data_type is = ap (λ (column : KeyedColumn). Some (column.keys, column.entries)) is ∙ ap (λ (places : List (Option ℕ)). Some (places, entries)) all_places
 
     as_many : length keys ≡ length entries
     as_many = sym (length-map keys (option_map number)) ∙ ap length count ∙ length-map-range_with_len (λ place. Some (pos place)) 0 (length entries)

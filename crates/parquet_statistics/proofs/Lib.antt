@@ -17,6 +17,7 @@ mod ToldLemmas
 mod FitLemmas
 mod InsideLemmas
 mod KeyedLemmas
+mod KeysInTurn
 mod CountedLemmas
 mod SingleLemmas
 mod ColumnLemmas

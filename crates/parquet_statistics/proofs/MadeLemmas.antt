@@ -5,7 +5,7 @@ use Rattle.columns_core.specs.Array.{column_of}
 use Rattle.columns_core.specs.declared.array.Array.{Array}
 use Rattle.columns_core.specs.declared.cell.Cell.{Cell}
 use Rattle.columns_core.specs.declared.error.Error.{Error}
-use Rattle.parquet_statistics.specs.Made.{Made, dictionary_made, keys_in, keys_of_all, list_made, made_array, made_by, made_cells, made_refusals, made_shown, map_made, struct_made}
+use Rattle.parquet_statistics.specs.Made.{Made, dictionary_made, keyed_in, keyed_in_turn, list_made, made_array, made_by, made_cells, made_refusals, made_shown, map_made, struct_made}
 use Rattle.parquet_statistics.specs.Refusal.{IsRefusedBy}
 use Rattle.parquet_statistics.specs.declared.dyn_mutable.DynMutable.{DynMutable, Dictionary, List as ListBuilder, Map, Struct}
 use Rattle.parquet_statistics.specs.declared.dyn_mutable.DynMutableDictionary.{DynMutableDictionary}
@@ -31,8 +31,8 @@ pub as_refused_made : (r : Result Array Error) (a b : Made) → a ≡ b → IfEr
 as_refused_made r a b is h = subst (λ made. IfErr r (IsRefusedBy (made_refusals made))) is h
 
 -- a dictionary has the keys of its entries
-pub as_keyed : (r : Result Array Error) (a b : Made) (entries : List Cell) → a ≡ b → made_cells a ≡ entries → IfOk r (λ array. keys_in array ≡ Some (keys_of_all entries)) → IfOk r (λ array. keys_in array ≡ Some (keys_of_all (made_cells b)))
-as_keyed r a b entries is made h = subst (λ (cells : List Cell). IfOk r (λ array. keys_in array ≡ Some (keys_of_all cells))) (sym made ∙ ap made_cells is) h
+pub as_keyed : (r : Result Array Error) (a b : Made) (entries : List Cell) → a ≡ b → made_cells a ≡ entries → IfOk r (λ array. keyed_in array ≡ Some (keyed_in_turn entries)) → IfOk r (λ array. keyed_in array ≡ Some (keyed_in_turn (made_cells b)))
+as_keyed r a b entries is made h = subst (λ (cells : List Cell). IfOk r (λ array. keyed_in array ≡ Some (keyed_in_turn cells))) (sym made ∙ ap made_cells is) h
 
 -- ---- several builders
 

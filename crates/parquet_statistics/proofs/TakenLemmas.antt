@@ -1,5 +1,5 @@
 -- An array of slots: what is made of the arrays of columns is it, and an error tells of its length.
-use Rattle.std.proofs.Common.{◌≡◌, refl, sym, ◌∙◌, ap, subst, ℕ, zero, suc, List, [], ◌∷◌, drop, take, length, map, Option, Some, None, Ok, Err, inl, inr, arith}
+use Rattle.std.proofs.Common.{◌≡◌, sym, ◌∙◌, ap, subst, ℕ, zero, suc, List, [], ◌∷◌, drop, take, length, map, Option, Some, None, Ok, Err, inl, inr, arith}
 use Rattle.std.specs.Prelude.{◌⊎◌, Contains, IfErr, IfOk, Result, flat_map, option_and_then}
 use Rattle.std.proofs.lemmas.List.{drop_all, length-map, take_all}
 use Rattle.std.specs.List.{AllByRecursion}
@@ -14,7 +14,7 @@ use Rattle.columns_core.specs.declared.error.Error.TheVariants as error
 use Rattle.parquet_meta.specs.declared.metadata.Ends.{Ends}
 use Rattle.parquet_statistics.specs.Deserialized.{IsMade, all_taken, array_of_slots, causes_of_refusal, length_causes, slot_count}
 use Rattle.parquet_statistics.specs.LeafTypes.{leaf_types}
-use Rattle.parquet_statistics.specs.Made.{Made, made_array}
+use Rattle.parquet_statistics.specs.Made.{HasKeysInTurn, Made, made_array, made_refusals, made_shown}
 use Rattle.parquet_statistics.specs.Parts.{AreOfTypes, HasSlots, IsShapeRefused}
 use Rattle.parquet_statistics.specs.Refusal.{Refusal, Argument, Caused, IsOneRefusal, IsRefusedBy, told_refusal}
 use Rattle.parquet_statistics.specs.Shaped.{shaped}
@@ -53,8 +53,8 @@ made_or made (Some found) = found.0
 some_pair : (a b : Made) (x y : List (List Cell)) → ◌≡◌ {A = Found} (Some (a, x)) (Some (b, y)) → a ≡ b
 some_pair a b x y e = ap (made_or a) e
 
-made_it : (made : Made) (array : Array) → made_array array ≡ made → IsMade (Some made) array
-made_it made array is = subst (λ made. IsMade (Some made) array) is (refl, refl)
+made_it : (made : Made) (array : Array) → made_array array ≡ made → HasKeysInTurn made.data_type array → IsMade (Some made) array
+made_it made array is keyed = (ap made_shown is, sym (ap made_refusals is), keyed)
 
 module _ (data_type : DataType) (slot : Ends Cell → Cell) (told : List (List (Ends Cell))) (groups slots : ℕ) (e : slot_count groups data_type ≡ Some slots)
     (arrays : List Array) (typed : map data_type_of arrays ≡ leaf_types data_type) (filled : map cells arrays ≡ map (map slot) told) (even : AreOfLength groups (map (map slot) told)) where
@@ -71,11 +71,12 @@ module _ (data_type : DataType) (slot : Ends Cell → Cell) (told : List (List (
   is_array = ap (option_and_then all_taken) (made_well.is ∙ ap (λ rest. Some (made_well.made, rest)) none_left)
 
   module _ (after : List Array) where
-    pub is_made : (r : Result Array Error) → IfOk r (λ array. shaped data_type (map cells arrays) ≡ Some (made_array array, map cells after)) → IfOk r (IsMade (array_of_slots data_type slot told))
-    is_made (Err e) found = tt
-    is_made (Ok array) found =
+    pub is_made : (r : Result Array Error) → IfOk r (λ array. shaped data_type (map cells arrays) ≡ Some (made_array array, map cells after)) → IfOk r (HasKeysInTurn data_type) → IfOk r (IsMade (array_of_slots data_type slot told))
+    is_made (Err e) found keyed = tt
+    is_made (Ok array) found keyed =
         subst (λ found. IsMade found array) (sym is_array)
-        (made_it made_well.made array (some_pair (made_array array) made_well.made (map cells after) _ (sym found ∙ ap (shaped data_type) filled ∙ made_well.is)))
+        (made_it made_well.made array (some_pair (made_array array) made_well.made (map cells after) _ (sym found ∙ ap (shaped data_type) filled ∙ made_well.is))
+        (subst (λ own. HasKeysInTurn own array) (sym made_well.typed) keyed))
 
   pub is_caused : (r : Result Array Error) → IfErr r (IsShapeRefused (shaped data_type (map cells arrays))) → ComesOf r (length_causes (array_of_slots data_type slot told))
   is_caused (Ok array) refused = tt
@@ -95,8 +96,8 @@ module _ (data_type : DataType) (told : List (List (Ends Cell))) (has : HasSlots
   slots_lead = ap (take (length (leaf_types data_type))) typed ∙ take_all (length (leaf_types data_type)) (leaf_types data_type) (omega arith)
 
   pub slots_made : (after : List Array) (r : Result Array Error) → (AreOfTypes (leaf_types data_type) arrays → IfOk r (λ array. shaped data_type (map cells arrays) ≡ Some (made_array array, map cells after)))
-      → IfOk r (IsMade (array_of_slots data_type slot told))
-  slots_made after r found = is_made data_type slot told has.groups has.slots has.is arrays typed filled (even_slots told has.even) after r (found slots_lead)
+      → IfOk r (HasKeysInTurn data_type) → IfOk r (IsMade (array_of_slots data_type slot told))
+  slots_made after r found keyed = is_made data_type slot told has.groups has.slots has.is arrays typed filled (even_slots told has.even) after r (found slots_lead) keyed
 
   pub slots_caused : (r : Result Array Error) → (AreOfTypes (leaf_types data_type) arrays → IfErr r (IsShapeRefused (shaped data_type (map cells arrays)))) → ComesOf r (length_causes (array_of_slots data_type slot told))
   slots_caused r refused = is_caused data_type slot told has.groups has.slots has.is arrays typed filled (even_slots told has.even) r (refused slots_lead)

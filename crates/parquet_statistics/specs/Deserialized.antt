@@ -19,7 +19,7 @@ use Rattle.column_ends.specs.Converted.{group_array_causes, group_causes, group_
 use Rattle.parquet_statistics.specs.BuiltTypes.{is_flat_shape}
 use Rattle.parquet_statistics.specs.CountType.{count_type}
 use Rattle.parquet_statistics.specs.LeafTypes.{Inside, Values, Entries, Items, Pairs, Fields, has_column, has_single_dictionaries, leaf_types, inside_at}
-use Rattle.parquet_statistics.specs.Made.{Made}
+use Rattle.parquet_statistics.specs.Made.{HasKeysInTurn, Made}
 use Rattle.parquet_statistics.specs.Refusal.{Refusal, Argument, Caused}
 use Rattle.parquet_statistics.specs.Shaped.{shaped}
 use Rattle.parquet_statistics.specs.declared.statistics.Statistics.{Statistics}
@@ -117,10 +117,10 @@ low_made field groups = array_of_slots field.data_type low_slot (told_of_field f
 abbrev pub high_made : Field → List RowGroupMetaData → Option Made
 high_made field groups = array_of_slots field.data_type high_slot (told_of_field field groups)
 
--- An array is what was made, and nothing was refused.
+-- An array is what was made, nothing was refused, and a dictionary's keys are 0, 1, 2 and on.
 abbrev pub IsMade : Option Made → Array → Type 0
 IsMade None array = ⊥
-IsMade (Some made) array = (column_of array ≡ (made.data_type, made.cells)) × (made.refusals ≡ [])
+IsMade (Some made) array = (column_of array ≡ (made.data_type, made.cells)) × (made.refusals ≡ []) × HasKeysInTurn made.data_type array
 
 pub record AreStatistics (field : Field) (groups : List RowGroupMetaData) (statistics : Statistics) : Type 0 where
   pub nulls : IsMade (nulls_made field groups) statistics.null_count

@@ -1,5 +1,5 @@
 -- What builders make: the type and the cells of an array, or why there is none.
-use Rattle.std.specs.Prelude.{ℕ, ◌-◌, ◌^◌, ◌==◌, ◌&&◌, nat_le, nat_lt, Bool, true, false, List, [], ◌∷◌, ◌++◌, length, map, flat_map, Option, Some, None}
+use Rattle.std.specs.Prelude.{◌≡◌, ℕ, ◌-◌, ◌^◌, ◌==◌, ◌&&◌, is_some, nat_le, nat_lt, Bool, true, false, List, [], ◌∷◌, ◌++◌, length, map, flat_map, Option, Some, None}
 use Rattle.std.specs.Coded.{coded_list}
 use Rattle.std.specs.List.{list_all, range_with_len}
 use Rattle.std.specs.Option.{option_map_or}
@@ -73,14 +73,21 @@ most_keys key.UInt16 = 2 ^ 16 - 1
 most_keys key.UInt32 = 2 ^ 32 - 1
 most_keys key.UInt64 = 2 ^ 64 - 1
 
--- the keys of a dictionary array, as places of entries
-abbrev pub keys_in : Array → Option (List (Option ℕ))
-keys_in (array.Dictionary column) = Some column.keys
-keys_in _ = None
+-- the keys of a dictionary array, as places of entries, and its entries
+abbrev pub keyed_in : Array → Option (List (Option ℕ) × List Cell)
+keyed_in (array.Dictionary column) = Some (column.keys, column.entries)
+keyed_in _ = None
 
 -- the keys 0, 1, 2 and on, one for each cell
 abbrev pub keys_of_all : List Cell → List (Option ℕ)
 keys_of_all cells = map Some (range_with_len 0 (length cells))
+
+abbrev pub keyed_in_turn : List Cell → List (Option ℕ) × List Cell
+keyed_in_turn entries = (keys_of_all entries, entries)
+
+-- an array of a dictionary type has an entry for each cell, and the keys 0, 1, 2 and on
+abbrev pub HasKeysInTurn : DataType → Array → Type 0
+HasKeysInTurn data_type array = is_some (key_type data_type) ≡ true → keyed_in array ≡ Some (keyed_in_turn (cells array))
 
 -- Keys name all entries, in turn, and their number has to be one of the type of keys.
 abbrev pub dictionary_made : DataType → Made → Made

@@ -1,7 +1,7 @@
 //! The arrays that builders make.
 ghost use Rattle.std.specs.Prelude.{◌≡◌, [], true, flat_map, map, Some, IfOk, IfErr, OnOk};
 ghost use Rattle.columns_core.specs.Array.{column_of};
-ghost use Rattle.parquet_statistics.specs.Made.{is_keyed, keys_in, keys_of_all, made_array, made_by, made_cells, made_refusals, made_shown, struct_made};
+ghost use Rattle.parquet_statistics.specs.Made.{is_keyed, keyed_in, keyed_in_turn, made_array, made_by, made_cells, made_refusals, made_shown, struct_made};
 ghost use Rattle.parquet_statistics.specs.Refusal.{IsRefusedBy};
 
 use crate::dictionaries::dictionary_of;
@@ -19,7 +19,7 @@ impl DynMutable {
     pub fn as_box(self) -> Result<Array, Error>
         ensures array { IfOk result (λ array. column_of array ≡ made_shown (made_by self)) }
         ensures keys { is_keyed self ≡ true → IfOk result (λ array.
-            keys_in array ≡ Some (keys_of_all (made_cells (made_by self)))) }
+            keyed_in array ≡ Some (keyed_in_turn (made_cells (made_by self)))) }
         ensures ok { OnOk result (made_refusals (made_by self) ≡ []) }
         ensures err { IfErr result (IsRefusedBy (made_refusals (made_by self))) }
     {
@@ -43,7 +43,7 @@ impl DynMutableDictionary {
         ensures array { IfOk result (λ array.
             column_of array ≡ made_shown (made_by (DynMutable.Dictionary self))) }
         ensures keys { IfOk result (λ array.
-            keys_in array ≡ Some (keys_of_all (made_cells (made_by (DynMutable.Dictionary self))))) }
+            keyed_in array ≡ Some (keyed_in_turn (made_cells (made_by (DynMutable.Dictionary self))))) }
         ensures ok { OnOk result (made_refusals (made_by (DynMutable.Dictionary self)) ≡ []) }
         ensures err { IfErr result (IsRefusedBy (made_refusals (made_by (DynMutable.Dictionary self)))) }
     {

@@ -4,7 +4,7 @@ ghost use Rattle.std.specs.List.{range_with_len};
 ghost use Rattle.columns_core.specs.Array.{cells, column_of};
 ghost use Rattle.columns_core.specs.Causes.{IsWantOfMemory};
 ghost use Rattle.columns_core.specs.DictionaryType.{key_type};
-ghost use Rattle.parquet_statistics.specs.Made.{dictionary_made, keys_in, keys_of_all, made_array, made_refusals, made_shown, most_keys};
+ghost use Rattle.parquet_statistics.specs.Made.{dictionary_made, keyed_in, keyed_in_turn, made_array, made_refusals, made_shown, most_keys};
 ghost use Rattle.parquet_statistics.specs.Refusal.{IsRefusedBy};
 
 use crate::counted_key::CountedKey;
@@ -19,7 +19,7 @@ pub(crate) fn dictionary_of(
 ) -> Result<Array, Error>
     ensures array { IfOk result (λ array.
         column_of array ≡ made_shown (dictionary_made data_type (made_array entries))) }
-    ensures keys { IfOk result (λ array. keys_in array ≡ Some (keys_of_all (cells entries))) }
+    ensures keys { IfOk result (λ array. keyed_in array ≡ Some (keyed_in_turn (cells entries))) }
     ensures ok { OnOk result (made_refusals (dictionary_made data_type (made_array entries)) ≡ []) }
     ensures err { let refusals = made_refusals (dictionary_made data_type (made_array entries)) in
         IfErr result (IsRefusedBy refusals) }
@@ -58,7 +58,7 @@ fn keyed_by<K: CountedKey>(
     requires { key_type data_type ≡ Some K.key_type }
     ensures array { IfOk result (λ array.
         column_of array ≡ made_shown (dictionary_made data_type (made_array entries))) }
-    ensures keys { IfOk result (λ array. keys_in array ≡ Some (keys_of_all (cells entries))) }
+    ensures keys { IfOk result (λ array. keyed_in array ≡ Some (keyed_in_turn (cells entries))) }
     ensures ok { OnOk result (made_refusals (dictionary_made data_type (made_array entries)) ≡ []) }
     ensures err { let refusals = made_refusals (dictionary_made data_type (made_array entries)) in
         IfErr result (IsRefusedBy refusals) }

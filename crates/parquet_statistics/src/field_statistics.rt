@@ -15,7 +15,8 @@ use columns_core::{Cell, DataType, Error, Field, Part};
 use parquet_meta::{Ends, RowGroupMetaData};
 use std::alloc::Global;
 
-/// The statistics of a field: a slot for each row group, of a map one slot in all.
+/// The statistics of a field: a slot for each row group, of a map one slot in all. Where the field is a dictionary, the ends have an entry for each slot,
+/// and the keys 0, 1, 2 and on.
 ///
 /// `InvalidArgumentError`, before all else and without memory, where a group has no column of the field's name, a struct in the type has no fields, or the
 /// fields of one come to different numbers of slots, as beside a map they may; `NotYetImplemented` where the field has not as many columns as its type,

@@ -27,7 +27,7 @@ pub use dyn_mutable::{
     DynMutable, DynMutableDictionary, DynMutableListArray, DynMutableMapArray,
     DynMutableStructArray,
 };
-pub use field_columns::{begins_with, has_column};
+pub use field_columns::has_column;
 pub use field_statistics::deserialize;
 pub use statistics::Statistics;
 pub use time_units::timestamp;

@@ -25,6 +25,7 @@ pub(crate) fn shape(
     ensures array { AreOfTypes (leaf_types data_type.now) columns.old.items → IfOk result (λ array.
         shaped data_type.now (map cells columns.old.items)
         ≡ Some (made.made_array array, map cells columns.new.items)) }
+    ensures keys { IfOk result (made.HasKeysInTurn data_type.now) }
     ensures rest { OnOk result
         (columns.new.items ≡ drop (length (leaf_types data_type.now)) columns.old.items) }
     ensures err { AreOfTypes (leaf_types data_type.now) columns.old.items
@@ -91,6 +92,7 @@ fn first_column(columns: &mut VecDeque<Array>) -> Result<Array, Error>
 fn dictionary_over(alloc: Global, data_type: &DataType, entries: Array) -> Result<Array, Error>
     ensures array { IfOk result (λ array.
         made.dictionary_made data_type.now (made.made_array entries) ≡ made.made_array array) }
+    ensures keys { IfOk result (made.HasKeysInTurn data_type.now) }
     ensures err { let all = made.dictionary_made data_type.now (made.made_array entries) in
         IfErr result (IsRefusedBy (made.made_refusals all)) }
 {

@@ -1,6 +1,6 @@
 //! A reader that moves over bytes in the compact protocol.
 
-ghost use Rattle.std.specs.Prelude.{◌≡◌, ◌+◌, ◌≤◌, length, drop, option_map};
+ghost use Rattle.std.specs.Prelude.{◌≡◌, ◌+◌, length, drop, option_map};
 ghost use Rattle.parquet_base.specs.Reading.{IsEnd};
 ghost use Rattle.parquet_thrift.specs.Cursor.{Cursor, Reads, Passes};
 ghost use Rattle.parquet_thrift.specs.Numbers.{signed, signed_byte, bytes_of_length};
@@ -39,7 +39,7 @@ impl<'a> Compact<'a> {
         }
     }
 
-    /// The place: how many bytes are behind it.
+    /// The place: how many bytes have been read.
     pub fn position(&self) -> usize
         ensures within { result + length self.now.rest ≡ length self.now.whole }
         ensures rest { drop result self.now.whole ≡ self.now.rest }

@@ -11,12 +11,12 @@ use Rattle.parquet_meta.specs.declared.metadata.ColumnChunkMetaData.{ColumnChunk
 use Rattle.parquet_meta.specs.declared.metadata.Place.{Place}
 use Rattle.parquet_meta.specs.declared.metadata.PrimitiveType.{PrimitiveType}
 use Rattle.parquet_meta.specs.declared.metadata.RowGroupMetaData.{RowGroupMetaData}
-use Rattle.parquet_page.specs.Chunk.{PlacedPage, pages_of_chunk, placed_pages}
+use Rattle.parquet_page.specs.Chunk.{PlacedPage, location_of_page, pages_of_chunk, placed_pages}
 use Rattle.flat_values.specs.Conversion.{Conversion}
 use Rattle.parquet_scan.specs.Causes.{begins_below, causes_of_data, causes_of_walk, given_causes, rows_held, walked_causes}
 use Rattle.parquet_scan.specs.Cells.{chunk_of, walked_item, walked_pages, walked_reading}
 use Rattle.parquet_scan.specs.Pages.{locations}
-use Rattle.parquet_scan.specs.Truth.{AreTrueCounts, AreTrueLocations, location_of_page}
+use Rattle.parquet_scan.specs.Truth.{AreTrueCounts, AreTrueLocations}
 use Rattle.parquet_plain.specs.Description.{PlainPage, locations_from, page_bytes, rows_of_pages}
 use Rattle.parquet_plain.specs.Fits.{FitsPage}
 use Rattle.parquet_plain.specs.Found.{chunk_page}

@@ -1,5 +1,6 @@
 use Rattle.std.proofs.Common.{◌≡◌, ◌∙◌, ap, subst, sym}
 use Rattle.std.proofs.lemmas.Result.{IfOk-weaker}
+use Rattle.parquet_meta.specs.Indexes.{type_of}
 use Rattle.parquet_page.specs.Content.{DataContent}
 use Rattle.parquet_page.specs.Lent.{Lent}
 use Rattle.page_decoding.specs.Column.{DataPagesAre}
@@ -12,4 +13,4 @@ returns c =
     let Q : Lent → Type 0 = λ lent. DataPagesAre P lent.pages in
     let type = c.column-column.result.descriptor.primitive_type in
     IfOk-weaker c.new.result _ _
-    (λ reader lends. subst Q (sym lends) (located_pages_are P type (λ page e. ap (λ t. t.physical_type) e ∙ c.column-column.ensures) _ _)) c.new.ensures.lends
+    (λ reader lends. subst Q (sym lends) (located_pages_are P type (λ page e. ap (λ t. t.physical_type) e ∙ ap type_of c.column-column.ensures) _ _)) c.new.ensures.lends

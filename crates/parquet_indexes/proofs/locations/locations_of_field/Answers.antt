@@ -13,7 +13,7 @@ returns-in_err-locations_of_column-clause-found g c =
     let columns = c.args.columns.now in
     let name = c.args.field.now.name in
     let others = item_and_others columns c.loop-column.column-index c.column-item.result c.loop-column-test.true c.column-item.is in
-    let named = of_the_field name _ _ c.column-item.result others (sym c.begins_with.ensures ∙ c.if-not-begins_with.false) in
+    let named = of_the_field name _ _ c.column-item.result others (sym (rw c.as_str.ensures at c.begins_with.ensures) ∙ c.if-not-begins_with.false) in
     let reading = rw named at c.loop-column.invariant.reading in
     let p = err_from_is_err_and c.from_residual.result c.from_residual.ensures.1 in
     rw (p.1, p.2)
@@ -27,7 +27,7 @@ loop-column-preserved g c =
     let columns = c.args.columns.now in
     let name = c.args.field.now.name in
     let others = item_and_others columns c.loop-column.column-index c.column-item.result c.loop-column-test.true c.column-item.is in
-    let named = of_the_field name _ _ c.column-item.result others (sym c.begins_with.ensures ∙ c.if-not-begins_with.false) in
+    let named = of_the_field name _ _ c.column-item.result others (sym (rw c.as_str.ensures at c.begins_with.ensures) ∙ c.if-not-begins_with.false) in
     let reading = rw named at c.loop-column.invariant.reading in
     let found = rw c.loop-column.invariant.keeps.same at c.in_ok-locations_of_column.ensures.found in
     record {

@@ -40,7 +40,8 @@ use Rattle.parquet_scan.proofs.CostLemmas.{just_told, lent_located, taken_locate
 use Rattle.parquet_scan.proofs.LocationLemmas.{selection_fails}
 use Rattle.parquet_scan.proofs.OpenedLemmas.{IsRead, IsSelected, before_causes, before_in, bodies_in, entries_shaped, locations_in, opened_by, read_count, read_fine, read_in, read_items, read_lent, read_tells, reading_of, told_causes, told_parts, within_opened}
 use Rattle.parquet_scan.proofs.PageLemmas.{both_if, both_ok, if_err, if_ok, ok_always, ok_if}
-use Rattle.parquet_scan.proofs.ScanLemmas.{fails_by_memory, fails_chunks, fails_more}
+use Rattle.parquet_meta.proofs.FailureLemmas.{fails_more}
+use Rattle.parquet_scan.proofs.ScanLemmas.{fails_by_memory, fails_chunks}
 use Rattle.parquet_scan.proofs.located.read_located.Goals as goal
 
 -- a page is wanted where a part of one was read

@@ -12,7 +12,7 @@ items column = column.items
 
 pub returns-clause-array : goal.returns-clause-array
 returns-clause-array c =
-    slots_made c.args.data_type.now (map items c.args.told.now) c.requires.slots (slot_of_end c.args.end) c.in_ok-arrays.arrays.items (c.in_ok-arrays.ensures.types ∙ c.requires.types) c.in_ok-arrays.ensures.cells c.shape.new.columns.items c.shape.result c.shape.ensures.array
+    slots_made c.args.data_type.now (map items c.args.told.now) c.requires.slots (slot_of_end c.args.end) c.in_ok-arrays.arrays.items (c.in_ok-arrays.ensures.types ∙ c.requires.types) c.in_ok-arrays.ensures.cells c.shape.new.columns.items c.shape.result c.shape.ensures.array c.shape.ensures.keys
 
 pub returns-clause-cause : goal.returns-clause-cause
 returns-clause-cause c =

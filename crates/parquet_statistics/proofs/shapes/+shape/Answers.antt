@@ -8,6 +8,7 @@ use Rattle.parquet_statistics.specs.Made.{dictionary_made, list_made, made_array
 use Rattle.parquet_statistics.specs.LeafTypes.{leaf_types}
 use Rattle.parquet_statistics.specs.Parts.{AreOfTypes, AreShapesRefused, shaped_each}
 use Rattle.parquet_statistics.proofs.ShapeLemmas.{on_ok}
+use Rattle.parquet_statistics.proofs.KeysInTurn.{keyless_large, keyless_list, keyless_map, keyless_struct, keyless_values}
 use Rattle.parquet_statistics.proofs.LayerLemmas.{inside_values, type_of_field, types_inside}
 use Rattle.parquet_statistics.proofs.ShapeSteps.{all_made, and_these, array_over, field_leads, field_refused, leads_fields, leads_first, leads_inside, left_fields, left_inside, next_leads, next_left, next_made, over_dictionary, over_large, over_list, over_map, refused_fields, refused_inside, refused_over, struct_array, struct_refused, these_none, values_array, values_left, values_refused}
 use Rattle.parquet_statistics.proofs.shapes.+shape.Goals as goal
@@ -24,6 +25,7 @@ shape-returns-in_ok-entries-in-Dictionary t c =
     let after = c.shape.new.columns.items in
     record {
       array = λ leads. array_over c.args.data_type.now c.get.result.now (dictionary_made c.args.data_type.now) over before after c.in_ok-entries-in-Dictionary.entries (c.in_ok-entries-in-Dictionary.ensures.array (leads_inside c.args.data_type.now c.get.result.now (dictionary_made c.args.data_type.now) over before after leads)) c.dictionary_over.result c.dictionary_over.ensures.array;
+      keys = c.dictionary_over.ensures.keys;
       rest = on_ok c.dictionary_over.result _ (left_inside c.args.data_type.now c.get.result.now (dictionary_made c.args.data_type.now) over before after c.in_ok-entries-in-Dictionary.ensures.rest);
       err = λ leads. refused_over c.args.data_type.now c.get.result.now (dictionary_made c.args.data_type.now) over before after c.in_ok-entries-in-Dictionary.entries (c.in_ok-entries-in-Dictionary.ensures.array (leads_inside c.args.data_type.now c.get.result.now (dictionary_made c.args.data_type.now) over before after leads)) c.dictionary_over.result c.dictionary_over.ensures.err;
     }
@@ -40,6 +42,7 @@ shape-returns-in_ok-items-in-List t c =
     let after = c.shape-in-List.new.columns.items in
     record {
       array = λ leads. array_over c.args.data_type.now c.get-in-List.result.now.data_type (list_made c.args.data_type.now) over before after c.in_ok-items-in-List.items (c.in_ok-items-in-List.ensures.array (leads_inside c.args.data_type.now c.get-in-List.result.now.data_type (list_made c.args.data_type.now) over before after leads)) c.lists_over.result c.lists_over.ensures.array;
+      keys = keyless_list c.args.data_type.now c.lists_over.result c.in-List.field c.in-List.is;
       rest = on_ok c.lists_over.result _ (left_inside c.args.data_type.now c.get-in-List.result.now.data_type (list_made c.args.data_type.now) over before after c.in_ok-items-in-List.ensures.rest);
       err = λ leads. refused_over c.args.data_type.now c.get-in-List.result.now.data_type (list_made c.args.data_type.now) over before after c.in_ok-items-in-List.items (c.in_ok-items-in-List.ensures.array (leads_inside c.args.data_type.now c.get-in-List.result.now.data_type (list_made c.args.data_type.now) over before after leads)) c.lists_over.result c.lists_over.ensures.err;
     }
@@ -56,6 +59,7 @@ shape-returns-in_ok-items-in-LargeList t c =
     let after = c.shape-in-LargeList.new.columns.items in
     record {
       array = λ leads. array_over c.args.data_type.now c.get-in-LargeList.result.now.data_type (list_made c.args.data_type.now) over before after c.in_ok-items-in-LargeList.items (c.in_ok-items-in-LargeList.ensures.array (leads_inside c.args.data_type.now c.get-in-LargeList.result.now.data_type (list_made c.args.data_type.now) over before after leads)) c.lists_over-in-LargeList.result c.lists_over-in-LargeList.ensures.array;
+      keys = keyless_large c.args.data_type.now c.lists_over-in-LargeList.result c.in-LargeList.field c.in-LargeList.is;
       rest = on_ok c.lists_over-in-LargeList.result _ (left_inside c.args.data_type.now c.get-in-LargeList.result.now.data_type (list_made c.args.data_type.now) over before after c.in_ok-items-in-LargeList.ensures.rest);
       err = λ leads. refused_over c.args.data_type.now c.get-in-LargeList.result.now.data_type (list_made c.args.data_type.now) over before after c.in_ok-items-in-LargeList.items (c.in_ok-items-in-LargeList.ensures.array (leads_inside c.args.data_type.now c.get-in-LargeList.result.now.data_type (list_made c.args.data_type.now) over before after leads)) c.lists_over-in-LargeList.result c.lists_over-in-LargeList.ensures.err;
     }
@@ -72,6 +76,7 @@ shape-returns-in_ok-pairs-in-Map t c =
     let after = c.shape-in-Map.new.columns.items in
     record {
       array = λ leads. array_over c.args.data_type.now c.get-in-Map.result.now.data_type (map_made c.args.data_type.now) over before after c.in_ok-pairs-in-Map.pairs (c.in_ok-pairs-in-Map.ensures.array (leads_inside c.args.data_type.now c.get-in-Map.result.now.data_type (map_made c.args.data_type.now) over before after leads)) c.map_over.result c.map_over.ensures.array;
+      keys = keyless_map c.args.data_type.now c.map_over.result c.in-Map.field _ c.in-Map.is;
       rest = on_ok c.map_over.result _ (left_inside c.args.data_type.now c.get-in-Map.result.now.data_type (map_made c.args.data_type.now) over before after c.in_ok-pairs-in-Map.ensures.rest);
       err = λ leads. refused_over c.args.data_type.now c.get-in-Map.result.now.data_type (map_made c.args.data_type.now) over before after c.in_ok-pairs-in-Map.pairs (c.in_ok-pairs-in-Map.ensures.array (leads_inside c.args.data_type.now c.get-in-Map.result.now.data_type (map_made c.args.data_type.now) over before after leads)) c.map_over.result c.map_over.ensures.err;
     }
@@ -90,6 +95,7 @@ shape-returns-in_ok-inside-in-Struct t c =
     let arrays = c.in_ok-inside-in-Struct.inside.items in
     record {
       array = λ leads. struct_array c.args.data_type.now own fields c.in-Struct.is c.as_slice.ensures before after arrays (c.in_ok-inside-in-Struct.ensures.arrays (leads_fields c.args.data_type.now own fields c.in-Struct.is c.as_slice.ensures before after leads)) c.struct_over.result c.struct_over.ensures.array;
+      keys = keyless_struct c.args.data_type.now c.struct_over.result fields c.in-Struct.is;
       rest = on_ok c.struct_over.result _ (left_fields c.args.data_type.now own fields c.in-Struct.is c.as_slice.ensures before after c.in_ok-inside-in-Struct.ensures.rest);
       err = λ leads. struct_refused c.args.data_type.now own fields c.in-Struct.is c.as_slice.ensures before after arrays (c.in_ok-inside-in-Struct.ensures.arrays (leads_fields c.args.data_type.now own fields c.in-Struct.is c.as_slice.ensures before after leads)) c.struct_over.result c.struct_over.ensures.err;
     }
@@ -101,6 +107,7 @@ shape-returns-in_default t c =
     let after = c.first_column.new.columns.items in
     record {
       array = λ leads. values_array c.args.data_type.now values before after c.first_column.result leads c.first_column.ensures.first;
+      keys = keyless_values c.args.data_type.now c.first_column.result values;
       rest = values_left c.args.data_type.now values before after c.first_column.result c.first_column.ensures.first;
       err = λ leads. values_refused c.args.data_type.now values before after c.first_column.result leads c.first_column.ensures.memory;
     }

@@ -3,7 +3,7 @@ use Rattle.std.specs.Prelude.{sum_by}
 use Rattle.std.proofs.lemmas.List.{take_all, take-append-le}
 use Rattle.columns_core.specs.Offsets.{last, parts}
 use Rattle.columns_core.proofs.PartLemmas.{parts-push, sum-parts}
-use Rattle.flat_builders.proofs.joined.JoinedStrings.push.Goals as goal
+use Rattle.columns_core.proofs.joined_strings.JoinedStrings.push.Goals as goal
 
 pub returns-in-Ok-clause-ok : goal.returns-in-Ok-clause-ok
 returns-in-Ok-clause-ok g c =

@@ -1,15 +1,15 @@
 //! Byte strings one behind another, that are appended one by one.
-ghost use Rattle.std.specs.Prelude.{◌≡◌, ◌⊎◌, ◌≤◌, ◌<◌, ◌+◌, ◌++◌, ◌∷◌, [], length, sum_by, IfOk, IfErr, OnOk};
+ghost use Rattle.std.specs.Prelude.{◌≡◌, ◌⊎◌, ◌≤◌, ◌<◌, ◌+◌, ◌++◌, ◌∷◌, [], Some, length, slice_get, sum_by, IfOk, IfErr, OnOk};
 ghost use Rattle.columns_core.specs.Causes.{IsWantOfMemory};
 ghost use Rattle.columns_core.specs.Offsets.{AreOffsets, last, parts};
 
-use columns_core::{Error, Offset, Offsets};
+use crate::{Error, Offset, Offsets};
 use std::alloc::Global;
 use std::marker::Model;
 
-/// Byte strings, and where each of them ends. Contracts see their list.
+/// Byte strings that share one piece of memory, and where each of them ends. Contracts see their list.
 #[derive(Drop)]
-pub(crate) struct JoinedStrings<O: Offset> {
+pub struct JoinedStrings<O: Offset> {
     offsets: Offsets<O>,
     values: Vec<u8>,
 }
@@ -27,7 +27,7 @@ impl<O: Offset> Model for JoinedStrings<O> {
 
 impl<O: Offset> JoinedStrings<O> {
     /// No strings, with memory for the ends of so many.
-    pub(crate) fn with_capacity(alloc: Global, capacity: usize) -> Result<Self, Error>
+    pub fn with_capacity(alloc: Global, capacity: usize) -> Result<Self, Error>
         ensures ok { IfOk result (λ joined. joined ≡ []) }
         ensures memory { IfErr result IsWantOfMemory }
     {
@@ -39,8 +39,24 @@ impl<O: Offset> JoinedStrings<O> {
         })
     }
 
+    /// How many strings there are.
+    pub fn len(&self) -> usize
+        ensures { result ≡ length self.now }
+    {
+        self.offsets.len_proxy()
+    }
+
+    /// The string at a place.
+    pub fn value(&self, i: usize) -> &[u8]
+        requires { i < length self.now }
+        ensures { slice_get self.now i ≡ Some result.now }
+    {
+        let (start, end) = self.offsets.start_end(i);
+        &self.values[start..end]
+    }
+
     /// One string more, unless the bytes of all pass the offset type.
-    pub(crate) fn push(&mut self, string: &[u8]) -> Result<(), Error>
+    pub fn push(&mut self, string: &[u8]) -> Result<(), Error>
         ensures ok { OnOk result (self.new ≡ self.old ++ string.now ∷ []) }
         ensures fits { OnOk result (sum_by length self.old + length string.now ≤ O.greatest) }
         ensures err { let sum = sum_by length self.old + length string.now in
@@ -59,7 +75,7 @@ impl<O: Offset> JoinedStrings<O> {
     }
 
     /// Where the strings begin and the last ends, and their bytes.
-    pub(crate) fn into_parts(self) -> (Offsets<O>, Vec<u8>)
+    pub fn into_parts(self) -> (Offsets<O>, Vec<u8>)
         ensures parts { parts result.0 result.1.items ≡ self }
         ensures end { last result.0 ≡ length result.1.items }
     {

@@ -6,7 +6,7 @@ use Rattle.parquet_meta.specs.Indexes.{FindsIndexes, field_columns}
 use Rattle.parquet_meta.specs.declared.metadata.Index.{Index}
 use Rattle.parquet_scan.proofs.IndexLemmas.{finds_one, gives_one, gives_some, refuses_one}
 use Rattle.parquet_scan.proofs.LocationLemmas.{none_of}
-use Rattle.parquet_scan.proofs.page_ends.find_index.Goals as goal
+use Rattle.parquet_scan.proofs.page_ends.read_index.Goals as goal
 
 pub returns-in_err-indexes-clause-found : goal.returns-in_err-indexes-clause-found
 returns-in_err-indexes-clause-found g c =
