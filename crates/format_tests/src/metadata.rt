@@ -2,8 +2,8 @@
 use crate::written::{MAGIC, Written};
 use columns_core::{Error, Part};
 use parquet_meta::{
-    Failed, FailingSource, FileSource, MemorySource, Place, RawStatistics, Source, read_exact_at,
-    read_metadata, read_range,
+    ColumnChunkMetaData, Failed, FailingSource, FileSource, MemorySource, Place, RawStatistics,
+    Source, read_exact_at, read_metadata, read_range,
 };
 use parquet_thrift::{BINARY, I32, STRUCT};
 use std::alloc::{AllocError, Global};
@@ -122,6 +122,31 @@ fn outcome_with(alloc: Global, place: usize, value: u8) -> Result<u8, Fail> {
     Ok(outcome(alloc, &mut MemorySource::new(bytes)))
 }
 
+/// What metadata tells of a chunk of numbers of 32 bits: whether its column is flat, how many values there are and where they stand; its counts; and the
+/// count of nulls and the ends of its statistics.
+type Told = (
+    bool,
+    u64,
+    (u64, u64),
+    (Option<u64>, Option<u64>),
+    (Option<u64>, Option<i32>, Option<i32>),
+);
+
+fn told_of(alloc: Global, column: &ColumnChunkMetaData) -> Told {
+    let counts = column.counts().unwrap_or((None, None));
+    let ends = match column.statistics(alloc) {
+        Ok(Some(RawStatistics::Int32(ends))) => (ends.null_count, ends.min_value, ends.max_value),
+        _ => (None, None, None),
+    };
+    (
+        column.descriptor().flat,
+        column.num_values(),
+        column.byte_range(),
+        counts,
+        ends,
+    )
+}
+
 #[test]
 fn reads_the_metadata_of_one_group(rt: HostRuntime) -> Result<(), Fail> {
     let file = one_group(rt.alloc())?;
@@ -135,16 +160,17 @@ fn reads_the_metadata_of_one_group(rt: HostRuntime) -> Result<(), Fail> {
     for group in metadata.row_groups.as_slice() {
         assert_eq!(rt; group.num_rows(), 5);
         for column in group.columns() {
-            assert!(rt; column.descriptor().flat);
-            assert_eq!(rt; column.num_values(), 5);
-            assert_eq!(rt; column.byte_range(), (4, 37));
-            assert!(rt; matches!(column.counts(), Ok((Some(0), None))));
-            let Ok(Some(RawStatistics::Int32(ends))) = column.statistics(rt.alloc()) else {
-                return Err(Fail::from("no statistics"));
-            };
-            assert_eq!(rt; ends.null_count, Some(0));
-            assert_eq!(rt; ends.min_value, Some(10));
-            assert_eq!(rt; ends.max_value, Some(20));
+            let told = told_of(rt.alloc(), column);
+            assert_eq!(rt;
+                told,
+                (
+                    true,
+                    5,
+                    (4, 37),
+                    (Some(0), None),
+                    (Some(0), Some(10), Some(20))
+                )
+            );
         }
     }
     let mut empty = MemorySource::new(no_groups(rt.alloc())?);

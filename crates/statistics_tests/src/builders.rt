@@ -60,30 +60,36 @@ fn lengths_of_structs(rt: HostRuntime) -> Result<(), Fail> {
     Ok(())
 }
 
+/// Why there is no builder of a type.
+fn refusal(alloc: Global, data_type: DataType) -> Option<Error> {
+    DynMutable::try_with_capacity(alloc, data_type, 0).err()
+}
+
 #[test]
 fn types_that_are_refused(rt: HostRuntime) -> Result<(), Fail> {
     let alloc = rt.alloc();
-    let none = DataType::Struct(Seq::new(Vec::new(alloc)));
-    let refused = DynMutable::try_with_capacity(alloc, none, 0);
-    assert!(rt; matches!(refused, Err(Error::InvalidArgumentError(_))));
-    let sizeless = list_of(alloc, DataType::FixedSizeBinary(0))?;
-    let refused = DynMutable::try_with_capacity(alloc, sizeless, 0);
-    assert!(rt; matches!(refused, Err(Error::NotYetImplemented(_))));
+    let none = refusal(alloc, DataType::Struct(Seq::new(Vec::new(alloc))));
+    let sizeless = refusal(alloc, list_of(alloc, DataType::FixedSizeBinary(0))?);
+    assert!(rt; matches!(none, Some(Error::InvalidArgumentError(_))));
+    assert!(rt; matches!(sizeless, Some(Error::NotYetImplemented(_))));
     Ok(())
 }
 
 #[test]
 fn cells_of_a_flat_builder(rt: HostRuntime) -> Result<(), Fail> {
     let mut flat = DynMutable::try_with_capacity(rt.alloc(), DataType::Int8, 1)?;
-    flat.push_cell(&Cell::Int(-128))?;
-    assert!(rt;
-        matches!(
-            flat.push_cell(&Cell::Int(128)),
-            Err(Error::InvalidArgumentError(_))
-        )
-    );
-    assert_eq!(rt; flat.len(), 1);
+    let least = pushed(&mut flat, &Cell::Int(-128));
+    let past = pushed(&mut flat, &Cell::Int(128));
+    drop(flat);
+    assert!(rt; matches!(least, (Ok(()), 1)));
+    assert!(rt; matches!(past, (Err(Error::InvalidArgumentError(_)), 1)));
     Ok(())
+}
+
+/// Whether a cell was appended, and how many there are then.
+fn pushed(builder: &mut DynMutable, cell: &Cell) -> (Result<(), Error>, usize) {
+    let appended = builder.push_cell(cell);
+    (appended, builder.len())
 }
 
 #[test]
