@@ -74,8 +74,8 @@ def bound(path, low, high):
         index = Compact(data[chunk[6] : chunk[6] + chunk[7]]).value(12)
         ends = [[struct.unpack("<i", end)[0] for end in index[i]] for i in (2, 3)]
         kept = [page for page, least, greatest in zip(pages, *ends) if low <= greatest and least <= high]
-        # (the locations are read for the rows that are kept, and again for the pages; what stands before the first page, too)
-        most += 2 * chunk[5] + chunk[7] + sum(page[2] for page in kept) + pages[0][1] - min(meta[9], meta.get(11, meta[9]))
+        # (what stands before the first page is read, too)
+        most += chunk[5] + chunk[7] + sum(page[2] for page in kept) + pages[0][1] - min(meta[9], meta.get(11, meta[9]))
     return most
 
 

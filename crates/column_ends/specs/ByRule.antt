@@ -1,13 +1,14 @@
 -- What ends become by a rule of the code, and what is wrong with them.
-use Rattle.std.specs.Prelude.{List, map, flat_map, Option}
+use Rattle.std.specs.Prelude.{List, ◌++◌, map, flat_map, Option}
 use Rattle.columns_core.specs.Causes.{Cause}
 use Rattle.columns_core.specs.declared.cell.Cell.{Cell}
+use Rattle.columns_core.specs.declared.data_type.DataType.{DataType}
 use Rattle.parquet_meta.specs.declared.metadata.Ends.{Ends}
 use Rattle.parquet_meta.specs.declared.metadata.PageIndex.{PageIndex}
 use Rattle.parquet_page.specs.Stored.{Stored}
 use Rattle.flat_values.specs.Conversion.{Item, convert}
 use Rattle.column_ends.specs.declared.rules.ValueRule.{ValueRule}
-use Rattle.column_ends.specs.Converted.{causes_of_ends, causes_of_page, cell_ends, cell_page, end_causes, end_cell, stored_causes}
+use Rattle.column_ends.specs.Converted.{causes_of_ends, causes_of_page, cell_ends, cell_page, end_causes, end_cell, page_array_causes, stored_causes}
 use Rattle.column_ends.specs.Rules.{physical_of, value_conversion}
 
 abbrev pub item_by : ValueRule → Stored → Item
@@ -42,3 +43,7 @@ each_by rule pages = map (page_by rule) pages
 
 abbrev pub each_causes_by : ValueRule → List (PageIndex Stored) → List Cause
 each_causes_by rule pages = flat_map (page_causes_by rule) pages
+
+-- each alone, and all of them in arrays of a type
+abbrev pub all_causes_by : ValueRule → DataType → List (PageIndex Stored) → List Cause
+all_causes_by rule data_type pages = each_causes_by rule pages ++ page_array_causes data_type (each_by rule pages)

@@ -1,5 +1,6 @@
 -- The ends of groups and of pages as values of a type, and what is wrong with them.
 use Rattle.std.specs.Prelude.{ℕ, List, [], ◌∷◌, ◌++◌, flat_map, map, sum_by, is_some, Option, Some, None, option_and_then, option_map, if◌then◌else◌}
+use Rattle.std.specs.List.{enumerate_from}
 use Rattle.std.specs.Option.{option_map_or}
 use Rattle.columns_core.specs.Causes.{Cause, ExternalFormat, NotYetImplemented, OutOfSpec, Overflow, unless}
 use Rattle.columns_core.specs.declared.cell.Cell.{Cell}
@@ -93,6 +94,10 @@ cell_page rule page = record { min = end_cell rule page.min; max = end_cell rule
 -- what a column index tells, in a type; without a cause
 abbrev pub index_cells : PrimitiveType → DataType → Index → Option (List (PageIndex Cell))
 index_cells stored data_type index = option_map (λ rule. map (cell_page rule) (stored_pages index)) (index_rule stored data_type)
+
+-- what is made of each page, with its number
+abbrev pub each_made : {T : Type 0} → (ℕ × PageIndex Cell → T) → List (PageIndex Cell) → List T
+each_made make pages = map make (enumerate_from 0 pages)
 
 -- A count that is told is not negative, and each end is a value.
 abbrev pub causes_of_page : PhysicalType → Conversion → PageIndex Stored → List Cause

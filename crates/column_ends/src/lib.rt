@@ -11,7 +11,7 @@ mod value;
 
 pub use bytes::{EndBytes, most_bytes, value_type};
 pub use groups::statistics_ends;
-pub use pages::index_ends;
+pub use pages::{FromEnds, index_each, index_ends};
 pub use rules::{
     BytesRule, EndRule, FixedRule, Int32Rule, Int64Rule, Int96Rule, ValueRule, index_rule,
     statistics_rule,

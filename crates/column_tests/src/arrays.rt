@@ -85,7 +85,7 @@ pub(crate) fn located_pages(
     let (repetition, num_values, pages) = stored;
     let locations = locations_of(alloc, places)?;
     let selected = select_pages(alloc, &[rows], &locations, 4)?;
-    let column = column(alloc, physical, repetition, num_values);
+    let column = column(physical, repetition, num_values);
     IndexedPageReader::new(alloc, chunk_of(alloc, pages)?, &column, selected)
 }
 
@@ -638,7 +638,7 @@ fn two_pages(alloc: Global) -> Result<IndexedPageReader, Error> {
     let locations = locations_of(alloc, &[(0, 9, 0), (9, 9, 100)])?;
     let pages = select_pages(alloc, &rows, &locations, 200)?;
     let chunk = vec![in alloc; 0; 18]?;
-    let column = column(alloc, PhysicalType::Int32, Repetition::Optional, 4);
+    let column = column(PhysicalType::Int32, Repetition::Optional, 4);
     IndexedPageReader::new(alloc, chunk, &column, pages)
 }
 

@@ -3,10 +3,11 @@ ghost use Rattle.std.specs.Prelude.{◌≡◌, ◌<◌, IfOk, IsSome};
 ghost use Rattle.parquet_page.specs.Content.{data_content};
 ghost use Rattle.parquet_page.specs.ValidityLeft.{optional_left};
 
-use columns_core::{Error, Part, Seq};
+use columns_core::{Error, Part};
 use parquet_base::Steps;
 use parquet_meta::{
-    ColumnChunkMetaData, ColumnDescriptor, PageLocation, PhysicalType, PrimitiveType, Repetition,
+    ColumnChunkMetaData, ColumnDescriptor, ColumnPath, PageLocation, PhysicalType, PrimitiveType,
+    Repetition,
 };
 use parquet_page::{
     DataPage, DataPageHeader, IndexedPageReader, Interval, OptionalPageValidity, PageReader, Pages,
@@ -44,10 +45,10 @@ fn page(offset: i64, first_row_index: i64) -> PageLocation {
     }
 }
 
-fn column(alloc: Global, repetition: Repetition) -> ColumnChunkMetaData {
+fn column(repetition: Repetition) -> ColumnChunkMetaData {
     ColumnChunkMetaData {
         descriptor: ColumnDescriptor {
-            path_in_schema: Seq::new(Vec::new(alloc)),
+            path_in_schema: ColumnPath::empty(),
             primitive_type: PrimitiveType {
                 physical_type: PhysicalType::Int32,
                 logical_type: None,
@@ -151,9 +152,7 @@ fn refused_selections(rt: HostRuntime) {
 fn parts_of_a_body(rt: HostRuntime) -> Result<(), Fail> {
     let alloc = rt.alloc();
     let body = [2, 0, 0, 0, 3, 13, 7, 0, 0, 0];
-    let optional = column(alloc, Repetition::Optional)
-        .descriptor
-        .primitive_type;
+    let optional = column(Repetition::Optional).descriptor.primitive_type;
     let v1 = DataPage {
         header: DataPageHeader::V1 {
             num_values: 4,
@@ -213,9 +212,7 @@ pub(crate) fn run_of(part: Option<ValidityPart>) -> Option<Run> {
 #[test]
 fn parts_of_a_page(rt: HostRuntime) -> Result<(), Fail> {
     let alloc = rt.alloc();
-    let optional = column(alloc, Repetition::Optional)
-        .descriptor
-        .primitive_type;
+    let optional = column(Repetition::Optional).descriptor.primitive_type;
     // Forty levels in one packed run.
     let mixed = DataPage {
         header: DataPageHeader::V1 {
@@ -267,7 +264,7 @@ fn runs_of_a_word(rt: HostRuntime) {
 #[test]
 fn readers_before_their_first_page(rt: HostRuntime) -> Result<(), Fail> {
     let alloc = rt.alloc();
-    let required = column(alloc, Repetition::Required);
+    let required = column(Repetition::Required);
     let reader = PageReader::new(alloc, Vec::new(alloc), &required)?;
     assert_eq!(rt; (reader.rows(), reader.lent()), (4, 0));
     let pages = select_pages(alloc, &[run(5, 10)], &[page(0, 0), page(9, 10)], 30)?;
@@ -311,7 +308,7 @@ fn pages_lent<L: Ledger>(
     requires whole { 0 < blank.parts }
 {
     let mut steps = Steps::<L>::new(blank);
-    let mut reader = PageReader::new(alloc, chunk, &column(alloc, Repetition::Required))?;
+    let mut reader = PageReader::new(alloc, chunk, &column(Repetition::Required))?;
     for _ in 0..4 {
         match reader.next(&mut steps) {
             Ok(Some(_)) => {}

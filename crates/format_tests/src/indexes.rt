@@ -1,10 +1,10 @@
 //! Page headers, and the indexes of pages.
 use crate::written::Written;
-use columns_core::{Error, Name, Seq};
+use columns_core::{Error, Name};
 use parquet_meta::{
-    ColumnChunkMetaData, ColumnDescriptor, DataPageHeader, Index, MemorySource, PageHeader,
-    PageKind, PageLocation, PhysicalType, Place, PrimitiveType, Repetition, get_field_columns,
-    get_field_pages, page_header_at, read_pages_locations, read_raw_indexes,
+    ColumnChunkMetaData, ColumnDescriptor, ColumnPath, DataPageHeader, Index, MemorySource,
+    PageHeader, PageKind, PageLocation, PhysicalType, Place, PrimitiveType, Repetition,
+    get_field_columns, get_field_pages, page_header_at, read_pages_locations, read_raw_indexes,
 };
 use parquet_thrift::{BINARY, FALSE, STRUCT, TRUE, Unspelled};
 use std::alloc::{AllocError, Global};
@@ -38,7 +38,7 @@ fn column(
     };
     Ok(ColumnChunkMetaData {
         descriptor: ColumnDescriptor {
-            path_in_schema: Seq::new(path),
+            path_in_schema: ColumnPath::new(alloc, path)?,
             primitive_type,
             flat: true,
         },

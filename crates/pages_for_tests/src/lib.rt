@@ -10,10 +10,10 @@ ghost use Rattle.parquet_page.specs.Reader.{reader_lent, reader_pages};
 
 mod page;
 
-use columns_core::{Error, Seq};
+use columns_core::Error;
 pub use page::Page;
 use parquet_meta::{
-    ColumnChunkMetaData, ColumnDescriptor, PhysicalType, PrimitiveType, Repetition,
+    ColumnChunkMetaData, ColumnDescriptor, ColumnPath, PhysicalType, PrimitiveType, Repetition,
 };
 use parquet_page::PageReader;
 use std::alloc::{AllocError, Global};
@@ -36,7 +36,7 @@ pub fn pages_of(
     ensures ordered { IfOk result (λ reader. has_data_behind (reader_pages reader) ≡ true) }
 {
     let (repetition, num_values, pages) = stored;
-    let column = column(alloc, physical, repetition, num_values);
+    let column = column(physical, repetition, num_values);
     PageReader::new(alloc, chunk_of(alloc, pages)?, &column)
 }
 
@@ -108,7 +108,6 @@ fn size_of(levels: &[u8], values: &[u8]) -> u8
 
 /// A column of so many values.
 pub fn column(
-    alloc: Global,
     physical_type: PhysicalType,
     repetition: Repetition,
     num_values: u64,
@@ -117,7 +116,7 @@ pub fn column(
 {
     ColumnChunkMetaData {
         descriptor: ColumnDescriptor {
-            path_in_schema: Seq::new(Vec::new(alloc)),
+            path_in_schema: ColumnPath::empty(),
             primitive_type: PrimitiveType {
                 physical_type,
                 logical_type: None,

@@ -4,13 +4,13 @@ ghost use Rattle.std.specs.Prelude.{◌≡◌, ◌++◌, ◌∷◌, [], IfErr, I
 ghost use Rattle.parquet_meta.specs.Unplaced.{chunk_in, chunks_in};
 ghost use Rattle.parquet_meta.specs.declared.fault.Fault.TheVariants as faults;
 
+use crate::ColumnPath;
 use crate::code::TypeCode;
 use crate::fault::Fault;
 use crate::footer::{ChunkMetaData, ChunkNumbers, ColumnChunk};
 use crate::metadata::{
     ColumnChunkMetaData, ColumnDescriptor, PhysicalType, PrimitiveType, Repetition,
 };
-use columns_core::Seq;
 use std::alloc::Global;
 use std::marker::Model;
 
@@ -46,9 +46,9 @@ impl Model for Chunks {
 }
 
 /// The descriptor of no leaf.
-fn no_leaf(alloc: Global) -> ColumnDescriptor {
+fn no_leaf() -> ColumnDescriptor {
     ColumnDescriptor {
-        path_in_schema: Seq::new(Vec::new(alloc)),
+        path_in_schema: ColumnPath::empty(),
         primitive_type: PrimitiveType {
             physical_type: PhysicalType::Boolean,
             logical_type: None,
@@ -59,7 +59,7 @@ fn no_leaf(alloc: Global) -> ColumnDescriptor {
 }
 
 /// The column that a chunk will be, and the type that it tells.
-fn without_leaf(alloc: Global, chunk: ColumnChunk) -> (ColumnChunkMetaData, Option<TypeCode>)
+fn without_leaf(chunk: ColumnChunk) -> (ColumnChunkMetaData, Option<TypeCode>)
     ensures { chunk_in result.0 result.1 ≡ chunk }
 {
     let ColumnChunk {
@@ -75,7 +75,7 @@ fn without_leaf(alloc: Global, chunk: ColumnChunk) -> (ColumnChunkMetaData, Opti
         None => (None, NO_NUMBERS),
     };
     let column = ColumnChunkMetaData {
-        descriptor: no_leaf(alloc),
+        descriptor: no_leaf(),
         codec: numbers.codec,
         num_values: numbers.num_values,
         total_compressed_size: numbers.total_compressed_size,
@@ -101,13 +101,13 @@ impl Chunks {
         Ok(Chunks { columns, types })
     }
 
-    pub(crate) fn push(&mut self, alloc: Global, chunk: ColumnChunk) -> Result<(), Fault>
+    pub(crate) fn push(&mut self, chunk: ColumnChunk) -> Result<(), Fault>
         ensures pushed { OnOk result (self.new ≡ self.old ++ chunk ∷ []) }
         ensures memory { IfErr result (λ e. e ≡ faults.OutOfMemory) }
     {
         self.columns.reserve(1)?;
         self.types.reserve(1)?;
-        let (column, told) = without_leaf(alloc, chunk);
+        let (column, told) = without_leaf(chunk);
         self.columns.push_reserved(column);
         self.types.push_reserved(told);
         Ok(())

@@ -5,6 +5,7 @@ ghost use Rattle.parquet_thrift.specs.Values.{Context, in_struct};
 ghost use Rattle.parquet_meta.specs.Fault.{ReadsOr, MakesOr};
 ghost use Rattle.parquet_meta.specs.Meaning.{Rule, by_rule, elements_by_rule, i32, i64, byte_string, name, text_of, list_of, struct_of, made, unknown, truth_value};
 
+use crate::ShortBytes;
 use crate::fault::{Fault, Memory};
 use crate::structure::{Structure, read_fields};
 use columns_core::{Name, Seq};
@@ -60,12 +61,12 @@ pub(crate) fn decode_bytes<'a>(kind: u8, compact: &mut Compact<'a>) -> Result<&'
     Ok(compact.read_binary()?)
 }
 
-impl Decode<Global> for Seq<u8> {
+impl Decode<Global> for ShortBytes {
     ghost rule = { byte_string };
 
-    fn decode(alloc: Global, kind: u8, compact: &mut Compact<'_>) -> Result<Seq<u8>, Fault> {
+    fn decode(alloc: Global, kind: u8, compact: &mut Compact<'_>) -> Result<ShortBytes, Fault> {
         let bytes = decode_bytes(kind, compact)?;
-        Ok(Seq::new(Vec::from_slice(alloc, bytes)?))
+        Ok(ShortBytes::from_slice(alloc, bytes)?)
     }
 }
 

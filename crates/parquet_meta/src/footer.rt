@@ -7,6 +7,7 @@ ghost use Rattle.parquet_meta.specs.Footer.{column_chunk, file_meta_data, is_for
 ghost use Rattle.parquet_meta.specs.Front.{value_in};
 ghost use Rattle.parquet_meta.specs.Meaning.{by_rule, elements_by_rule};
 
+use crate::ShortBytes;
 use crate::chunks::Chunks;
 use crate::code::TypeCode;
 use crate::decode::{
@@ -65,7 +66,7 @@ pub(crate) struct ColumnChunk {
 
 #[derive(Drop)]
 pub(crate) struct ColumnChunkFields {
-    pub file_path: Option<Seq<u8>>,
+    pub file_path: Option<ShortBytes>,
     pub meta_data: Option<ChunkMetaData>,
     pub offset_index_offset: Option<u64>,
     pub offset_index_length: Option<u32>,
@@ -219,7 +220,7 @@ fn place_of(offset: Option<u64>, length: Option<u32>) -> Option<Place>
 }
 
 /// The chunk stands in another file.
-fn is_foreign(file_path: &Option<Seq<u8>>) -> bool
+fn is_foreign(file_path: &Option<ShortBytes>) -> bool
     ensures { result ≡ is_foreign file_path.now }
 {
     match file_path {
@@ -295,7 +296,7 @@ fn decode_chunks(
     let mut chunks = Chunks::with_capacity(alloc, count.min(MOST_RESERVED))?;
     'chunks: for _ in 0..count {
         let chunk = ColumnChunk::decode(alloc, kind, compact)?;
-        chunks.push(alloc, chunk)?;
+        chunks.push(chunk)?;
     }
     Ok(chunks)
 }

@@ -57,7 +57,6 @@ fn forget_numbers(column: &mut ColumnChunkMetaData)
 
 /// Puts a column beside its leaf, whose type it tells, if it says anything of itself.
 fn put_beside(
-    alloc: Global,
     leaf: &ColumnDescriptor,
     told: Option<TypeCode>,
     column: &mut ColumnChunkMetaData,
@@ -74,13 +73,12 @@ fn put_beside(
         }
         None => forget_numbers(column),
     }
-    column.descriptor = copy_of_leaf(alloc, leaf)?;
+    column.descriptor = copy_of_leaf(leaf)?;
     Ok(())
 }
 
 /// As many chunks as leaves, in their order. They stay where they are.
 fn columns_of(
-    alloc: Global,
     leaves: &[ColumnDescriptor],
     chunks: Chunks,
 ) -> Result<Seq<ColumnChunkMetaData>, Fault>
@@ -91,21 +89,17 @@ fn columns_of(
         return Err(Fault::Unspelled);
     }
     'leaves: for index in 0..leaves.len() {
-        put_beside(alloc, &leaves[index], types[index], &mut columns[index])?;
+        put_beside(&leaves[index], types[index], &mut columns[index])?;
     }
     Ok(Seq::new(columns))
 }
 
-fn group_of(
-    alloc: Global,
-    leaves: &[ColumnDescriptor],
-    group: RowGroup,
-) -> Result<RowGroupMetaData, Fault>
+fn group_of(leaves: &[ColumnDescriptor], group: RowGroup) -> Result<RowGroupMetaData, Fault>
     ensures { MakesOr true result (group_of leaves.now group) }
 {
     let RowGroup { columns, num_rows } = group;
     Ok(RowGroupMetaData {
-        columns: columns_of(alloc, leaves, columns)?,
+        columns: columns_of(leaves, columns)?,
         num_rows: num_rows as usize,
     })
 }
@@ -119,7 +113,7 @@ fn groups_of(
 {
     let mut found = Vec::with_capacity(alloc, groups.len())?;
     'groups: for group in groups {
-        found.push(group_of(alloc, leaves, group)?)?;
+        found.push(group_of(leaves, group)?)?;
     }
     Ok(Seq::new(found))
 }

@@ -5,6 +5,7 @@ mod chunk;
 mod chunks;
 mod code;
 mod column_index;
+mod column_path;
 mod decode;
 mod exact;
 mod failing_source;
@@ -23,6 +24,7 @@ mod page_header;
 mod page_index;
 mod read;
 mod schema;
+mod short_bytes;
 mod source;
 mod statistics;
 mod stored_end;
@@ -30,6 +32,7 @@ mod structure;
 mod tree;
 mod typed_statistics;
 
+pub use column_path::ColumnPath;
 pub use exact::{read_exact_at, read_range};
 pub use failing_source::FailingSource;
 pub use fields::{begins_with, get_field_columns, get_field_pages};
@@ -46,4 +49,5 @@ pub use page_header::{
     page_headers_are_read_from_their_own_bytes,
 };
 pub use read::read_metadata;
+pub use short_bytes::ShortBytes;
 pub use source::{Failed, Source};

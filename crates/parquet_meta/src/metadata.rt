@@ -1,6 +1,7 @@
 //! What a file says of itself: its columns, its row groups, their chunks, statistics and indexes.
 
-use columns_core::{Name, Seq};
+use crate::{ColumnPath, ShortBytes};
+use columns_core::Seq;
 
 /// How the values of a column are stored (`Type` of the format).
 #[derive(Clone, Copy, Debug, PartialEq, Eq)]
@@ -57,7 +58,7 @@ pub struct PrimitiveType {
 /// A leaf of the schema: the names below the root, and what is stored.
 #[derive(Drop)]
 pub struct ColumnDescriptor {
-    pub path_in_schema: Seq<Name>,
+    pub path_in_schema: ColumnPath,
     pub primitive_type: PrimitiveType,
     /// The path is one name, and the column is not repeated.
     pub flat: bool,
@@ -75,8 +76,8 @@ pub struct Place {
 pub struct StatisticsBytes {
     pub null_count: Option<i64>,
     pub distinct_count: Option<i64>,
-    pub max_value: Option<Seq<u8>>,
-    pub min_value: Option<Seq<u8>>,
+    pub max_value: Option<ShortBytes>,
+    pub min_value: Option<ShortBytes>,
 }
 
 /// The values of a column in a row group.

@@ -70,7 +70,7 @@ fn page_indexes<F: EndForm<T>, T: Drop>(
     ensures { MakesOr true result (page_indexes (F.end form.now) index.now) }
 {
     let null_pages = index.null_pages.as_slice();
-    let mut pages = Vec::new(alloc);
+    let mut pages = Vec::with_capacity(alloc, null_pages.len())?;
     for (page, is_null) in null_pages.iter().enumerate() {
         let min = index.min_values.value(page);
         let max = index.max_values.value(page);

@@ -6,6 +6,7 @@ ghost use Rattle.parquet_meta.specs.Fault.{MakesOr};
 ghost use Rattle.parquet_meta.specs.OpenGroups.{next_element, path_of};
 ghost use Rattle.parquet_meta.specs.Tree.{children_of, is_flat, leaf_of, leaves, leaves_below, physical_type_of};
 
+use crate::ColumnPath;
 use crate::code::TypeCode;
 use crate::fault::Fault;
 use crate::metadata::{ColumnDescriptor, PhysicalType, PrimitiveType, Repetition};
@@ -66,26 +67,19 @@ fn copy_of(alloc: Global, name: &Name) -> Result<Name, Fault>
     Ok(Name::new(String::from_str(alloc, name.as_str())?))
 }
 
-pub(crate) fn copy_of_leaf(
-    alloc: Global,
-    leaf: &ColumnDescriptor,
-) -> Result<ColumnDescriptor, Fault>
+/// The leaf once more. The path is not copied.
+pub(crate) fn copy_of_leaf(leaf: &ColumnDescriptor) -> Result<ColumnDescriptor, Fault>
     ensures { MakesOr true result (Some leaf.now) }
 {
-    let names = leaf.path_in_schema.as_slice();
-    let mut path = Vec::with_capacity(alloc, names.len())?;
-    'names: for name in names {
-        path.push(copy_of(alloc, name)?)?;
-    }
     Ok(ColumnDescriptor {
-        path_in_schema: Seq::new(path),
+        path_in_schema: leaf.path_in_schema.try_clone()?,
         primitive_type: leaf.primitive_type,
         flat: leaf.flat,
     })
 }
 
 /// The names of the open groups, and one more.
-fn path_to(alloc: Global, groups: &[OpenGroup<'_>], name: &Name) -> Result<Seq<Name>, Fault>
+fn path_to(alloc: Global, groups: &[OpenGroup<'_>], name: &Name) -> Result<ColumnPath, Fault>
     ensures { MakesOr true result (Some (path_of groups.now ++ name.now ∷ [])) }
 {
     let mut path = Vec::new(alloc);
@@ -95,7 +89,7 @@ fn path_to(alloc: Global, groups: &[OpenGroup<'_>], name: &Name) -> Result<Seq<N
         }
     }
     path.push(copy_of(alloc, name)?)?;
-    Ok(Seq::new(path))
+    Ok(ColumnPath::new(alloc, path)?)
 }
 
 /// A leaf below the open groups.

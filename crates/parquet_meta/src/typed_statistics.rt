@@ -4,12 +4,12 @@ ghost use Rattle.std.specs.Prelude.{◌≡◌, true, false};
 ghost use Rattle.parquet_meta.specs.Fault.{MakesOr};
 ghost use Rattle.parquet_meta.specs.TypedStatistics.{counts_in, ends_by, is_carried, known_count, known_end, typed_statistics};
 
+use crate::ShortBytes;
 use crate::fault::Fault;
 use crate::metadata::{Ends, PhysicalType, RawStatistics, StatisticsBytes};
 use crate::stored_end::{
     BooleanForm, BytesForm, EndForm, FixedForm, Int32Form, Int64Form, Int96Form,
 };
-use columns_core::Seq;
 use std::alloc::Global;
 
 pub(crate) fn is_carried(physical_type: PhysicalType) -> bool
@@ -42,7 +42,7 @@ pub(crate) fn known_counts(stored: &StatisticsBytes) -> Result<(Option<u64>, Opt
 fn known_end<T, F: EndForm<T>>(
     alloc: Global,
     form: &F,
-    bytes: &Option<Seq<u8>>,
+    bytes: &Option<ShortBytes>,
 ) -> Result<Option<T>, Fault>
     ensures { MakesOr true result (known_end (F.end form.now) bytes.now) }
 {

@@ -21,7 +21,7 @@ pub fn page_row_intervals(
         page_intervals locations.now num_rows ≡ Some intervals.items) }
     ensures refusal { IfErr result (IsDamaged (page_intervals locations.now num_rows)) }
 {
-    let mut intervals = Vec::new(alloc);
+    let mut intervals = Vec::with_capacity(alloc, locations.len())?;
     for (i, location) in locations.iter().enumerate() {
         let Some(interval) = rows_of_page(*location, &locations[i + 1..], num_rows) else {
             return Err(Error::ExternalFormat(Part::Location));
@@ -110,7 +110,7 @@ fn filtered_pages(
         filtered_pages_by intervals.now locations.now rows.now ≡ Some pages.items) }
     ensures refusal { IfErr result (IsDamaged (filtered_pages_by intervals.now locations.now rows.now)) }
 {
-    let mut pages = Vec::new(alloc);
+    let mut pages = Vec::with_capacity(alloc, locations.len())?;
     for i in 0..locations.len() {
         pages.push(filtered_page(alloc, intervals, locations[i], rows[i])?)?;
     }

@@ -6,8 +6,8 @@ ghost use Rattle.parquet_sample.specs.Parts.{sample_descriptors};
 ghost use Rattle.parquet_sample.specs.Writing.{written_of};
 
 use crate::column::SampleColumn;
-use columns_core::{Name, Seq};
-use parquet_meta::{ColumnDescriptor, PhysicalType, PrimitiveType, Repetition};
+use columns_core::Name;
+use parquet_meta::{ColumnDescriptor, ColumnPath, PhysicalType, PrimitiveType, Repetition};
 use std::alloc::{AllocError, Global};
 
 fn column_name(column: SampleColumn) -> &'static str
@@ -43,7 +43,7 @@ fn descriptor(alloc: Global, column: SampleColumn) -> Result<ColumnDescriptor, A
     let mut path = Vec::new(alloc);
     path.push(Name::new(name))?;
     Ok(ColumnDescriptor {
-        path_in_schema: Seq::new(path),
+        path_in_schema: ColumnPath::new(alloc, path)?,
         primitive_type: column_type(column),
         flat: true,
     })

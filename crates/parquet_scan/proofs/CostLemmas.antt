@@ -13,7 +13,7 @@ use Rattle.parquet_base.specs.Intervals.{holds, interval}
 use Rattle.parquet_base.specs.Intervals.{rows_of as rows_in}
 use Rattle.parquet_base.specs.declared.interval.Interval.{Interval}
 use Rattle.parquet_meta.specs.Chunks.{chunk_causes, chunk_range, has_range}
-use Rattle.parquet_meta.specs.Indexes.{place_length, offset_index_length}
+use Rattle.parquet_meta.specs.Indexes.{place_length}
 use Rattle.parquet_meta.specs.declared.metadata.ColumnChunkMetaData.{ColumnChunkMetaData}
 use Rattle.parquet_meta.specs.declared.metadata.PageLocation.{PageLocation}
 use Rattle.parquet_meta.specs.declared.metadata.Place.{Place}
@@ -28,8 +28,7 @@ use Rattle.parquet_page.specs.declared.page.FilteredPage.{FilteredPage}
 use Rattle.parquet_encoding.proofs.StepLemmas.{given_some}
 use Rattle.parquet_scan.specs.Causes.{begins_below}
 use Rattle.parquet_scan.specs.Cells.{Reading, chunk_of, dictionary_by_locations, first_location, is_null_type, walked_dictionary, walked_pages}
-use Rattle.parquet_scan.specs.Costs.{is_walked, lent_of_chunk, lent_of_read, located_bytes, location_length, most_of_chunk, most_of_read, names_some, location_bytes_of, opened_locations, opened_walked, pages_walked, taken_of_chunk, taken_of_column, taken_of_read, with_dictionary_page}
-use Rattle.parquet_scan.specs.Counting.{column_taken}
+use Rattle.parquet_scan.specs.Costs.{is_walked, lent_of_chunk, lent_of_read, located_bytes, location_length, most_of_chunk, most_of_read, names_some, opened_locations, opened_walked, pages_walked, taken_of_chunk, taken_of_column, taken_of_read, with_dictionary_page}
 use Rattle.parquet_scan.specs.Located.{entry_place}
 use Rattle.parquet_scan.specs.Pages.{locations, rows_at}
 use Rattle.parquet_scan.specs.Rows.{column_named}
@@ -187,13 +186,13 @@ module _ (group : RowGroupMetaData) (column : ColumnChunkMetaData) (intervals : 
       (λ yes. omega (arith, some yes, long.count)) in
       omega (arith, most, long.bytes)
 
-  -- what is taken of a chunk: its offset index, the pages that are wanted and, if one is, the part before the first
-  pub taken_located : (told : Option (List ℕ)) (chunk : Place) (b : Bool) (index before now : ℕ) → IfSome told (λ bytes. chunk_of bytes group column ≡ Some chunk) → IfSome told (λ bytes. locations bytes column ≡ given_locations)
+  -- what is taken of a chunk: the pages that are wanted and, if one is, the part before the first
+  pub taken_located : (told : Option (List ℕ)) (chunk : Place) (b : Bool) (before now : ℕ) → IfSome told (λ bytes. chunk_of bytes group column ≡ Some chunk) → IfSome told (λ bytes. locations bytes column ≡ given_locations)
       → (b ≡ true → 0 < length (filter is_wanted entries))
-      → now ≤ before + index + sum_by (λ (entry : FilteredPage). entry.length) (filter is_wanted entries) + (if b then first_start entries - chunk.offset else 0)
-      → RisesBy told before now (λ bytes. index + taken_of_chunk true bytes group (rows_in intervals) column)
-  taken_located None chunk b index before now placed told some e = tt
-  taken_located (Some bytes) chunk b index before now placed told some e = omega (arith, e, located_taken bytes chunk b placed told some)
+      → now ≤ before + sum_by (λ (entry : FilteredPage). entry.length) (filter is_wanted entries) + (if b then first_start entries - chunk.offset else 0)
+      → RisesBy told before now (λ bytes. taken_of_chunk true bytes group (rows_in intervals) column)
+  taken_located None chunk b before now placed told some e = tt
+  taken_located (Some bytes) chunk b before now placed told some e = omega (arith, e, located_taken bytes chunk b placed told some)
 
 -- ---- a column as it is read, and the column of a name
 
@@ -202,22 +201,17 @@ pub lent_as_read : (told : Option (List ℕ)) (by_pages : Bool) (group : RowGrou
 lent_as_read None by_pages group rows data_type column not_null = tt
 lent_as_read (Some bytes) by_pages group rows data_type column not_null = ap (λ b. if b then 0 else lent_of_chunk by_pages bytes group rows column) not_null
 
-pub taken_as_read : (told : Option (List ℕ)) (by_pages : Bool) (index : ℕ) (group : RowGroupMetaData) (rows : List ℕ) (data_type : DataType) (column : ColumnChunkMetaData) → is_null_type data_type ≡ false
-    → IfSome told (λ bytes. index + taken_of_chunk by_pages bytes group rows column ≤ index + taken_of_read by_pages bytes group rows data_type column)
-taken_as_read None by_pages index group rows data_type column not_null = tt
-taken_as_read (Some bytes) by_pages index group rows data_type column not_null = omega (arith, ap (λ b. if b then 0 else taken_of_chunk by_pages bytes group rows column) not_null)
+pub taken_as_read : (told : Option (List ℕ)) (by_pages : Bool) (group : RowGroupMetaData) (rows : List ℕ) (data_type : DataType) (column : ColumnChunkMetaData) → is_null_type data_type ≡ false
+    → IfSome told (λ bytes. taken_of_chunk by_pages bytes group rows column ≤ taken_of_read by_pages bytes group rows data_type column)
+taken_as_read None by_pages group rows data_type column not_null = tt
+taken_as_read (Some bytes) by_pages group rows data_type column not_null = omega (arith, ap (λ b. if b then 0 else taken_of_chunk by_pages bytes group rows column) not_null)
 
 pub taken_named : (told : Option (List ℕ)) (by_pages : Bool) (group : RowGroupMetaData) (rows : List ℕ) (field : Field) (column : ColumnChunkMetaData) → column_named group field.name ≡ Some column
-    → IfSome told (λ bytes. (if by_pages then offset_index_length column else 0) + taken_of_read by_pages bytes group rows field.data_type column ≤ column_taken by_pages bytes group rows field)
+    → IfSome told (λ bytes. taken_of_read by_pages bytes group rows field.data_type column ≤ taken_of_column by_pages bytes group rows field)
 taken_named None by_pages group rows field column named = tt
 taken_named (Some bytes) by_pages group rows field column named =
-    let index : location_bytes_of group field ≡ offset_index_length column = ap (λ o. option_map_or offset_index_length o 0) named in
     let own : taken_of_column by_pages bytes group rows field ≡ taken_of_read by_pages bytes group rows field.data_type column = ap (λ o. option_map_or (taken_of_read by_pages bytes group rows field.data_type) o 0) named in
-    by by_pages index own where
-      by : (b : Bool) → location_bytes_of group field ≡ offset_index_length column → taken_of_column by_pages bytes group rows field ≡ taken_of_read by_pages bytes group rows field.data_type column
-          → (if b then offset_index_length column else 0) + taken_of_read by_pages bytes group rows field.data_type column ≤ (if b then location_bytes_of group field else 0) + taken_of_column by_pages bytes group rows field
-      by true index own = omega (arith, index, own)
-      by false index own = omega (arith, own)
+    omega (arith, own)
 
 -- ---- no more pages are lent than the bound says
 

@@ -1,9 +1,9 @@
 -- What a scan costs in all, by the groups of the file.
-use Rattle.std.proofs.Common.{◌≡◌, ℕ, suc, ◌+◌, ◌-◌, ◌≤◌, Bool, true, false, cond, List, [], ◌∷◌, length, map, drop, take, get_or, min, refl, sym, subst, ◌∙◌, ap, arith}
-use Rattle.std.specs.Prelude.{All, Option, Some, None, option_map, sum_by, filter, zip, ◌&&◌, nat_lt, IfSome, IfOk, OnOk, IsTrue, Result, Ok, Err, if◌then◌else◌}
+use Rattle.std.proofs.Common.{◌≡◌, ℕ, suc, ◌+◌, ◌-◌, ◌≤◌, Bool, true, false, cond, List, [], ◌∷◌, length, map, take, min, refl, sym, subst, ◌∙◌, ap, arith}
+use Rattle.std.specs.Prelude.{All, Option, Some, None, option_map, sum_by, filter, zip, ◌&&◌, IfSome, IfOk, OnOk, IsTrue, Result, Ok, Err, if◌then◌else◌}
 use Rattle.std.specs.List.{AllByRecursion, AllZip, range_with_len}
 use Rattle.std.specs.Option.{option_map_or}
-use Rattle.std.proofs.lemmas.Bool.{and_parts, true≢false}
+use Rattle.std.proofs.lemmas.Bool.{and_parts}
 use Rattle.std.proofs.lemmas.List.FromFn.{length-range_with_len}
 use Rattle.std.proofs.lemmas.List.Sums.{sum_by-cons}
 use Rattle.columns_core.specs.declared.data_type.Field.{Field}
@@ -16,8 +16,8 @@ use Rattle.parquet_meta.specs.declared.metadata.ColumnChunkMetaData.{ColumnChunk
 use Rattle.parquet_meta.specs.declared.metadata.FileMetaData.{FileMetaData}
 use Rattle.parquet_meta.specs.declared.metadata.RowGroupMetaData.{RowGroupMetaData}
 use Rattle.parquet_scan.specs.Causes.{IsValid}
-use Rattle.parquet_scan.specs.Costs.{all_index_bytes, bytes_behind_footer, index_bytes, lent_of_column, lent_of_group, lent_of_read, most_bytes_taken, most_of_column, most_of_group, most_of_read, most_pages, location_bytes_of, pages_lent, taken_of_column, taken_of_group}
-use Rattle.parquet_scan.specs.Counting.{lie_in_groups, column_taken, columns_taken, indexes_taken, indexes_taken_of_groups, gives_a_row, lies_in_group, lent_of_groups, taken_if_read, taken_of_groups}
+use Rattle.parquet_scan.specs.Costs.{all_index_bytes, bytes_behind_footer, index_bytes, lent_of_column, lent_of_group, lent_of_read, most_bytes_taken, most_of_column, most_of_group, most_of_read, most_pages, pages_lent, taken_of_group}
+use Rattle.parquet_scan.specs.Counting.{lie_in_groups, indexes_taken, indexes_taken_of_groups, gives_a_row, lent_of_groups, taken_of_groups}
 use Rattle.parquet_scan.specs.Request.{Request, is_legal}
 use Rattle.parquet_scan.specs.Rows.{File, column_named, file_of, file_with, first_rows, gives_rows, group_counts, groups_of, groups_read, intervals, kept, kept_rows, pages_keep, prunes_pages}
 use Rattle.parquet_scan.specs.Scan.{HoldsMet, IsSound, OnFile, RisesBy, RisesJustBy, kept_groups}
@@ -26,7 +26,6 @@ use Rattle.parquet_scan.specs.declared.scanning.GroupKept.{GroupKept}
 use Rattle.parquet_scan.proofs.ClippedLemmas.{first_of_range}
 use Rattle.parquet_scan.proofs.CostLemmas.{lent_most}
 use Rattle.parquet_scan.proofs.FileLemmas.{AreGiven, counting, gives_as, pruned, rows_given}
-use Rattle.parquet_scan.proofs.GivenCells.{counts_by, some_taken}
 use Rattle.parquet_scan.proofs.KeptLemmas.{all_or_none}
 use Rattle.parquet_scan.proofs.Sound.{loses_no_row_of_valid_files}
 
@@ -61,82 +60,16 @@ sum_read give (group ∷ groups) (runs ∷ given) shaped =
 
 -- ---- what is taken
 
--- what is taken of columns is their offset indexes, where rows are pruned by pages, and their chunks
-columns_split : (by_pages : Bool) (bytes : List ℕ) (group : RowGroupMetaData) (rows : List ℕ) (fields : List Field)
-    → columns_taken by_pages fields bytes (group, rows) ≡ (if by_pages then sum_by (location_bytes_of group) fields else 0) + taken_of_group by_pages fields bytes (group, rows)
-columns_split true bytes group rows [] = refl
-columns_split false bytes group rows [] = refl
-columns_split true bytes group rows (field ∷ fields) =
-    let rest = columns_split true bytes group rows fields in
-    omega (arith, rest, sum_by-cons (column_taken true bytes group rows) field fields, sum_by-cons (location_bytes_of group) field fields, sum_by-cons (taken_of_column true bytes group rows) field fields)
-columns_split false bytes group rows (field ∷ fields) =
-    let rest = columns_split false bytes group rows fields in
-    omega (arith, rest, sum_by-cons (column_taken false bytes group rows) field fields, sum_by-cons (taken_of_column false bytes group rows) field fields)
-
 abbrev index_if : Request → Bool → RowGroupMetaData → ℕ
 index_if request by_pages group = if by_pages && group_counts request group then index_bytes request group else 0
 
--- of one group, which is read only where it counts
-group_taken : (request : Request) (bytes : List ℕ) (by_pages : Bool) (group : RowGroupMetaData) (runs : List Interval) (counts read : Bool) → (read ≡ true → counts ≡ true)
-    → indexes_taken by_pages request.fields request.bounds (group, counts) + (if read then columns_taken by_pages request.fields bytes (group, rows_of runs) else 0)
-    ≤ (if by_pages && counts then index_bytes request group else 0) + (if read then taken_of_group by_pages request.fields bytes (group, rows_of runs) else 0)
-group_taken request bytes true group runs true true needs = omega (arith, columns_split true bytes group (rows_of runs) request.fields)
-group_taken request bytes true group runs true false needs = omega arith
-group_taken request bytes true group runs false true needs = absurd (true≢false (sym (needs refl)))
-group_taken request bytes true group runs false false needs = omega arith
-group_taken request bytes false group runs counts true needs = omega (arith, columns_split false bytes group (rows_of runs) request.fields)
-group_taken request bytes false group runs counts false needs = omega arith
-
-module _ (request : Request) (metadata : FileMetaData) (bytes : List ℕ) where
-  abbrev this : File
-  this = file_with bytes metadata
-
-  abbrev is_pruned : Bool
-  is_pruned = pruned request metadata
-
-  -- a group that gives rows counts
-  read_counts : (group : RowGroupMetaData) (runs : List Interval) (kept : List ℕ) → lies_in_group (group, runs) ≡ true → kept ≡ kept_rows request this group → (nat_lt 0 (length (rows_of runs)) ≡ true → nat_lt 0 (length kept) ≡ true) → gives_a_row (group, runs) ≡ true → group_counts request group ≡ true
-  read_counts group runs kept shaped are from read =
-      counts_by request this group (group_counts request group) refl (ap (λ kept. nat_lt 0 (length kept)) (sym are) ∙ from (gives_as group runs shaped ∙ read))
-
-  abbrev take_all : List RowGroupMetaData → List (List Interval) → ℕ
-  take_all groups given = sum_by (λ (group : RowGroupMetaData × List Interval). if gives_a_row group then taken_of_group is_pruned request.fields bytes (group.0, rows_of group.1) else 0) (zip groups given)
-
-  one_taken : (group : RowGroupMetaData) (runs : List Interval) (groups : List RowGroupMetaData) (given : List (List Interval)) → (gives_a_row (group, runs) ≡ true → group_counts request group ≡ true)
-      → indexes_taken_of_groups is_pruned request.fields request.bounds groups (map (group_counts request) groups) + taken_of_groups is_pruned request.fields bytes groups given
-      ≤ sum_by (index_if request is_pruned) groups + take_all groups given
-      → indexes_taken_of_groups is_pruned request.fields request.bounds (group ∷ groups) (map (group_counts request) (group ∷ groups)) + taken_of_groups is_pruned request.fields bytes (group ∷ groups) (runs ∷ given)
-      ≤ sum_by (index_if request is_pruned) (group ∷ groups) + take_all (group ∷ groups) (runs ∷ given)
-  one_taken group runs groups given needs others =
-      let counts = map (group_counts request) groups in
-      omega (
-        arith,
-        group_taken request bytes is_pruned group runs (group_counts request group) (gives_a_row (group, runs)) needs,
-        others,
-        sum_by-cons (indexes_taken is_pruned request.fields request.bounds) (group, group_counts request group) (zip groups counts),
-        sum_by-cons (taken_if_read is_pruned request.fields bytes) (group, runs) (zip groups given),
-        sum_by-cons (index_if request is_pruned) group groups,
-        sum_by-cons (λ (group : RowGroupMetaData × List Interval). if gives_a_row group then taken_of_group is_pruned request.fields bytes (group.0, rows_of group.1) else 0) (group, runs) (zip groups given),
-      )
-
-  -- of all groups
-  groups_taken : (limit : Option ℕ) (groups : List RowGroupMetaData) (given : List (List Interval)) → lie_in_groups groups given ≡ true → map rows_of given ≡ first_rows limit (map (kept_rows request this) groups)
-      → indexes_taken_of_groups is_pruned request.fields request.bounds groups (map (group_counts request) groups) + taken_of_groups is_pruned request.fields bytes groups given
-      ≤ sum_by (index_if request is_pruned) groups + take_all groups given
-  groups_taken limit [] given shaped e = omega arith
-  groups_taken limit (group ∷ groups) [] shaped e = absurd (no_rows limit e) where
-    no_rows : (limit : Option ℕ) → [] ≡ first_rows limit (map (kept_rows request this) (group ∷ groups)) → ⊥
-    no_rows None e = cc
-    no_rows (Some left) e = cc
-  groups_taken None (group ∷ groups) (runs ∷ given) shaped e =
-      let parts = and_parts _ _ shaped in
-      one_taken group runs groups given (λ read. read_counts group runs (rows_of runs) parts.0 (ap (λ rows. get_or rows 0 []) e) (λ some. some) read) (groups_taken None groups given parts.1 (ap (drop 1) e))
-  groups_taken (Some left) (group ∷ groups) (runs ∷ given) shaped e =
-      let parts = and_parts _ _ shaped in
-      let own : rows_of runs ≡ take left (kept_rows request this group) = ap (λ rows. get_or rows 0 []) e in
-      one_taken group runs groups given
-      (λ read. read_counts group runs (kept_rows request this group) parts.0 refl (λ some. some_taken left (kept_rows request this group) (ap (λ rows. nat_lt 0 (length rows)) (sym own) ∙ some)) read)
-      (groups_taken (Some (left - length (kept_rows request this group))) groups given parts.1 (ap (drop 1) e))
+-- what is taken of the indexes of all groups, beside whether they count
+indexes_taken_is : (request : Request) (by_pages : Bool) (groups : List RowGroupMetaData)
+    → indexes_taken_of_groups by_pages request.fields request.bounds groups (map (group_counts request) groups) ≡ sum_by (index_if request by_pages) groups
+indexes_taken_is request by_pages [] = refl
+indexes_taken_is request by_pages (group ∷ groups) =
+    sum_by-cons (indexes_taken by_pages request.fields request.bounds) (group, group_counts request group) (zip groups (map (group_counts request) groups))
+    ∙ ap (λ n. index_if request by_pages group + n) (indexes_taken_is request by_pages groups) ∙ sym (sum_by-cons (index_if request by_pages) group groups)
 
 none_in_all : {X : Type 0} (xs : List X) → sum_by (λ (x : X). 0) xs ≡ 0
 none_in_all [] = refl
@@ -190,10 +123,10 @@ module _ (request : Request) (metadata : FileMetaData) (kept : List GroupKept) (
       let b = pruned request metadata in
       let give = taken_of_group b request.fields bytes in
       let rows = rows_given request metadata kept given bytes are in
-      let reads : sum_by give (groups_read request (file_with bytes metadata)) ≡ take_all request metadata bytes groups given
+      let reads : sum_by give (groups_read request (file_with bytes metadata)) ≡ taken_of_groups b request.fields bytes groups given
       = ap (λ rows. sum_by give (filter gives_rows (zip groups rows))) rows ∙ sum_read give groups given are.shaped in
       let indexes : sum_by (index_if request b) groups ≡ all_index_bytes request (file_with bytes metadata) = indexes_are request b groups in
-      omega (arith, first, h, groups_taken request metadata bytes request.limit groups given are.shaped (sym rows), reads, indexes)
+      omega (arith, first, h, indexes_taken_is request b groups, reads, indexes)
 
 -- ---- no more pages are lent than are counted
 

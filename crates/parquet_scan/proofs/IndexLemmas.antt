@@ -1,11 +1,12 @@
 -- The column index of one column, and the ends that it tells.
-use Rattle.std.proofs.Common.{◌≡◌, ℕ, Bool, true, false, cond, List, [], ◌∷◌, ◌++◌, length, map, Option, Some, None, refl, sym, subst, ◌∙◌, ap, arith, inr}
-use Rattle.std.specs.Prelude.{◌&&◌, ◌||◌, ◌==◌, IfSome, Result, Err, is_none, is_some, nat_eq, option_map}
+use Rattle.std.proofs.Common.{◌≡◌, ◌≤◌, ℕ, suc, ◌+◌, Bool, true, false, cond, List, [], ◌∷◌, ◌++◌, length, map, Option, Some, None, refl, sym, subst, ◌∙◌, ap, arith, inr}
+use Rattle.std.specs.Prelude.{◌&&◌, ◌||◌, ◌==◌, IfSome, Result, Err, is_none, is_some, nat_eq, option_map, slice_get, unwrap_or, zip}
 use Rattle.std.specs.Cmp.Lexicographic.{pointwise, same_text}
-use Rattle.std.specs.List.{list_all}
+use Rattle.std.specs.List.{enumerate_from, list_all}
 use Rattle.std.specs.Option.{option_map_or}
-use Rattle.std.proofs.lemmas.Bool.{and_parts, eqb-true, true≢false}
+use Rattle.std.proofs.lemmas.Bool.{and_parts, eq-eqb, eqb-true, true≢false}
 use Rattle.std.proofs.lemmas.List.{length-map}
+use Rattle.std.proofs.lemmas.List.FromFn.{length-enumerate_from}
 use Rattle.columns_core.specs.Causes.{Cause, ExternalFormat, IsOneOf, NotYetImplemented, and_then, unless}
 use Rattle.columns_core.specs.declared.cell.Cell.{Cell}
 use Rattle.columns_core.specs.declared.data_type.DataType.{DataType, fold-roll-DataType, ind-DataType, map-DataType, roll-DataType}
@@ -15,6 +16,7 @@ use Rattle.columns_core.specs.declared.error.Part.{Part}
 use Rattle.columns_core.specs.declared.error.Error.{Error}
 use Rattle.columns_core.specs.declared.error.Error.TheVariants as error
 use Rattle.parquet_base.specs.Reading.{◌>>=◌}
+use Rattle.parquet_base.specs.declared.interval.Interval.{Interval}
 use Rattle.parquet_meta.specs.Indexes.{FindsIndex, FindsIndexes, field_columns, has_index, is_broken, is_read, raw_index}
 use Rattle.parquet_meta.specs.Lists.{all_of}
 use Rattle.parquet_meta.specs.Indexes.{is_first as is_first_of}
@@ -28,9 +30,10 @@ use Rattle.parquet_meta.specs.declared.metadata.PrimitiveLogicalType.{PrimitiveL
 use Rattle.parquet_meta.specs.Source.{IsReadFailure}
 use Rattle.flat_values.specs.Conversion.{Conversion}
 use Rattle.flat_values.specs.Pairs.{page_conversion, page_end_at, page_from_physical}
-use Rattle.column_ends.specs.Converted.{causes_of_index, cell_page, index_cells, index_rule}
+use Rattle.column_ends.specs.Converted.{causes_of_index, cell_page, each_made, index_cells, index_rule}
 use Rattle.column_ends.specs.Told.{stored_pages}
-use Rattle.parquet_scan.specs.Pages.{column_index_causes, count_causes}
+use Rattle.parquet_scan.specs.declared.bound.Bound.{Bound}
+use Rattle.parquet_scan.specs.Pages.{column_index_causes, count_causes, ends_of_page, page_ends, page_keeps}
 use Rattle.parquet_scan.specs.Request.{begins, begins_a_path}
 use Rattle.parquet_scan.proofs.CauseLemmas.{TellsOf, tells_left, tells_right}
 use Rattle.parquet_scan.proofs.LocationLemmas.{one_of}
@@ -179,24 +182,72 @@ ends_refused data_type count column index told before now e some is tells =
     (index_found data_type count column index told some is)
     (tells_left (causes_of_index column.descriptor.primitive_type data_type index) (count_causes count index) e tells)
 
--- as many ends as pages
-each_end : (rule : Option Conversion) (index : Index) (ends : List (PageIndex Cell)) → option_map (λ rule. map (cell_page rule) (stored_pages index)) rule ≡ Some ends → length ends ≡ length (stored_pages index)
-each_end None index ends e = absurd cc
-each_end (Some rule) index ends e = let same : map (cell_page rule) (stored_pages index) ≡ ends = cc in ap length (sym same) ∙ length-map (stored_pages index) (cell_page rule)
+-- as many are made as there are pages
+each_end : {T : Type 0} (make : ℕ × PageIndex Cell → T) (rule : Option Conversion) (index : Index) (items : List T) → option_map (each_made make) (option_map (λ rule. map (cell_page rule) (stored_pages index)) rule) ≡ Some items
+    → length items ≡ length (stored_pages index)
+each_end make None index items e = absurd cc
+each_end make (Some rule) index items e =
+    let cells = map (cell_page rule) (stored_pages index) in
+    let same : each_made make cells ≡ items = cc in
+    ap length (sym same) ∙ length-map (enumerate_from 0 cells) make ∙ length-enumerate_from 0 cells ∙ length-map (stored_pages index) (cell_page rule)
 
 -- and none or too many
 other_count : (b : Bool) (m n : ℕ) → (m == n) ≡ b → (m ≡ n → ⊥) → b ≡ false
 other_count true m n e apart = absurd (apart (eqb-true m n e))
 other_count false m n e apart = refl
 
-pub count_refused : (data_type : DataType) (count : ℕ) (column : ColumnChunkMetaData) (index : Index) (ends : List (PageIndex Cell)) (told : Option (List ℕ)) (before now : ℕ) (part : Part) → IsCarriedAs data_type column
-    → IfSome told (λ bytes. raw_index bytes column ≡ Some index) → index_cells column.descriptor.primitive_type data_type index ≡ Some ends → (length ends ≡ count → ⊥)
+pub count_refused : {T : Type 0} (make : ℕ × PageIndex Cell → T) (data_type : DataType) (count : ℕ) (column : ColumnChunkMetaData) (index : Index) (items : List T) (told : Option (List ℕ)) (before now : ℕ) (part : Part)
+    → IsCarriedAs data_type column → IfSome told (λ bytes. raw_index bytes column ≡ Some index) → option_map (each_made make) (index_cells column.descriptor.primitive_type data_type index) ≡ Some items → (length items ≡ count → ⊥)
     → IsReadFailure told before now (λ bytes. column_index_causes data_type count bytes column) (error.ExternalFormat part)
-count_refused data_type count column index ends told before now part some is are apart =
+count_refused make data_type count column index items told before now part some is are apart =
     let stored = column.descriptor.primitive_type in
     let causes = causes_of_index stored data_type index in
-    let same = each_end (index_rule stored data_type) index ends are in
+    let same = each_end make (index_rule stored data_type) index items are in
     let wrong : count_causes count index ≡ ExternalFormat ∷ [] = ap (λ b. unless b ExternalFormat) (other_count (length (stored_pages index) == count) (length (stored_pages index)) count refl (λ e. apart (same ∙ e))) in
     fails_telling told before now (causes ++ count_causes count index) (λ bytes. column_index_causes data_type count bytes column) (error.ExternalFormat part)
     (index_found data_type count column index told some is)
     (tells_right causes (count_causes count index) (error.ExternalFormat part) (inr (subst (λ causes. IsOneOf causes (Some ExternalFormat)) (sym wrong) first_one)))
+
+-- an index with nothing wrong
+pub index_fine : {T : Type 0} (make : ℕ × PageIndex Cell → T) (data_type : DataType) (count : ℕ) (column : ColumnChunkMetaData) (index : Index) (items : List T) (told : Option (List ℕ)) → IsCarriedAs data_type column
+    → IfSome told (λ bytes. raw_index bytes column ≡ Some index) → option_map (each_made make) (index_cells column.descriptor.primitive_type data_type index) ≡ Some items → length items ≡ count
+    → causes_of_index column.descriptor.primitive_type data_type index ≡ [] → IfSome told (λ bytes. column_index_causes data_type count bytes column ≡ [])
+index_fine make data_type count column index items None some is are same none = tt
+index_fine make data_type count column index items (Some bytes) some is are same none =
+    let many : length (stored_pages index) ≡ count = sym (each_end make (index_rule column.descriptor.primitive_type data_type) index items are) ∙ same in
+    let fine : count_causes count index ≡ [] = ap (λ b. unless b ExternalFormat) (eq-eqb (length (stored_pages index)) count many) in
+    index_found data_type count column index (Some bytes) some is ∙ (λ i. none i ++ fine i)
+
+-- ---- the pages that a bound keeps
+
+-- whether the page with a number may hold a row that meets a bound, where pages have these rows
+abbrev pub numbered_keeps : (ℕ → Option Interval) → Bound → ℕ × PageIndex Cell → Bool
+numbered_keeps rows bound told = option_map_or (λ rows. page_keeps bound (rows, ends_of_page told.1)) (rows told.0) false
+
+-- pages one after another, from a number on
+each_keeps : (from : ℕ → Option Interval) (bound : Bound) (n : ℕ) (rows : List Interval) (cells : List (PageIndex Cell)) → ((k : ℕ) → from (n + k) ≡ slice_get rows k) → length cells ≤ length rows
+    → map (numbered_keeps from bound) (enumerate_from n cells) ≡ map (page_keeps bound) (zip rows (map ends_of_page cells))
+each_keeps from bound n [] [] same enough = refl
+each_keeps from bound n (row ∷ rows) [] same enough = refl
+each_keeps from bound n [] (cell ∷ cells) same enough = absurd (omega (arith, enough))
+each_keeps from bound n (row ∷ rows) (cell ∷ cells) same enough =
+    let first : from n ≡ Some row = ap from (let e : n ≡ n + 0 = omega arith in e) ∙ same 0 in
+    let rest = each_keeps from bound (n + 1) rows cells (λ k. ap from (let e : n + 1 + k ≡ n + suc k = omega arith in e) ∙ same (suc k)) (omega (arith, enough)) in
+    λ i. option_map_or (λ rows. page_keeps bound (rows, ends_of_page cell)) (first i) false ∷ rest i
+
+kept_cells : (bound : Bound) (rows : List Interval) (cells : Option (List (PageIndex Cell))) (keep : List Bool) → option_map (each_made (numbered_keeps (slice_get rows) bound)) cells ≡ Some keep → length keep ≡ length rows
+    → map (page_keeps bound) (zip rows (map ends_of_page (unwrap_or cells []))) ≡ keep
+kept_cells bound rows None keep e many = absurd cc
+kept_cells bound rows (Some cells) keep e many =
+    let make = numbered_keeps (slice_get rows) bound in
+    let same : each_made make cells ≡ keep = cc in
+    let count : length (each_made make cells) ≡ length cells = length-map (enumerate_from 0 cells) make ∙ length-enumerate_from 0 cells in
+    sym (each_keeps (slice_get rows) bound 0 rows cells (λ k. ap (slice_get rows) (let e : 0 + k ≡ k = omega arith in e)) (omega (arith, ap length same, count, many))) ∙ same
+
+pub pages_kept : (data_type : DataType) (bound : Bound) (rows : List Interval) (column : ColumnChunkMetaData) (index : Index) (keep : List Bool) (told : Option (List ℕ)) → IfSome told (λ bytes. raw_index bytes column ≡ Some index)
+    → option_map (each_made (numbered_keeps (slice_get rows) bound)) (index_cells column.descriptor.primitive_type data_type index) ≡ Some keep → length keep ≡ length rows
+    → IfSome told (λ bytes. map (page_keeps bound) (zip rows (page_ends data_type bytes column)) ≡ keep)
+pages_kept data_type bound rows column index keep None is e many = tt
+pages_kept data_type bound rows column index keep (Some bytes) is e many =
+    let cells = index_cells column.descriptor.primitive_type data_type in
+    ap (λ (found : Option Index). map (page_keeps bound) (zip rows (map ends_of_page (unwrap_or (found >>= cells) [])))) is ∙ kept_cells bound rows (cells index) keep e many

@@ -18,6 +18,7 @@ pub mod IndexLemmas
 pub mod KeptLemmas
 pub mod LocatedCells
 pub mod LegalLemmas
+pub mod LocatedGroups
 pub mod LocatedLemmas
 pub mod LocationLemmas
 pub mod OpenedLemmas

@@ -46,7 +46,7 @@ use Rattle.parquet_scan.specs.Costs.{with_dictionary_page}
 use Rattle.parquet_scan.specs.Decoded.{column_rows, pages_by, pages_for, rows_by}
 use Rattle.parquet_scan.specs.Located.{entry_causes, entry_part, entry_place, part_causes, part_in, place_before}
 use Rattle.parquet_scan.specs.Pages.{location_rows, locations, locations_causes, rows_at}
-use Rattle.parquet_scan.proofs.CauseLemmas.{TellsOf, one_cases, then_next, among_first}
+use Rattle.parquet_scan.proofs.CauseLemmas.{TellsOf, one_cases, then_next}
 use Rattle.parquet_scan.proofs.CellLemmas.{causes_if_there, nothing_given, rows_caused, same_cells, tells_of_rows}
 use Rattle.parquet_scan.proofs.LocatedLemmas.{AreEntries, IsSomePart, are_entries, causes_of_parts, cells_as, chunk_length, found, is_shaped_part, items_of_parts, located_given, located_short, located_wrong, named_are, none_some, opened_are, pages_of, pages_there, part_inside, part_items, part_outside, parts_items}
 use Rattle.parquet_scan.proofs.ScanLemmas.{in_filtered}
@@ -505,14 +505,6 @@ read_in (Some bytes) size group column data_type rows = λ o one. then_more (chu
   by : (place : Option Place) (o : Option Cause) → IsOneOf (unless (is_some place) ExternalFormat) o → IsOneOf (option_map_or (λ place. located_causes size bytes group rows data_type column) place (ExternalFormat ∷ [])) o
   by None o one = one
   by (Some place) o one = absurd (nothing_wrong o one)
-
-pub locations_in : (told : Option (List ℕ)) (size : Option ℕ) (group : RowGroupMetaData) (column : ColumnChunkMetaData) (data_type : DataType) (rows : List ℕ) (chunk : Place) → chunk_causes column ≡ [] → IfSome told (λ bytes. chunk_of bytes group column ≡ Some chunk)
-    → IfSome told (λ bytes. (o : Option Cause) → IsOneOf (locations_causes bytes group column) o → IsOneOf (causes_of_chunk true size bytes group rows data_type column) o)
-locations_in None size group column data_type rows chunk none placed = tt
-locations_in (Some bytes) size group column data_type rows chunk none placed = λ o one.
-    let same : causes_of_chunk true size bytes group rows data_type column ≡ located_causes size bytes group rows data_type column
-    = then_next (chunk_causes column) _ none ∙ ap (λ o. option_map_or (λ place. located_causes size bytes group rows data_type column) o (ExternalFormat ∷ [])) placed in
-    subst (λ causes. IsOneOf causes o) (sym same) (among_first (locations_causes bytes group column) _ o one)
 
 -- what is wrong with a part of what is opened
 pub within_opened : (told : Option (List ℕ)) (whole opened items part : List ℕ → List Cause) → IfSome told (λ bytes. whole bytes ≡ opened bytes ++ items bytes)

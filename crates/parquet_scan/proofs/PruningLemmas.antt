@@ -1,23 +1,25 @@
 -- The runs of rows that bounds keep by their pages.
 use Rattle.std.proofs.Common.{◌≡◌, ℕ, zero, suc, ◌<◌, Bool, true, false, cond, List, [], ◌∷◌, length, map, get_or, Option, Some, None, refl, sym, ◌∙◌, ap, arith}
-use Rattle.std.specs.Prelude.{◌&&◌, filter, is_some, option_map, unwrap_or, IfSome}
+use Rattle.std.specs.Prelude.{◌&&◌, filter, is_some, option_map, unwrap_or, zip, IfSome}
 use Rattle.std.specs.List.{list_all}
 use Rattle.std.specs.Option.{option_map_or}
 use Rattle.std.proofs.lemmas.Bool.{and_parts}
+use Rattle.std.proofs.lemmas.List.{get_or-map}
 use Rattle.columns_core.specs.Causes.{ExternalFormat}
 use Rattle.columns_core.specs.declared.data_type.DataType.{DataType}
 use Rattle.columns_core.specs.declared.data_type.Field.{Field}
 use Rattle.parquet_base.specs.Reading.{◌>>=◌}
-use Rattle.parquet_base.specs.Intervals.{covers, maximal_runs}
+use Rattle.parquet_base.specs.Intervals.{covers, is_kept_page, maximal_runs}
 use Rattle.parquet_base.specs.declared.interval.Interval.{Interval}
 use Rattle.parquet_base.proofs.SegmentLemmas.{covers-maximal_runs, same_runs}
 use Rattle.parquet_meta.specs.declared.metadata.ColumnChunkMetaData.{ColumnChunkMetaData}
 use Rattle.parquet_meta.specs.declared.metadata.PageLocation.{PageLocation}
 use Rattle.parquet_meta.specs.declared.metadata.RowGroupMetaData.{RowGroupMetaData}
 use Rattle.parquet_scan.specs.declared.bound.Bound.{Bound}
-use Rattle.parquet_scan.specs.Bound.{KnownEnds}
+use Rattle.parquet_page.specs.Locations.{has_shape, page_intervals}
 use Rattle.parquet_scan.specs.Causes.{index_causes_of_bound}
-use Rattle.parquet_scan.specs.Pages.{column_index_causes, keeps_row, locations, page_ends, row_keeps, rows_at}
+use Rattle.parquet_scan.specs.Counting.{AreLocated}
+use Rattle.parquet_scan.specs.Pages.{column_index_causes, keeps_row, locations, page_ends, page_keeps, row_keeps, rows_at}
 use Rattle.parquet_scan.specs.Request.{are_values_of, begins, bound_type, bounded_field, is_legal_bound_of}
 use Rattle.parquet_scan.specs.Rows.{bound_keeps, bounded_column, column_named, field_locations, is_named, only_one, pages_keep}
 
@@ -70,15 +72,29 @@ of_bound (Some bytes) fields group bound data_type column list typed e =
 
 -- ---- the runs of a bound
 
-pub bound_runs : (told : Option (List ℕ)) (fields : List Field) (group : RowGroupMetaData) (bound : Bound) (data_type : DataType) (column : ColumnChunkMetaData) (list : List PageLocation) (ends : List KnownEnds) (runs : List Interval)
-    → bounded_column fields group bound ≡ Some (data_type, column)
-    → IfSome told (λ bytes. field_locations bytes group bound.field ≡ list) → IfSome told (λ bytes. page_ends data_type bytes column ≡ ends)
-    → runs ≡ maximal_runs (keeps_row (rows_at list group.num_rows) ends bound) group.num_rows
+-- what is wrong with a column index by the number of its pages
+pub counted_as : (told : Option (List ℕ)) (data_type : DataType) (column : ColumnChunkMetaData) (m n : ℕ) → m ≡ n → IfSome told (λ bytes. column_index_causes data_type m bytes column ≡ column_index_causes data_type n bytes column)
+counted_as None data_type column m n e = tt
+counted_as (Some bytes) data_type column m n e = ap (λ n. column_index_causes data_type n bytes column) e
+
+-- those of the rows in kept pages
+pub kept_runs : (told : Option (List ℕ)) (data_type : DataType) (column : ColumnChunkMetaData) (bound : Bound) (list : List PageLocation) (count : ℕ) (rows : List Interval) (keep : List Bool) (runs : List Interval) → page_intervals list count ≡ Some rows
+    → IfSome told (λ bytes. map (page_keeps bound) (zip rows (page_ends data_type bytes column)) ≡ keep) → runs ≡ maximal_runs (is_kept_page rows keep) count
+    → IfSome told (λ bytes. runs ≡ maximal_runs (keeps_row (rows_at list count) (page_ends data_type bytes column) bound) count)
+kept_runs None data_type column bound list count rows keep runs at are e = tt
+kept_runs (Some bytes) data_type column bound list count rows keep runs at are e =
+    e ∙ ap (λ keep. maximal_runs (is_kept_page rows keep) count) (sym are)
+    ∙ ap (λ (rows : List Interval). maximal_runs (keeps_row rows (page_ends data_type bytes column) bound) count) (sym (ap (λ o. unwrap_or o []) at))
+
+pub bound_runs : (told : Option (List ℕ)) (fields : List Field) (group : RowGroupMetaData) (bound : Bound) (data_type : DataType) (column : ColumnChunkMetaData) (list : List PageLocation) (runs : List Interval) → bounded_column fields group bound ≡ Some (data_type, column)
+    → IfSome told (λ bytes. field_locations bytes group bound.field ≡ list)
+    → IfSome told (λ bytes. runs ≡ maximal_runs (keeps_row (rows_at list group.num_rows) (page_ends data_type bytes column) bound) group.num_rows)
     → IfSome told (λ bytes. maximal_runs (λ row. bound_keeps fields bytes group row bound) group.num_rows ≡ runs)
-bound_runs None fields group bound data_type column list ends runs typed at are e = tt
-bound_runs (Some bytes) fields group bound data_type column list ends runs typed at are e =
+bound_runs None fields group bound data_type column list runs typed at e = tt
+bound_runs (Some bytes) fields group bound data_type column list runs typed at e =
     ap (λ (o : Option (DataType × ColumnChunkMetaData)). maximal_runs (λ row. option_map_or (λ typed. row_keeps typed.0 bytes group bound typed.1 row) o false) group.num_rows) typed
-    ∙ (λ i. maximal_runs (keeps_row (rows_at (at_column bytes group bound.field column list (bound_column fields group bound data_type column typed) at i) group.num_rows) (are i) bound) group.num_rows) ∙ sym e
+    ∙ ap (λ list. maximal_runs (keeps_row (rows_at list group.num_rows) (page_ends data_type bytes column) bound) group.num_rows)
+    (at_column bytes group bound.field column list (bound_column fields group bound data_type column typed) at) ∙ sym e
 
 -- ---- the runs of all bounds
 
@@ -109,24 +125,27 @@ all_at p [] i d all h = absurd (omega (arith, h))
 all_at p (x ∷ xs) zero d all h = (and_parts (p x) (list_all p xs) all).0
 all_at p (x ∷ xs) (suc i) d all h = all_at p xs i d (and_parts (p x) (list_all p xs) all).1 (omega (arith, h))
 
-same_at : {X Y Z : Type 0} (f : X → Z) (g : Y → Z) (xs : List X) (ys : List Y) (i : ℕ) (d : X) (e : Y) → map f xs ≡ map g ys → i < length xs → i < length ys → f (get_or xs i d) ≡ g (get_or ys i e)
-same_at f g [] ys i d e same h k = absurd (omega (arith, h))
-same_at f g (x ∷ xs) [] i d e same h k = absurd (omega (arith, k))
-same_at {Z} f g (x ∷ xs) (y ∷ ys) zero d e same h k = first (f x) (g y) (map f xs) (map g ys) same where
-  first : (a b : Z) (as' bs : List Z) → a ∷ as' ≡ b ∷ bs → a ≡ b
-  first a b as' bs e = cc
-same_at {Z} f g (x ∷ xs) (y ∷ ys) (suc i) d e same h k = same_at f g xs ys i d e (rest (f x) (g y) (map f xs) (map g ys) same) (omega (arith, h)) (omega (arith, k)) where
-  rest : (a b : Z) (as' bs : List Z) → a ∷ as' ≡ b ∷ bs → as' ≡ bs
-  rest a b as' bs e = cc
-
 -- the locations of a bound's column stand at the place of its field
-pub locations_at : {X : Type 0} (told : Option (List ℕ)) (group : RowGroupMetaData) (fields : List Field) (items : X → List PageLocation) (lists : List X) (bound : Bound) (i : ℕ) (d : X)
-    → IfSome told (λ bytes. map (λ field. field_locations bytes group field.name) fields ≡ map items lists) → i < length fields → i < length lists → ((field : Field) → (get_or fields i field).name ≡ bound.field)
-    → IfSome told (λ bytes. field_locations bytes group bound.field ≡ items (get_or lists i d))
-locations_at None group fields items lists bound i d same h k named = tt
-locations_at (Some bytes) group [] items lists bound i d same h k named = absurd (omega (arith, h))
-locations_at (Some bytes) group (field ∷ fields) items lists bound i d same h k named =
-    ap (field_locations bytes group) (sym (named field)) ∙ same_at (λ (field : Field). field_locations bytes group field.name) items (field ∷ fields) lists i field d same h k
+pub locations_at : (told : Option (List ℕ)) (group : RowGroupMetaData) (fields : List Field) (lists : List (List PageLocation)) (bound : Bound) (i : ℕ) (d : List PageLocation)
+    → IfSome told (λ bytes. map (λ field. field_locations bytes group field.name) fields ≡ lists) → i < length fields → ((field : Field) → (get_or fields i field).name ≡ bound.field)
+    → IfSome told (λ bytes. field_locations bytes group bound.field ≡ get_or lists i d)
+locations_at None group fields lists bound i d same h named = tt
+locations_at (Some bytes) group [] lists bound i d same h named = absurd (omega (arith, h))
+locations_at (Some bytes) group (field ∷ fields) lists bound i d same h named =
+    ap (field_locations bytes group) (sym (named field)) ∙ sym (get_or-map (λ (field : Field). field_locations bytes group field.name) (field ∷ fields) i field d h) ∙ ap (λ lists. get_or lists i d) same
+
+-- those of each field are those of the one column that it names
+pub are_located : (told : Option (List ℕ)) (fields : List Field) (group : RowGroupMetaData) (lists : List (List PageLocation)) → IfSome told (λ bytes. map (λ field. field_locations bytes group field.name) fields ≡ lists)
+    → list_all (λ list. has_shape list group.num_rows) lists ≡ true → length lists ≡ length fields → AreLocated told fields group lists
+are_located told fields group lists same shaped count i field h at column named = record {
+  shape = all_at (λ list. has_shape list group.num_rows) lists i [] shaped (omega (arith, h, count));
+  same = by told same;
+} where
+  by : (told : Option (List ℕ)) → IfSome told (λ bytes. map (λ field. field_locations bytes group field.name) fields ≡ lists) → IfSome told (λ bytes. locations bytes column ≡ get_or lists i [])
+  by None e = tt
+  by (Some bytes) e =
+      at_column bytes group field.name column (get_or lists i []) named
+      (ap (λ (field : Field). field_locations bytes group field.name) at ∙ sym (get_or-map (λ (field : Field). field_locations bytes group field.name) fields i field [] h) ∙ ap (λ lists. get_or lists i []) e)
 
 -- ---- the field of a legal bound
 

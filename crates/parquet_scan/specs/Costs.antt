@@ -1,5 +1,5 @@
 -- How many pages a scan is lent, and at most, and how many bytes it reads at most.
-use Rattle.std.specs.Prelude.{ℕ, zero, suc, ◌+◌, ◌*◌, ◌==◌, ◌||◌, Bool, List, [], ◌∷◌, length, map, filter, sum_by, unwrap_or, zip, Option, if◌then◌else◌}
+use Rattle.std.specs.Prelude.{ℕ, zero, suc, ◌+◌, ◌==◌, ◌||◌, Bool, List, [], ◌∷◌, length, map, filter, sum_by, unwrap_or, zip, Option, if◌then◌else◌}
 use Rattle.std.specs.List.{list_any}
 use Rattle.std.specs.Option.{option_map_or}
 use Rattle.columns_core.specs.declared.data_type.DataType.{DataType}
@@ -104,9 +104,9 @@ index_bytes_of group bound = option_map_or column_index_length (column_named gro
 abbrev pub location_bytes_of : RowGroupMetaData → Field → ℕ
 location_bytes_of group field = option_map_or offset_index_length (column_named group field.name) 0
 
--- of a group that counts the column indexes of bounded fields, and twice the offset indexes of requested fields
+-- of a group that counts the offset indexes of requested fields and the column indexes of bounded fields, each once
 abbrev pub index_bytes : Request → RowGroupMetaData → ℕ
-index_bytes request group = sum_by (index_bytes_of group) request.bounds + 2 * sum_by (location_bytes_of group) request.fields
+index_bytes request group = sum_by (location_bytes_of group) request.fields + sum_by (index_bytes_of group) request.bounds
 
 -- ---- how many bytes of chunks
 

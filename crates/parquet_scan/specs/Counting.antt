@@ -1,5 +1,5 @@
--- Groups beside whether they count, and beside the runs of their rows that are given.
-use Rattle.std.specs.Prelude.{◌≡◌, ℕ, Option, Some, None, map, Bool, true, false, not, ◌&&◌, ◌||◌, ◌==◌, ◌+◌, nat_lt, if◌then◌else◌, List, [], length, zip, flat_map, sum_by}
+-- Groups beside whether they count, and beside the runs of their rows that are kept or given, with where their pages stand.
+use Rattle.std.specs.Prelude.{◌≡◌, ℕ, Option, Some, None, IfSome, map, Bool, true, false, not, ◌&&◌, ◌||◌, ◌==◌, ◌+◌, ◌<◌, nat_lt, get_or, if◌then◌else◌, List, [], length, zip, flat_map, sum_by}
 use Rattle.std.specs.List.{list_all, range_with_len}
 use Rattle.std.specs.Option.{option_map_or}
 use Rattle.columns_core.specs.Causes.{Cause, Overflow, unless}
@@ -10,16 +10,20 @@ use Rattle.columns_core.specs.declared.data_type.Field.{Field}
 use Rattle.parquet_base.specs.declared.interval.Interval.{Interval}
 use Rattle.parquet_base.specs.Intervals.{is_well_shaped, maximal_runs, row_count, rows_of}
 use Rattle.parquet_base.specs.Pieces.{cut}
+use Rattle.parquet_meta.specs.declared.metadata.ColumnChunkMetaData.{ColumnChunkMetaData}
 use Rattle.parquet_meta.specs.declared.metadata.Ends.{Ends}
+use Rattle.parquet_meta.specs.declared.metadata.PageLocation.{PageLocation}
 use Rattle.parquet_meta.specs.declared.metadata.RowGroupMetaData.{RowGroupMetaData}
+use Rattle.parquet_page.specs.Locations.{has_shape}
 use Rattle.column_ends.specs.Counted.{with_one_more, fit}
 use Rattle.parquet_scan.specs.declared.bound.Bound.{Bound}
 use Rattle.parquet_scan.specs.declared.scanning.GroupKept.{GroupKept}
 use Rattle.parquet_scan.specs.Causes.{causes_of_group, index_causes_of_group}
 use Rattle.parquet_scan.specs.Cells.{columns_of_chunk, given_chunk}
-use Rattle.parquet_scan.specs.Costs.{index_bytes_of, lent_of_group, location_bytes_of, taken_of_column}
+use Rattle.parquet_scan.specs.Costs.{index_bytes_of, lent_of_group, location_bytes_of, taken_of_group}
+use Rattle.parquet_scan.specs.Pages.{locations}
 use Rattle.parquet_scan.specs.Request.{bound_type, bounded_field}
-use Rattle.parquet_scan.specs.Rows.{first_rows, group_keeps, has_column_index, has_offset_index, pages_keep}
+use Rattle.parquet_scan.specs.Rows.{column_named, first_rows, group_keeps, has_column_index, has_offset_index, pages_keep}
 
 -- a group counts where it did by the bounds so far, and one more keeps it
 abbrev pub counts_by : List Field → Bound → RowGroupMetaData × Bool → Bool
@@ -119,19 +123,36 @@ indexes_taken by_pages fields bounds group =
 abbrev pub indexes_taken_of_groups : Bool → List Field → List Bound → List RowGroupMetaData → List Bool → ℕ
 indexes_taken_of_groups by_pages fields bounds groups counts = sum_by (indexes_taken by_pages fields bounds) (zip groups counts)
 
--- a column that is read, and before it its offset index where rows are pruned by pages
-abbrev pub column_taken : Bool → List ℕ → RowGroupMetaData → List ℕ → Field → ℕ
-column_taken by_pages bytes group rows field = (if by_pages then location_bytes_of group field else 0) + taken_of_column by_pages bytes group rows field
-
-abbrev pub columns_taken : Bool → List Field → List ℕ → RowGroupMetaData × List ℕ → ℕ
-columns_taken by_pages fields bytes read = sum_by (column_taken by_pages bytes read.0 read.1) fields
-
 -- the columns of a group, if it is read
 abbrev pub taken_if_read : Bool → List Field → List ℕ → RowGroupMetaData × List Interval → ℕ
-taken_if_read by_pages fields bytes group = if gives_a_row group then columns_taken by_pages fields bytes (group.0, rows_of group.1) else 0
+taken_if_read by_pages fields bytes group = if gives_a_row group then taken_of_group by_pages fields bytes (group.0, rows_of group.1) else 0
 
 abbrev pub taken_of_groups : Bool → List Field → List ℕ → List RowGroupMetaData → List (List Interval) → ℕ
 taken_of_groups by_pages fields bytes groups given = sum_by (taken_if_read by_pages fields bytes) (zip groups given)
+
+-- ---- where pages stand
+
+-- the locations of a column's pages: they have their shape, and are those of the bytes, where the source tells them
+pub record AreLocationsOf (told : Option (List ℕ)) (group : RowGroupMetaData) (column : ColumnChunkMetaData) (list : List PageLocation) : Type 0 where
+  pub shape : has_shape list group.num_rows ≡ true
+  pub same : IfSome told (λ bytes. locations bytes column ≡ list)
+
+-- of the one column that a field names in a group
+abbrev pub AreLocations : Option (List ℕ) → RowGroupMetaData → Field → List PageLocation → Type 0
+AreLocations told group field list = (column : ColumnChunkMetaData) → column_named group field.name ≡ Some column → AreLocationsOf told group column list
+
+-- those of all fields
+abbrev pub AreLocated : Option (List ℕ) → List Field → RowGroupMetaData → List (List PageLocation) → Type 0
+AreLocated told fields group lists = (i : ℕ) (field : Field) → i < length fields → field ≡ get_or fields i field → AreLocations told group field (get_or lists i [])
+
+-- Where rows are pruned by pages, a group that has a run has them.
+abbrev pub AreLocatedIf : Bool → Option (List ℕ) → List Field → RowGroupMetaData → List Interval → List (List PageLocation) → Type 0
+AreLocatedIf by_pages told fields group runs lists = by_pages ≡ true → 0 < length runs → AreLocated told fields group lists
+
+-- so has each such group, beside its runs
+abbrev pub AreAllLocated : Bool → Option (List ℕ) → List Field → List RowGroupMetaData → List (List Interval) → List (List (List PageLocation)) → Type 0
+AreAllLocated by_pages told fields groups runs located =
+    (i : ℕ) (group : RowGroupMetaData) → i < length groups → group ≡ get_or groups i group → AreLocatedIf by_pages told fields group (get_or runs i []) (get_or located i [])
 
 -- ---- what was read
 

@@ -10,14 +10,15 @@ ghost use Rattle.parquet_scan.specs.Scan.{IsApart};
 use crate::GroupKept;
 use columns_core::{Error, Seq};
 use parquet_base::Interval;
-use parquet_meta::RowGroupMetaData;
+use parquet_meta::{PageLocation, RowGroupMetaData};
 use std::alloc::Global;
 
-/// A row group, and the rows of it that are given.
+/// A row group, the rows of it that are given, and where its pages stand.
 #[derive(Clone, Copy)]
 pub(crate) struct GivenRows<'a> {
     pub(crate) group: &'a RowGroupMetaData,
     pub(crate) runs: &'a [Interval],
+    pub(crate) locations: &'a [Seq<PageLocation>],
 }
 
 /// Of each group the runs of the rows that it gives: the first rows that are kept of all groups, up to a limit.

@@ -1,5 +1,5 @@
 //! The column of a group, in the rows that are given.
-ghost use Rattle.std.specs.Prelude.{◌≡◌, ◌+◌, ◌-◌, ◌<◌, ◌^◌, ◌≤◌, [], Some, min, map, length, replicate, true, false, if◌then◌else◌, IfOk, IfErr, IfSome, OnOk, All};
+ghost use Rattle.std.specs.Prelude.{◌≡◌, ◌+◌, ◌-◌, ◌<◌, ◌^◌, ◌≤◌, [], Some, min, map, length, replicate, true, false, IfOk, IfErr, IfSome, OnOk, All};
 ghost use Rattle.columns_core.specs.Array.{cells, column_of, data_type_of};
 ghost use Rattle.columns_core.specs.Causes.{IsWantOfMemory};
 ghost use Rattle.columns_core.specs.declared.cell.Cell.{Null};
@@ -9,12 +9,11 @@ ghost use Rattle.flat_values.specs.Conversion.{Value};
 ghost use Rattle.parquet_base.specs.Intervals.{is_well_shaped, rows_of};
 ghost use Rattle.parquet_base.specs.Pieces.{cut};
 ghost use Rattle.parquet_meta.specs.Chunks.{chunk_range};
-ghost use Rattle.parquet_meta.specs.Indexes.{offset_index_length};
 ghost use Rattle.parquet_meta.specs.Reads.{ReadsFile};
 ghost use Rattle.parquet_scan.specs.Causes.{causes_of_chunk, causes_of_read, chunk_read_causes, pair_causes};
 ghost use Rattle.parquet_scan.specs.Cells.{column_cell, is_null_type as is_null_type_by, walked_item};
 ghost use Rattle.parquet_scan.specs.Costs.{lent_of_chunk, lent_of_read, taken_of_read};
-ghost use Rattle.parquet_scan.specs.Counting.{AreFirst};
+ghost use Rattle.parquet_scan.specs.Counting.{AreFirst, AreLocationsOf};
 ghost use Rattle.parquet_scan.specs.Scan.{RisesBy, RisesJustBy};
 
 use crate::column::{place_of_chunk, read_chunk};
@@ -44,6 +43,8 @@ pub(crate) fn read_column<S: Source, L: Ledger>(
     requires some { 0 < length rows.runs.now }
     requires first { AreFirst asked.by_pages rows.runs.now }
     requires size { IsChunkSize asked.chunk_size }
+    requires located { asked.by_pages ≡ true
+        → AreLocationsOf (S.told source.old) rows.group.now typed.column.now typed.locations.now }
     ensures reads { ReadsFile S.Source source.old source.new (λ bytes.
         causes_of_read asked.entry.by_pages asked.entry.chunk_size bytes rows.entry.group.now
         (rows_of rows.entry.runs.now) typed.entry.data_type.now typed.entry.column.now) result }
@@ -63,8 +64,7 @@ pub(crate) fn read_column<S: Source, L: Ledger>(
         typed.entry.data_type.now typed.entry.column.now)) }
     ensures taken { OnOk result (
         RisesBy (S.told source.old) (S.taken source.old) (S.taken source.new) (λ bytes.
-        (if asked.entry.by_pages then offset_index_length typed.entry.column.now else 0)
-        + taken_of_read asked.entry.by_pages bytes rows.entry.group.now (rows_of rows.entry.runs.now)
+        taken_of_read asked.entry.by_pages bytes rows.entry.group.now (rows_of rows.entry.runs.now)
         typed.entry.data_type.now typed.entry.column.now)) }
 {
     let (column, chunk_size) = (typed.column, asked.chunk_size);

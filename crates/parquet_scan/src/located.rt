@@ -3,7 +3,6 @@ ghost use Rattle.std.specs.Prelude.{◌≡◌, ◌+◌, ◌-◌, ◌^◌, ◌≤
 ghost use Rattle.columns_core.specs.Array.{cells, data_type_of};
 ghost use Rattle.parquet_base.specs.Intervals.{is_well_shaped, rows_of};
 ghost use Rattle.parquet_base.specs.Pieces.{cut};
-ghost use Rattle.parquet_meta.specs.Indexes.{offset_index_length};
 ghost use Rattle.parquet_meta.specs.Places.{lies_in as lies_in_by};
 ghost use Rattle.parquet_page.specs.Lent.{are_well_shaped, first_start as first_start_by, has_parts, is_wanted as is_wanted_by, located_parts};
 ghost use Rattle.page_decoding.specs.Bytes.{IsCausedByChunks, cell_bytes, fits_most};
@@ -15,6 +14,7 @@ ghost use Rattle.parquet_meta.specs.Reads.{ReadsFile};
 ghost use Rattle.parquet_scan.specs.Causes.{causes_of_chunk, pair_causes};
 ghost use Rattle.parquet_scan.specs.Cells.{is_null_type, located_item};
 ghost use Rattle.parquet_scan.specs.Costs.{lent_of_chunk, taken_of_chunk};
+ghost use Rattle.parquet_scan.specs.Counting.{AreLocationsOf};
 ghost use Rattle.parquet_scan.specs.Decoded.{column_rows, pages_for};
 ghost use Rattle.parquet_scan.specs.Located.{entry_causes, entry_part, entry_place, part_causes, part_in, place_before as place_before_by};
 ghost use Rattle.parquet_scan.specs.Scan.{RisesBy, RisesJustBy};
@@ -22,7 +22,6 @@ ghost use Rattle.parquet_scan.specs.Scan.{RisesBy, RisesJustBy};
 use crate::column::place_of_chunk;
 use crate::decode::decode_column;
 use crate::given::GivenRows;
-use crate::locations::read_locations;
 use crate::pairs::TypedColumn;
 use columns_core::{Array, Error, Part};
 use parquet_base::Steps;
@@ -51,6 +50,8 @@ pub(crate) fn read_located<S: Source, L: Ledger>(
 ) -> Result<(VecDeque<Array>, usize), Error>
     requires shaped { is_well_shaped rows.runs.now rows.group.now.num_rows ≡ true }
     requires size { IsChunkSize chunk_size }
+    requires located { AreLocationsOf (S.told source.old) rows.group.now typed.column.now
+        typed.locations.now }
     requires pair { pair_causes typed.column.now.descriptor.primitive_type typed.data_type.now ≡ [] }
     requires not_null { is_null_type typed.data_type.now ≡ false }
     ensures reads { ReadsFile S.Source source.old source.new (λ bytes.
@@ -71,15 +72,13 @@ pub(crate) fn read_located<S: Source, L: Ledger>(
         lent_of_chunk true bytes rows.entry.group.now (rows_of rows.entry.runs.now) typed.entry.column.now)) }
     ensures taken { OnOk result (
         RisesBy (S.told source.old) (S.taken source.old) (S.taken source.new) (λ bytes.
-        offset_index_length typed.entry.column.now
-        + taken_of_chunk true bytes rows.entry.group.now (rows_of rows.entry.runs.now)
+        taken_of_chunk true bytes rows.entry.group.now (rows_of rows.entry.runs.now)
         typed.entry.column.now)) }
 {
     let (group, column) = (rows.group, typed.column);
     let count = count_of_rows(rows);
     let chunk = place_of_chunk(source, group, column)?;
-    let locations = read_locations(alloc, source, group, column)?;
-    let pages = select_pages(alloc, rows.runs, &locations, group.num_rows)?;
+    let pages = select_pages(alloc, rows.runs, typed.locations, group.num_rows)?;
     let bodies = read_bodies(alloc, source, chunk, &pages)?;
     let before = read_before(alloc, source, chunk, &pages, !bodies.is_empty())?;
     let parts = PageParts {

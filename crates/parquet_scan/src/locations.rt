@@ -11,7 +11,7 @@ ghost use Rattle.parquet_scan.specs.Pages.{locations as locations_by, locations_
 ghost use Rattle.parquet_scan.specs.Rows.{field_locations};
 
 use crate::groups::column_named;
-use columns_core::{Error, Field, Part};
+use columns_core::{Error, Field, Part, Seq};
 use parquet_base::Interval;
 use parquet_meta::{
     ColumnChunkMetaData, PageLocation, RowGroupMetaData, Source, read_pages_locations,
@@ -20,30 +20,33 @@ use parquet_page::page_row_intervals;
 use std::alloc::Global;
 use std::slice;
 
+/// Of each field the locations of its column's pages in a group. None where rows are not pruned by pages, or no row is kept.
+pub(crate) type Located = Seq<Seq<PageLocation>>;
+
 /// The locations of the pages of each field's column.
 pub(crate) fn read_all_locations<S: Source>(
     alloc: Global,
     source: &mut S,
     group: &RowGroupMetaData,
     fields: &[Field],
-) -> Result<Vec<Vec<PageLocation>>, Error>
+) -> Result<Located, Error>
     ensures reads { ReadsFile S.Source source.old source.new (λ bytes.
         flat_map (offset_causes_of_field bytes group.now) fields.now) result }
     ensures locations { IfOk result (λ lists.
         IfSome (S.told source.old) (λ bytes.
-        map (λ field. field_locations bytes group.now field.name) fields.now
-        ≡ map (λ list. list.items) lists.items)) }
-    ensures length { IfOk result (λ lists. length lists.items ≡ length fields.now) }
+        map (λ field. field_locations bytes group.now field.name) fields.now ≡ lists)) }
+    ensures length { IfOk result (λ lists. length lists ≡ length fields.now) }
     ensures shaped { IfOk result (λ lists.
-        list_all (λ list. has_shape list.items group.now.num_rows) lists.items ≡ true) }
+        list_all (λ list. has_shape list group.now.num_rows) lists ≡ true) }
     ensures taken { OnOk result (S.taken source.new ≤ S.taken source.old
         + sum_by (location_bytes_of group.now) fields.now) }
 {
-    let mut lists = Vec::new(alloc);
+    let mut lists = Vec::with_capacity(alloc, fields.len())?;
     for field in fields {
-        lists.push(read_field_locations(alloc, source, group, field)?)?;
+        let list = read_field_locations(alloc, source, group, field)?;
+        lists.push(Seq::new(list))?;
     }
-    Ok(lists)
+    Ok(Seq::new(lists))
 }
 
 fn read_field_locations<S: Source>(
@@ -67,7 +70,7 @@ fn read_field_locations<S: Source>(
 }
 
 /// The locations of a column's pages. There is one, the first has row 0, and first rows never fall nor pass the number of rows.
-pub(crate) fn read_locations<S: Source>(
+fn read_locations<S: Source>(
     alloc: Global,
     source: &mut S,
     group: &RowGroupMetaData,

@@ -1,45 +1,74 @@
-//! What the column index of a column says of its pages.
-ghost use Rattle.std.specs.Prelude.{◌≡◌, ◌≤◌, ◌+◌, true, length, map, IfOk, IfSome, OnOk};
+//! Which pages of a column its column index keeps for a bound.
+ghost use Rattle.std.specs.Prelude.{◌≡◌, ◌≤◌, ◌+◌, true, false, length, map, option_and_then, slice_get, zip, IfOk, IfSome, OnOk};
+ghost use Rattle.std.specs.Option.{option_map_or};
+ghost use Rattle.parquet_meta.specs.Code.{not_negative};
 ghost use Rattle.parquet_meta.specs.Indexes.{FindsIndex, column_index_length};
 ghost use Rattle.parquet_meta.specs.Keeps.{Keeps};
 ghost use Rattle.parquet_meta.specs.Reads.{ReadsFile};
 ghost use Rattle.parquet_scan.specs.Pages as spec;
 ghost use Rattle.parquet_scan.specs.Request.{begins};
 
-use column_ends::index_ends;
+use crate::Bound;
+use crate::bound::ends_keep;
+use column_ends::{FromEnds, index_each};
 use columns_core::{Cell, DataType, Error, Name, Part};
 use flat_values::carries_page;
+use parquet_base::Interval;
 use parquet_meta::{ColumnChunkMetaData, Index, PageIndex, Source, read_raw_indexes};
 use std::alloc::Global;
 use std::slice;
 
-/// The ends of each page of a column that this name begins, as values of a type, where its column index tells of so many pages.
-pub(crate) fn read_page_ends<S: Source>(
+/// Asks of the pages with these rows whether they may hold a row that meets a bound.
+#[derive(Drop)]
+struct PageTest<'a> {
+    rows: &'a [Interval],
+    bound: &'a Bound,
+}
+
+impl FromEnds<bool> for PageTest<'_> {
+    // An index of more pages than these is refused once all are judged.
+    ghost made = { λ test told. option_map_or
+        (λ rows. spec.page_keeps test.bound.now (rows, spec.ends_of_page told.1))
+        (slice_get test.rows.now told.0) false };
+
+    fn make(&self, page: usize, ends: PageIndex<Cell>) -> bool {
+        match self.rows.get(page) {
+            Some(rows) => page_keeps(*rows, &ends, self.bound),
+            None => false,
+        }
+    }
+}
+
+/// Whether each page of a column that the name of a bound begins may hold a row that meets it, where the pages have these rows and the
+/// column index tells of as many pages.
+pub(crate) fn read_kept_pages<S: Source>(
     alloc: Global,
     source: &mut S,
     column: &ColumnChunkMetaData,
-    name: &Name,
     data_type: &DataType,
-    count: usize,
-) -> Result<Vec<PageIndex<Cell>>, Error>
-    requires named { begins name.now column.now.descriptor ≡ true }
+    rows: &[Interval],
+    bound: &Bound,
+) -> Result<Vec<bool>, Error>
+    requires named { begins bound.now.field column.now.descriptor ≡ true }
     ensures reads { ReadsFile S.Source source.old source.new (λ bytes.
-        spec.column_index_causes data_type.now count bytes column.now) result }
-    ensures ends { IfOk result (λ ends. IfSome (S.told source.old) (λ bytes.
-        spec.page_ends data_type.now bytes column.now ≡ map spec.ends_of_page ends.items)) }
-    ensures length { IfOk result (λ ends. length ends.items ≡ count) }
+        spec.column_index_causes data_type.now (length rows.now) bytes column.now) result }
+    ensures kept { IfOk result (λ keep. IfSome (S.told source.old) (λ bytes.
+        map (spec.page_keeps bound.now) (zip rows.now (spec.page_ends data_type.now bytes column.now))
+        ≡ keep.items)) }
+    ensures length { IfOk result (λ keep. length keep.items ≡ length rows.now) }
     ensures taken { S.taken source.new ≤ S.taken source.old + column_index_length column.now }
 {
     let stored = &column.descriptor.primitive_type;
     if !carries_page(stored, data_type) {
         return Err(Error::NotYetImplemented(Part::Index));
     }
-    let index = read_index(alloc, source, column, name)?;
-    let ends = index_ends(alloc, stored, &index, data_type)?;
-    if ends.len() != count {
+    let index = read_index(alloc, source, column, &bound.field)?;
+    let test = PageTest { rows, bound };
+    let keep = index_each(alloc, stored, &index, data_type, &test)?;
+    if keep.len() != rows.len() {
         return Err(Error::ExternalFormat(Part::Index));
     }
-    Ok(ends)
+    Ok(keep)
 }
 
 /// The column index of a column that this name begins.
@@ -61,4 +90,26 @@ fn read_index<S: Source>(
         return Err(Error::ExternalFormat(Part::Index));
     };
     Ok(index)
+}
+
+fn page_keeps(page: Interval, ends: &PageIndex<Cell>, bound: &Bound) -> bool
+    ensures { result ≡ spec.page_keeps bound.now (page, spec.ends_of_page ends.now) }
+{
+    ends_keep(
+        ends.min.as_ref(),
+        ends.max.as_ref(),
+        known_count(ends.null_count),
+        page.length as u64,
+        bound,
+    )
+}
+
+/// No count of a page without a cause is negative.
+fn known_count(count: Option<i64>) -> Option<u64>
+    ensures { result ≡ option_and_then not_negative count }
+{
+    match count {
+        Some(count) if count >= 0 => Some(count as u64),
+        _ => None,
+    }
 }

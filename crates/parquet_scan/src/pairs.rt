@@ -6,13 +6,14 @@ ghost use Rattle.parquet_scan.specs.Causes.{pair_causes};
 
 use columns_core::{DataType, Error, Part};
 use flat_values::carries;
-use parquet_meta::{ColumnChunkMetaData, PrimitiveType};
+use parquet_meta::{ColumnChunkMetaData, PageLocation, PrimitiveType};
 
-/// A column chunk, and the type that it is read as.
+/// A column chunk, the type that it is read as, and where its pages stand, if rows are pruned by them.
 #[derive(Clone, Copy)]
 pub(crate) struct TypedColumn<'a> {
     pub(crate) column: &'a ColumnChunkMetaData,
     pub(crate) data_type: &'a DataType,
+    pub(crate) locations: &'a [PageLocation],
 }
 
 /// Refuses a pair of types that is not carried.

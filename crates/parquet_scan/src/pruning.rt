@@ -1,50 +1,65 @@
 //! Which rows of a group its pages keep.
-ghost use Rattle.std.specs.Prelude.{◌≡◌, ◌≤◌, ◌+◌, true, All, length, sum_by, map, flat_map, option_and_then, zip, IfOk, IfErr, IfSome, OnOk};
+ghost use Rattle.std.specs.Prelude.{◌≡◌, ◌<◌, ◌≤◌, ◌+◌, true, All, length, sum_by, map, flat_map, IfOk, IfSome, OnOk};
 ghost use Rattle.std.specs.List.{list_all};
-ghost use Rattle.columns_core.specs.Causes.{IsWantOfMemory};
 ghost use Rattle.parquet_base.specs.Intervals.{maximal_runs, AreApart};
 ghost use Rattle.parquet_page.specs.Locations.{has_shape};
-ghost use Rattle.parquet_meta.specs.Code.{not_negative};
+ghost use Rattle.parquet_meta.specs.Indexes.{column_index_length};
 ghost use Rattle.parquet_meta.specs.Reads.{ReadsFile};
 ghost use Rattle.parquet_scan.specs.Causes.{index_causes_of_bound, index_causes_of_group};
 ghost use Rattle.parquet_scan.specs.Costs.{index_bytes_of, location_bytes_of};
-ghost use Rattle.parquet_scan.specs.Pages.{ends_of_page, keeps_row, page_keeps as page_keeps_by, rows_at};
-ghost use Rattle.parquet_scan.specs.Request.{is_legal_bound_of};
+ghost use Rattle.parquet_scan.specs.Counting.{AreLocated};
+ghost use Rattle.parquet_scan.specs.Pages.{column_index_causes, keeps_row, page_ends, rows_at};
+ghost use Rattle.parquet_scan.specs.Request.{begins, is_legal_bound_of};
 ghost use Rattle.parquet_scan.specs.Rows.{bound_keeps, field_locations, pages_keep};
 
 use crate::Bound;
-use crate::bound::ends_keep;
 use crate::groups::bounded_column;
-use crate::locations::read_all_locations;
-use crate::page_ends::read_page_ends;
+use crate::locations::{Located, read_all_locations};
+use crate::page_ends::read_kept_pages;
 use crate::request::place_of;
-use columns_core::{Cell, Error, Field, Part};
+use columns_core::{DataType, Error, Field, Part, Seq};
 use parquet_base::{Interval, page_runs, runs_of_all};
-use parquet_meta::{PageIndex, PageLocation, RowGroupMetaData, Source};
+use parquet_meta::{ColumnChunkMetaData, PageLocation, RowGroupMetaData, Source};
 use parquet_page::page_row_intervals;
-use std::alloc::{AllocError, Global};
+use std::alloc::Global;
 
-/// The runs of the rows of a group that lie in pages which no bound rules out.
+/// The runs of the rows of a group that lie in pages which no bound rules out and, if there are any, where the pages of each field's column
+/// stand.
 pub(crate) fn kept_by_pages<S: Source>(
     alloc: Global,
     source: &mut S,
     group: &RowGroupMetaData,
     fields: &[Field],
     bounds: &[Bound],
-) -> Result<Vec<Interval>, Error>
+) -> Result<(Vec<Interval>, Located), Error>
     requires legal { list_all (is_legal_bound_of fields.now) bounds.now ≡ true }
     ensures reads { ReadsFile S.Source source.old source.new (λ bytes.
         index_causes_of_group fields.now bounds.now bytes group.now) result }
-    ensures kept { IfOk result (λ runs. IfSome (S.told source.old) (λ bytes. runs.items
+    ensures kept { IfOk result (λ found. IfSome (S.told source.old) (λ bytes. found.0.items
         ≡ maximal_runs (pages_keep true fields.now bounds.now bytes group.now) group.now.num_rows)) }
-    ensures apart { IfOk result (λ runs. AreApart 0 runs.items group.now.num_rows) }
+    ensures apart { IfOk result (λ found. AreApart 0 found.0.items group.now.num_rows) }
+    ensures located { IfOk result (λ found.
+        0 < length found.0.items → AreLocated (S.told source.old) fields.now group.now found.1) }
     ensures taken { OnOk result (S.taken source.new
         ≤ S.taken source.old + (sum_by (location_bytes_of group.now) fields.now
         + sum_by (index_bytes_of group.now) bounds.now)) }
 {
     let locations = read_all_locations(alloc, source, group, fields)?;
-    let runs = read_all_runs(alloc, source, group, fields, bounds, &locations)?;
-    Ok(runs_of_all(alloc, &runs, group.num_rows)?)
+    let lists = read_all_runs(alloc, source, group, fields, bounds, locations.as_slice())?;
+    let runs = runs_of_all(alloc, &lists, group.num_rows)?;
+    let located = held_for(alloc, &runs, locations);
+    Ok((runs, located))
+}
+
+/// The locations, if there are runs. Of a group without one no page is read.
+fn held_for(alloc: Global, runs: &[Interval], locations: Located) -> Located
+    ensures { 0 < length runs.now → result ≡ locations }
+{
+    if runs.is_empty() {
+        Seq::new(Vec::new(alloc))
+    } else {
+        locations
+    }
 }
 
 /// Of each bound the runs of the rows that it keeps.
@@ -54,14 +69,13 @@ fn read_all_runs<S: Source>(
     group: &RowGroupMetaData,
     fields: &[Field],
     bounds: &[Bound],
-    locations: &[Vec<PageLocation>],
+    locations: &[Seq<PageLocation>],
 ) -> Result<Vec<Vec<Interval>>, Error>
     requires legal { list_all (is_legal_bound_of fields.now) bounds.now ≡ true }
     requires length { length locations.now ≡ length fields.now }
-    requires shaped { list_all (λ list. has_shape list.items group.now.num_rows) locations.now ≡ true }
+    requires shaped { list_all (λ list. has_shape list group.now.num_rows) locations.now ≡ true }
     requires told { IfSome (S.told source.old) (λ bytes.
-        map (λ field. field_locations bytes group.now field.name) fields.now
-        ≡ map (λ list. list.items) locations.now) }
+        map (λ field. field_locations bytes group.now field.name) fields.now ≡ locations.now) }
     ensures reads { ReadsFile S.Source source.old source.new (λ bytes.
         flat_map (index_causes_of_bound fields.now bytes group.now) bounds.now) result }
     ensures runs { IfOk result (λ lists. IfSome (S.told source.old) (λ bytes.
@@ -75,7 +89,7 @@ fn read_all_runs<S: Source>(
 {
     let mut lists = Vec::new(alloc);
     for bound in bounds {
-        let of_column = &locations[place_of(bound, fields)];
+        let of_column = locations[place_of(bound, fields)].as_slice();
         lists.push(read_runs(alloc, source, group, fields, bound, of_column)?)?;
     }
     Ok(lists)
@@ -104,68 +118,39 @@ fn read_runs<S: Source>(
     let Some((data_type, column)) = bounded_column(group, fields, bound) else {
         return Err(Error::ExternalFormat(Part::Group));
     };
-    let count = locations.len();
-    let ends = read_page_ends(alloc, source, column, &bound.field, data_type, count)?;
-    runs_of_pages(alloc, &ends, locations, group.num_rows, bound)
-}
-
-/// The runs of the rows in pages with these ends that a bound keeps.
-fn runs_of_pages(
-    alloc: Global,
-    ends: &[PageIndex<Cell>],
-    locations: &[PageLocation],
-    num_rows: usize,
-    bound: &Bound,
-) -> Result<Vec<Interval>, Error>
-    requires shaped { has_shape locations.now num_rows ≡ true }
-    requires length { length ends.now ≡ length locations.now }
-    ensures runs { IfOk result (λ runs. runs.items
-        ≡ maximal_runs (keeps_row (rows_at locations.now num_rows) (map ends_of_page ends.now) bound.now)
-        num_rows) }
-    ensures memory { IfErr result IsWantOfMemory }
-{
-    let pages = page_row_intervals(alloc, locations, num_rows)?;
-    let keep = kept_pages(alloc, &pages, ends, bound)?;
-    Ok(page_runs(alloc, &pages, &keep, num_rows)?)
-}
-
-/// Whether each page may hold a row that meets a bound.
-fn kept_pages(
-    alloc: Global,
-    pages: &[Interval],
-    ends: &[PageIndex<Cell>],
-    bound: &Bound,
-) -> Result<Vec<bool>, AllocError>
-    requires { length ends.now ≡ length pages.now }
-    ensures kept { IfOk result (λ keep.
-        map (page_keeps_by bound.now) (zip pages.now (map ends_of_page ends.now)) ≡ keep.items) }
-    ensures length { IfOk result (λ keep. length keep.items ≡ length pages.now) }
-{
-    let mut keep = Vec::new(alloc);
-    for i in 0..pages.len() {
-        keep.push(page_keeps(pages[i], &ends[i], bound))?;
-    }
-    Ok(keep)
-}
-
-fn page_keeps(page: Interval, ends: &PageIndex<Cell>, bound: &Bound) -> bool
-    ensures { result ≡ page_keeps_by bound.now (page, ends_of_page ends.now) }
-{
-    ends_keep(
-        ends.min.as_ref(),
-        ends.max.as_ref(),
-        known_count(ends.null_count),
-        page.length as u64,
+    runs_of_pages(
+        alloc,
+        source,
+        column,
+        data_type,
         bound,
+        locations,
+        group.num_rows,
     )
 }
 
-/// No count of a page without a cause is negative.
-fn known_count(count: Option<i64>) -> Option<u64>
-    ensures { result ≡ option_and_then not_negative count }
+/// The runs of the rows that a bound keeps in the pages of a column that its name begins, at these locations.
+fn runs_of_pages<S: Source>(
+    alloc: Global,
+    source: &mut S,
+    column: &ColumnChunkMetaData,
+    data_type: &DataType,
+    bound: &Bound,
+    locations: &[PageLocation],
+    num_rows: usize,
+) -> Result<Vec<Interval>, Error>
+    requires named { begins bound.now.field column.now.descriptor ≡ true }
+    requires shaped { has_shape locations.now num_rows ≡ true }
+    ensures reads { ReadsFile S.Source source.old source.new (λ bytes.
+        column_index_causes data_type.now (length locations.now) bytes column.now) result }
+    ensures runs { IfOk result (λ runs. IfSome (S.told source.old) (λ bytes.
+        let rows = rows_at locations.now num_rows in
+        runs.items ≡ maximal_runs (keeps_row rows (page_ends data_type.now bytes column.now) bound.now)
+        num_rows)) }
+    ensures apart { IfOk result (λ runs. AreApart 0 runs.items num_rows) }
+    ensures taken { S.taken source.new ≤ S.taken source.old + column_index_length column.now }
 {
-    match count {
-        Some(count) if count >= 0 => Some(count as u64),
-        _ => None,
-    }
+    let rows = page_row_intervals(alloc, locations, num_rows)?;
+    let keep = read_kept_pages(alloc, source, column, data_type, &rows, bound)?;
+    Ok(page_runs(alloc, &rows, &keep, num_rows)?)
 }

@@ -1,5 +1,5 @@
 //! The chunks of groups.
-ghost use Rattle.std.specs.Prelude.{◌≡◌, ◌+◌, ◌-◌, ◌<◌, ◌^◌, ◌≤◌, ◌++◌, Some, min, map, length, true, IfOk, IfSome, OnOk, All};
+ghost use Rattle.std.specs.Prelude.{◌≡◌, ◌+◌, ◌-◌, ◌<◌, ◌^◌, ◌≤◌, ◌++◌, [], Some, get_or, min, map, length, true, IfOk, IfSome, OnOk, All};
 ghost use Rattle.columns_core.specs.Array.{cells, column_of};
 ghost use Rattle.columns_core.specs.Chunk.{AreEqualLengths};
 ghost use Rattle.page_decoding.specs.Queue.{IsChunkSize};
@@ -8,19 +8,20 @@ ghost use Rattle.parquet_base.specs.Pieces.{cut};
 ghost use Rattle.parquet_meta.specs.Reads.{ReadsFile};
 ghost use Rattle.parquet_scan.specs.Causes.{causes_of_column, causes_of_group};
 ghost use Rattle.parquet_scan.specs.Cells.{given_chunk, given_column};
-ghost use Rattle.parquet_scan.specs.Costs.{lent_of_column, lent_of_group};
-ghost use Rattle.parquet_scan.specs.Counting.{AreFirst, lie_in_groups, causes_if_read, causes_of_groups, chunks_if_read, chunks_of_groups, column_taken, columns_taken, lies_in_group, lent_if_read, lent_of_groups, rows_of_groups, shown, taken_if_read, taken_of_groups};
+ghost use Rattle.parquet_scan.specs.Costs.{lent_of_column, lent_of_group, taken_of_column, taken_of_group};
+ghost use Rattle.parquet_scan.specs.Counting.{AreAllLocated, AreFirst, AreLocated, AreLocatedIf, AreLocations, lie_in_groups, causes_if_read, causes_of_groups, chunks_if_read, chunks_of_groups, lies_in_group, lent_if_read, lent_of_groups, rows_of_groups, shown, taken_if_read, taken_of_groups};
 ghost use Rattle.parquet_scan.specs.Scan.{RisesBy, RisesJustBy, rows_in};
 
 use crate::chunks::{RowsRead, add_chunks};
 use crate::given::GivenRows;
 use crate::group_column::read_column;
 use crate::groups::column_named;
+use crate::locations::Located;
 use crate::pairs::TypedColumn;
 use crate::request::GroupRequest;
 use columns_core::{Array, Error, Field, Part, Seq};
 use parquet_base::{Interval, Steps};
-use parquet_meta::{RowGroupMetaData, Source};
+use parquet_meta::{PageLocation, RowGroupMetaData, Source};
 use std::alloc::Global;
 use std::collections::VecDeque;
 use std::sync::ledger::Ledger;
@@ -31,11 +32,15 @@ pub(crate) fn read_groups<S: Source, L: Ledger>(
     source: &mut S,
     groups: &[RowGroupMetaData],
     given: &[Seq<Interval>],
+    located: &[Located],
     asked: GroupRequest<'_>,
     read: &mut RowsRead,
     steps: &mut Steps<L>,
 ) -> Result<(), Error>
     requires lengths { length given.now ≡ length groups.now }
+    requires each { length located.now ≡ length groups.now }
+    requires located { AreAllLocated asked.by_pages (S.told source.old) asked.fields.now groups.now given.now
+        located.now }
     requires shaped { lie_in_groups groups.now given.now ≡ true }
     requires first { All (AreFirst asked.by_pages) given.now }
     requires size { IsChunkSize asked.chunk_size }
@@ -67,6 +72,7 @@ pub(crate) fn read_groups<S: Source, L: Ledger>(
         let rows = GivenRows {
             group: &groups[i],
             runs,
+            locations: located[i].as_slice(),
         };
         read_if_given(alloc, source, rows, asked, read, steps)?;
     }
@@ -83,6 +89,8 @@ fn read_if_given<S: Source, L: Ledger>(
     steps: &mut Steps<L>,
 ) -> Result<(), Error>
     requires shaped { lies_in_group (rows.group.now, rows.runs.now) ≡ true }
+    requires located { AreLocatedIf asked.by_pages (S.told source.old) asked.fields.now rows.group.now
+        rows.runs.now rows.locations.now }
     requires first { AreFirst asked.by_pages rows.runs.now }
     requires size { IsChunkSize asked.chunk_size }
     requires some { 0 < length asked.fields.now }
@@ -127,6 +135,8 @@ fn read_group<S: Source, L: Ledger>(
 ) -> Result<(), Error>
     requires shaped { is_well_shaped rows.runs.now rows.group.now.num_rows ≡ true }
     requires some_rows { 0 < length rows.runs.now }
+    requires located { asked.by_pages ≡ true
+        → AreLocated (S.told source.old) asked.fields.now rows.group.now rows.locations.now }
     requires first { AreFirst asked.by_pages rows.runs.now }
     requires size { IsChunkSize asked.chunk_size }
     requires some { 0 < length asked.fields.now }
@@ -150,7 +160,7 @@ fn read_group<S: Source, L: Ledger>(
         (rows.entry.group.now, rows_of rows.entry.runs.now))) }
     ensures taken { OnOk result (
         RisesBy (S.told source.old) (S.taken source.old) (S.taken source.new) (λ bytes.
-        columns_taken asked.entry.by_pages asked.entry.fields.now bytes
+        taken_of_group asked.entry.by_pages asked.entry.fields.now bytes
         (rows.entry.group.now, rows_of rows.entry.runs.now))) }
 {
     let (mut columns, pages) = read_columns(alloc, source, rows, asked, steps)?;
@@ -168,6 +178,8 @@ fn read_columns<S: Source, L: Ledger>(
 ) -> Result<(Vec<VecDeque<Array>>, usize), Error>
     requires shaped { is_well_shaped rows.runs.now rows.group.now.num_rows ≡ true }
     requires some_rows { 0 < length rows.runs.now }
+    requires located { asked.by_pages ≡ true
+        → AreLocated (S.told source.old) asked.fields.now rows.group.now rows.locations.now }
     requires first { AreFirst asked.by_pages rows.runs.now }
     requires size { IsChunkSize asked.chunk_size }
     ensures reads { ReadsFile S.Source source.old source.new (λ bytes.
@@ -189,17 +201,29 @@ fn read_columns<S: Source, L: Ledger>(
         (rows.entry.group.now, rows_of rows.entry.runs.now))) }
     ensures taken { OnOk result (
         RisesBy (S.told source.old) (S.taken source.old) (S.taken source.new) (λ bytes.
-        columns_taken asked.entry.by_pages asked.entry.fields.now bytes
+        taken_of_group asked.entry.by_pages asked.entry.fields.now bytes
         (rows.entry.group.now, rows_of rows.entry.runs.now))) }
 {
     let mut columns = Vec::new(alloc);
     let mut pages: usize = 0;
-    for field in asked.fields {
-        let (arrays, lent) = read_field(alloc, source, rows, asked, field, steps)?;
+    for i in 0..asked.fields.len() {
+        let field = &asked.fields[i];
+        let of_field = locations_of_field(rows, i);
+        let (arrays, lent) = read_field(alloc, source, rows, asked, field, of_field, steps)?;
         pages = pages.saturating_add(lent);
         columns.push(arrays)?;
     }
     Ok((columns, pages))
+}
+
+/// The locations of the pages of a field's column, as far as they are there.
+fn locations_of_field<'a>(rows: GivenRows<'a>, field: usize) -> &'a [PageLocation]
+    ensures { result.now ≡ get_or rows.entry.locations.now field [] }
+{
+    match rows.locations.get(field) {
+        Some(list) => list.as_slice(),
+        None => &[],
+    }
 }
 
 /// The arrays of a field in a group, and how many pages were lent.
@@ -209,10 +233,13 @@ fn read_field<S: Source, L: Ledger>(
     rows: GivenRows<'_>,
     asked: GroupRequest<'_>,
     field: &Field,
+    locations: &[PageLocation],
     steps: &mut Steps<L>,
 ) -> Result<(VecDeque<Array>, usize), Error>
     requires shaped { is_well_shaped rows.runs.now rows.group.now.num_rows ≡ true }
     requires some_rows { 0 < length rows.runs.now }
+    requires located { asked.by_pages ≡ true
+        → AreLocations (S.told source.old) rows.group.now field.now locations.now }
     requires first { AreFirst asked.by_pages rows.runs.now }
     requires size { IsChunkSize asked.chunk_size }
     ensures reads { ReadsFile S.Source source.old source.new (λ bytes.
@@ -232,7 +259,7 @@ fn read_field<S: Source, L: Ledger>(
         field.now)) }
     ensures taken { OnOk result (
         RisesBy (S.told source.old) (S.taken source.old) (S.taken source.new) (λ bytes.
-        column_taken asked.entry.by_pages bytes rows.entry.group.now (rows_of rows.entry.runs.now)
+        taken_of_column asked.entry.by_pages bytes rows.entry.group.now (rows_of rows.entry.runs.now)
         field.now)) }
 {
     let Some(column) = column_named(rows.group, &field.name) else {
@@ -241,6 +268,7 @@ fn read_field<S: Source, L: Ledger>(
     let typed = TypedColumn {
         column,
         data_type: &field.data_type,
+        locations,
     };
     read_column(alloc, source, rows, asked, typed, steps)
 }

@@ -141,7 +141,7 @@ fn scan_groups<S: Source, L: Ledger>(
 {
     let groups = metadata.row_groups.as_slice();
     let by_pages = are_pruned(groups, counts, request.fields, request.bounds);
-    let kept = kept_groups(alloc, source, groups, counts, by_pages, request)?;
+    let (kept, located) = kept_groups(alloc, source, groups, counts, by_pages, request)?;
     let given = given_runs(alloc, &kept, request.limit)?;
     let mut read = RowsRead {
         chunks: Vec::new(alloc),
@@ -153,7 +153,9 @@ fn scan_groups<S: Source, L: Ledger>(
         by_pages,
         chunk_size: request.chunk_size,
     };
-    read_groups(alloc, source, groups, &given, asked, &mut read, steps)?;
+    read_groups(
+        alloc, source, groups, &given, &located, asked, &mut read, steps,
+    )?;
     Ok(Scan {
         rows: read.rows,
         kept: Seq::new(kept),

@@ -2,15 +2,15 @@
 use crate::arrays::{item, keyed, list_of, named, write_cell};
 use columns_core::{Array, Cell, DataType, Error, IntegerType, Name, Seq};
 use parquet_meta::{
-    ColumnChunkMetaData, ColumnDescriptor, PhysicalType, PrimitiveType, Repetition,
-    RowGroupMetaData, StatisticsBytes,
+    ColumnChunkMetaData, ColumnDescriptor, ColumnPath, PhysicalType, PrimitiveType, Repetition,
+    RowGroupMetaData, ShortBytes, StatisticsBytes,
 };
 use parquet_statistics::{Statistics, deserialize};
 use std::alloc::Global;
 use std::test::*;
 
-fn bytes_of(alloc: Global, number: i32) -> Result<Option<Seq<u8>>, Error> {
-    Ok(Some(Seq::new(Vec::from_slice(alloc, &number.to_le_bytes())?)))
+fn bytes_of(alloc: Global, number: i32) -> Result<Option<ShortBytes>, Error> {
+    Ok(Some(ShortBytes::from_slice(alloc, &number.to_le_bytes())?))
 }
 
 /// Statistics of a count of nulls and two numbers.
@@ -37,7 +37,7 @@ fn column(
     statistics_bytes: Option<StatisticsBytes>,
 ) -> Result<ColumnChunkMetaData, Error> {
     let name = Name::new(String::from_str(alloc, "a")?);
-    let path_in_schema = Seq::new(vec![in alloc; name]?);
+    let path_in_schema = ColumnPath::new(alloc, vec![in alloc; name]?)?;
     Ok(ColumnChunkMetaData {
         descriptor: ColumnDescriptor {
             path_in_schema,
@@ -200,8 +200,8 @@ fn told_beside(
 
 /// A column of texts.
 fn texts(alloc: Global, low: &str, high: &str) -> Result<ColumnChunkMetaData, Error> {
-    let max_value = Some(Seq::new(Vec::from_slice(alloc, high.as_bytes())?));
-    let min_value = Some(Seq::new(Vec::from_slice(alloc, low.as_bytes())?));
+    let max_value = Some(ShortBytes::from_slice(alloc, high.as_bytes())?);
+    let min_value = Some(ShortBytes::from_slice(alloc, low.as_bytes())?);
     let statistics_bytes = Some(StatisticsBytes {
         null_count: Some(0),
         distinct_count: Some(2),

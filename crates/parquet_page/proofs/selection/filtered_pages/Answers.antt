@@ -9,7 +9,7 @@ returns-in_err-filtered_page-clause-refusal c =
     let a = c.args in
     let step = filtered_pages-drop a.intervals.now a.locations.now a.rows.now c.loop-i.i _ _ c.loop-i-test.true c.requires.all in
     let none = none_here c.loop-i.pages.items _ _ _ _ step in
-    passed_on _ _ _ c.from_residual.ensures.1 (damaged_whole _ _ _ (λ undefined. none undefined c.loop-i.invariant) c.in_err-filtered_page.ensures.refusal)
+    passed_on _ _ _ c.from_residual-in_err-filtered_page.ensures.1 (damaged_whole _ _ _ (λ undefined. none undefined c.loop-i.invariant) c.in_err-filtered_page.ensures.refusal)
 
 pub loop-i-preserved : goal.loop-i-preserved
 loop-i-preserved c =

@@ -1,4 +1,4 @@
-use Rattle.std.proofs.Common.{◌≡◌, ◌∙◌, ◌+◌, Bool, true, false, length, map, replicate, sym, subst}
+use Rattle.std.proofs.Common.{◌≡◌, ◌∙◌, Bool, true, false, length, map, replicate, sym, subst}
 use Rattle.std.specs.Prelude.{IfOk, IfSome, OnOk, Some, if◌then◌else◌}
 use Rattle.std.proofs.lemmas.Result.{err_from_is_err_and, on_ok_weaker}
 use Rattle.std.proofs.lemmas.Simd.{map-map}
@@ -8,7 +8,6 @@ use Rattle.columns_core.specs.declared.data_type.DataType as type
 use Rattle.flat_values.specs.Conversion.{Value}
 use Rattle.parquet_base.specs.Intervals.{rows_of}
 use Rattle.parquet_base.specs.Pieces.{cut}
-use Rattle.parquet_meta.specs.Indexes.{offset_index_length}
 use Rattle.parquet_meta.specs.Reads.{ReadsFile}
 use Rattle.parquet_scan.specs.Causes.{causes_of_chunk, causes_of_read, chunk_read_causes, pair_causes}
 use Rattle.parquet_scan.specs.Cells.{column_cell, is_null_type}
@@ -45,6 +44,9 @@ pub returns-then-is_null_type-clause-cells : goal.returns-then-is_null_type-clau
 returns-then-is_null_type-clause-cells g c =
     if_ok c.read_nulls.result (λ found e. nulls_read (g.S.Source.told c.args.source.now) c.args.asked.by_pages c.args.asked.chunk_size c.args.rows.group.now c.args.rows.runs.now c.args.typed.data_type.now c.args.typed.column.now found.0.items c.requires.shaped
     (sym c.is_null_type.ensures ∙ c.if-is_null_type.true) e) c.read_nulls.ensures.nulls
+
+pub read_located-requires-clause-located : goal.read_located-requires-clause-located
+read_located-requires-clause-located g c = c.requires.located c.if-asked.true
 
 pub returns-then-asked-clause-reads : goal.returns-then-asked-clause-reads
 returns-then-asked-clause-reads g c =
@@ -95,10 +97,9 @@ returns-then-asked-clause-taken g c =
     let rows = rows_of c.args.rows.runs.now in
     let start = g.S.Source.taken c.args.source.now in
     let now = g.S.Source.taken c.read_located.new.source in
-    let index = offset_index_length column in
-    subst (λ (b : Bool). OnOk c.read_located.result (RisesBy told start now (λ bytes. (if b then index else 0) + taken_of_read b bytes group rows data_type column))) (sym c.if-asked.true)
-    (on_ok_weaker c.read_located.result (rises_as told start now (λ bytes. index + taken_of_chunk true bytes group rows column) (λ bytes. index + taken_of_read true bytes group rows data_type column)
-    (taken_as_read told true index group rows data_type column (sym c.is_null_type.ensures ∙ c.if-is_null_type.false))) c.read_located.ensures.taken)
+    subst (λ (b : Bool). OnOk c.read_located.result (RisesBy told start now (λ bytes. taken_of_read b bytes group rows data_type column))) (sym c.if-asked.true)
+    (on_ok_weaker c.read_located.result (rises_as told start now (λ bytes. taken_of_chunk true bytes group rows column) (λ bytes. taken_of_read true bytes group rows data_type column)
+    (taken_as_read told true group rows data_type column (sym c.is_null_type.ensures ∙ c.if-is_null_type.false))) c.read_located.ensures.taken)
 
 pub returns-clause-reads : goal.returns-clause-reads
 returns-clause-reads g c =

@@ -1,8 +1,9 @@
-use Rattle.std.proofs.Common.{◌≡◌, ◌≤◌, ◌+◌, ◌++◌, All, drop, map}
+use Rattle.std.proofs.Common.{◌≡◌, ◌≤◌, ◌+◌, ◌++◌, All, drop, length, map}
 use Rattle.std.specs.Prelude.{IfSome}
 use Rattle.parquet_meta.specs.Keeps.{Keeps}
 use Rattle.parquet_scan.specs.Counting.{AreFirst, index_causes_of_groups, indexes_taken_of_groups, kept_of_groups}
 use Rattle.parquet_scan.specs.Scan.{IsApart}
+use Rattle.parquet_scan.proofs.LocatedGroups.{AreFirstLocated}
 use Rattle.parquet_scan.proofs.kept.kept_groups.Given as goal
 
 -- the groups so far stand in front of those that are left, and none of them has a cause
@@ -20,4 +21,7 @@ invariant-loop-i g l =
       rows : map (λ group. group.num_rows) l.groups ≡ map (λ group. group.rows) l.kept.items ++ map (λ group. group.num_rows) (drop l.i l.groups);
       apart : All IsApart l.kept.items;
       first : All (λ group. AreFirst l.by_pages group.intervals) l.kept.items;
+      located : AreFirstLocated l.i l.by_pages (source.told l.fn.source) l.request.fields l.groups (map (λ group. group.intervals) l.kept.items) l.located.items;
+      count : length l.kept.items ≡ l.i;
+      each : length l.located.items ≡ l.i;
     }

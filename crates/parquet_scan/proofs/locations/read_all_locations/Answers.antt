@@ -1,8 +1,7 @@
-use Rattle.std.proofs.Common.{◌≡◌, ◌∙◌, ◌++◌, ◌+◌, rules, [], ◌∷◌, List, ℕ, map, drop, ap, sym, subst, arith, refl, Vec, Global}
+use Rattle.std.proofs.Common.{◌≡◌, ◌∙◌, ◌++◌, ◌+◌, rules, [], ◌∷◌, List, ℕ, map, drop, ap, sym, subst, arith, refl}
 use Rattle.std.specs.Prelude.{Option, IfSome}
 use Rattle.std.specs.List.{list_all}
 use Rattle.std.proofs.lemmas.Bool.{and_from}
-use Rattle.std.proofs.lemmas.List.{map-append}
 use Rattle.std.proofs.lemmas.List.Folds.{list_all-append}
 use Rattle.std.proofs.lemmas.Result.{err_from_is_err_and}
 use Rattle.parquet_meta.specs.declared.metadata.PageLocation.{PageLocation}
@@ -15,11 +14,11 @@ use Rattle.parquet_scan.proofs.CallLemmas.{refuses}
 use Rattle.parquet_scan.proofs.ScanLemmas.{in_item, made_more, none_more}
 use Rattle.parquet_scan.proofs.locations.read_all_locations.Goals as goal
 
-pub returns-in_err-read_field_locations-clause-reads : goal.returns-in_err-read_field_locations-clause-reads
-returns-in_err-read_field_locations-clause-reads g c =
-    let p = err_from_is_err_and c.from_residual.result c.from_residual.ensures.1 in
+pub returns-in_err-list-clause-reads : goal.returns-in_err-list-clause-reads
+returns-in_err-list-clause-reads g c =
+    let p = err_from_is_err_and c.from_residual-in_err-list.result c.from_residual-in_err-list.ensures.1 in
     let group = c.args.group.now in
-    rw (p.1, p.2) (refuses c.loop-field.invariant.keeps c.in_err-read_field_locations.ensures.reads
+    rw (p.1, p.2) (refuses c.loop-field.invariant.keeps c.in_err-list.ensures.reads
     (in_item (g.S.Source.told c.args.source.now) (λ bytes. offset_causes_of_field bytes group) c.args.fields.now c.loop-field.field-index c.field-item.result c.loop-field-test.true c.field-item.is))
 
 pub loop-field-preserved : goal.loop-field-preserved
@@ -29,21 +28,22 @@ loop-field-preserved g c =
     let fields = c.args.fields.now in
     let i = c.loop-field.field-index in
     let field = c.field-item.result in
-    let list = c.in_ok-read_field_locations.field-0 in
-    let items : Vec PageLocation Global → List PageLocation = λ list. list.items in
-    let own = subst (λ (told : Option (List ℕ)). IfSome told (λ bytes. offset_causes_of_field bytes group field ≡ [])) c.loop-field.invariant.keeps.same c.in_ok-read_field_locations.ensures.reads.ok in
-    let are = subst (λ (told : Option (List ℕ)). IfSome told (λ bytes. field_locations bytes group field.name ≡ list.items)) c.loop-field.invariant.keeps.same c.in_ok-read_field_locations.ensures.locations in
+    let list = c.in_ok-list.list in
+    let lists = c.loop-field.lists.items in
+    let more : c.push.new.self.items ≡ lists ++ list.items ∷ [] = c.in_ok-push.ensures.items ∙ ap (λ one. lists ++ one ∷ []) c.new.ensures in
+    let own = subst (λ (told : Option (List ℕ)). IfSome told (λ bytes. offset_causes_of_field bytes group field ≡ [])) c.loop-field.invariant.keeps.same c.in_ok-list.ensures.reads.ok in
+    let are = subst (λ (told : Option (List ℕ)). IfSome told (λ bytes. field_locations bytes group field.name ≡ list.items)) c.loop-field.invariant.keeps.same c.in_ok-list.ensures.locations in
     record {
       keeps = search rules;
-      quiet = c.in_ok-read_field_locations.ensures.reads.quiet ∙ c.loop-field.invariant.quiet;
+      quiet = c.in_ok-list.ensures.reads.quiet ∙ c.loop-field.invariant.quiet;
       none = none_more told (λ bytes. offset_causes_of_field bytes group) fields i field c.loop-field-test.true c.field-item.is c.loop-field.invariant.none own;
       locations = subst (λ (lists : List (List PageLocation)). IfSome told (λ bytes. map (λ field. field_locations bytes group field.name) fields ≡ lists ++ map (λ field. field_locations bytes group field.name) (drop (i + 1) fields)))
-          (sym (ap (map items) c.in_ok-push.ensures.items ∙ map-append items c.loop-field.lists.items (list ∷ [])))
-          (made_more told (λ bytes field. field_locations bytes group field.name) fields i field (map items c.loop-field.lists.items) list.items c.loop-field-test.true c.field-item.is c.loop-field.invariant.locations are);
-      taken = omega (arith, c.loop-field.invariant.taken, c.in_ok-read_field_locations.ensures.taken, sum_left (location_bytes_of group) fields i field c.loop-field-test.true c.field-item.is);
+          (sym more)
+          (made_more told (λ bytes field. field_locations bytes group field.name) fields i field lists list.items c.loop-field-test.true c.field-item.is c.loop-field.invariant.locations are);
+      taken = omega (arith, c.loop-field.invariant.taken, c.in_ok-list.ensures.taken, sum_left (location_bytes_of group) fields i field c.loop-field-test.true c.field-item.is);
       count = search rules;
-      shaped = ap (list_all (λ list. has_shape list.items group.num_rows)) c.in_ok-push.ensures.items ∙ list_all-append (λ list. has_shape list.items group.num_rows) c.loop-field.lists.items (list ∷ [])
-          ∙ and_from _ _ c.loop-field.invariant.shaped (and_from _ _ c.in_ok-read_field_locations.ensures.shaped refl);
+      shaped = ap (list_all (λ list. has_shape list group.num_rows)) more ∙ list_all-append (λ list. has_shape list group.num_rows) lists (list.items ∷ [])
+          ∙ and_from _ _ c.loop-field.invariant.shaped (and_from _ _ c.in_ok-list.ensures.shaped refl);
     }
 
 pub returns-clause-taken : goal.returns-clause-taken

@@ -17,8 +17,8 @@ invariant-loop-field g l =
       quiet : source.faults l.source ≡ source.faults l.fn.source;
       none : IfSome (source.told l.fn.source) (λ bytes. flat_map (offset_causes_of_field bytes l.group) l.fields ≡ flat_map (offset_causes_of_field bytes l.group) (drop l.field-index l.fields));
       locations : IfSome (source.told l.fn.source) (λ bytes.
-          map (λ field. field_locations bytes l.group field.name) l.fields ≡ map (λ list. list.items) l.lists.items ++ map (λ field. field_locations bytes l.group field.name) (drop l.field-index l.fields));
+          map (λ field. field_locations bytes l.group field.name) l.fields ≡ l.lists.items ++ map (λ field. field_locations bytes l.group field.name) (drop l.field-index l.fields));
       taken : source.taken l.source + sum_by (location_bytes_of l.group) (drop l.field-index l.fields) ≤ source.taken l.fn.source + sum_by (location_bytes_of l.group) l.fields;
       count : length l.lists.items ≡ l.field-index;
-      shaped : list_all (λ list. has_shape list.items l.group.num_rows) l.lists.items ≡ true;
+      shaped : list_all (λ list. has_shape list l.group.num_rows) l.lists.items ≡ true;
     }

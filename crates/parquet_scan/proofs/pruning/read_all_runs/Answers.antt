@@ -56,11 +56,10 @@ read_runs-requires-clause-told g c =
     let told = g.S.Source.told c.args.source.now in
     let group = c.args.group.now in
     let bound = c.bound-item.result in
-    let items : Vec PageLocation Global → List PageLocation = λ list. list.items in
     let list = c.index-locations-place_of.result in
-    subst (λ (told : Option (List ℕ)). IfSome told (λ bytes. field_locations bytes group bound.field ≡ c.deref.result.now)) (sym c.loop-bound.invariant.keeps.same)
-    (subst (λ (list : List PageLocation). IfSome told (λ bytes. field_locations bytes group bound.field ≡ list)) (sym (c.deref.ensures.value ∙ ap items c.index-locations-place_of.is))
-    (locations_at told group c.args.fields.now items c.args.locations.now bound c.place_of.result list c.requires.told c.place_of.ensures.within (omega (arith, c.place_of.ensures.within, c.requires.length)) c.place_of.ensures.named))
+    subst (λ (told : Option (List ℕ)). IfSome told (λ bytes. field_locations bytes group bound.field ≡ c.as_slice-of_column.result.now)) (sym c.loop-bound.invariant.keeps.same)
+    (subst (λ (list : List PageLocation). IfSome told (λ bytes. field_locations bytes group bound.field ≡ list)) (sym (c.as_slice-of_column.ensures ∙ c.index-locations-place_of.is))
+    (locations_at told group c.args.fields.now c.args.locations.now bound c.place_of.result list c.requires.told c.place_of.ensures.within c.place_of.ensures.named))
 
 pub returns-clause-taken : goal.returns-clause-taken
 returns-clause-taken g c = omega (arith, c.loop-bound.invariant.taken, none_left (index_bytes_of c.args.group.now) c.args.bounds.now c.loop-bound.bound-index (omega arith))

@@ -1,16 +1,17 @@
-use Rattle.std.proofs.Common.{◌∙◌, ◌+◌, ap, sym}
-use Rattle.std.specs.Prelude.{option_copied, if◌then◌else◌}
+use Rattle.std.proofs.Common.{◌∙◌, ap, sym}
+use Rattle.std.specs.Prelude.{option_copied}
 use Rattle.std.proofs.lemmas.Result.{on_ok_weaker}
 use Rattle.parquet_base.specs.Intervals.{rows_of}
 use Rattle.parquet_base.specs.Pieces.{cut}
-use Rattle.parquet_meta.specs.Indexes.{offset_index_length}
-use Rattle.parquet_scan.specs.Costs.{lent_of_column, lent_of_read, taken_of_read}
-use Rattle.parquet_scan.specs.Counting.{column_taken}
+use Rattle.parquet_scan.specs.Costs.{lent_of_column, lent_of_read, taken_of_column, taken_of_read}
 use Rattle.parquet_scan.proofs.CostLemmas.{rises_as, taken_named}
 use Rattle.parquet_scan.proofs.ExactCounts.{just_as, named_lent}
 use Rattle.parquet_scan.proofs.GroupLemmas.{told_columns}
 use Rattle.parquet_scan.proofs.PageLemmas.{both_if}
 use Rattle.parquet_scan.proofs.reading.read_field.Goals as goal
+
+pub read_column-requires-clause-located : goal.read_column-requires-clause-located
+read_column-requires-clause-located g c by_pages = c.requires.located by_pages c.in-Some.column.now (sym c.column_named.ensures ∙ ap option_copied c.in-Some.is)
 
 pub returns-clause-columns : goal.returns-clause-columns
 returns-clause-columns g c =
@@ -40,5 +41,5 @@ returns-clause-taken g c =
     let column = c.in-Some.column.now in
     let rows = rows_of c.args.rows.runs.now in
     let named = sym c.column_named.ensures ∙ ap option_copied c.in-Some.is in
-    on_ok_weaker c.read_column.result (rises_as told (g.S.Source.taken c.args.source.now) (g.S.Source.taken c.read_column.new.source) (λ bytes. (if by_pages then offset_index_length column else 0) + taken_of_read by_pages bytes group rows field.data_type column) (λ bytes. column_taken by_pages bytes group rows field)
+    on_ok_weaker c.read_column.result (rises_as told (g.S.Source.taken c.args.source.now) (g.S.Source.taken c.read_column.new.source) (λ bytes. taken_of_read by_pages bytes group rows field.data_type column) (λ bytes. taken_of_column by_pages bytes group rows field)
     (taken_named told by_pages group rows field column named)) c.read_column.ensures.taken

@@ -1,10 +1,11 @@
 use Rattle.std.proofs.Common.{rules, ◌≡◌, ◌≤◌, ◌<◌, ◌∙◌, ◌++◌, [], length, drop, arith, sym, subst, List, ℕ, Option, ap, get_or}
 use Rattle.std.specs.Prelude.{IfSome}
-use Rattle.std.proofs.lemmas.List.{drop_all}
+use Rattle.std.proofs.lemmas.List.{drop_all, get_or_default}
 use Rattle.std.proofs.lemmas.Result.{err_from_is_err_and}
 use Rattle.parquet_base.specs.Intervals.{row_count}
 use Rattle.parquet_base.specs.declared.interval.Interval.{Interval}
-use Rattle.parquet_scan.specs.Counting.{AreFirst, causes_if_read, chunks_if_read, lies_in_group, lent_if_read, rows_of_groups, shown, taken_if_read}
+use Rattle.parquet_meta.specs.declared.metadata.PageLocation.{PageLocation}
+use Rattle.parquet_scan.specs.Counting.{AreFirst, AreLocatedIf, causes_if_read, chunks_if_read, lies_in_group, lent_if_read, rows_of_groups, shown, taken_if_read}
 use Rattle.parquet_scan.specs.Scan.{RisesBy, RisesJustBy}
 use Rattle.parquet_scan.proofs.CallLemmas.{refuses}
 use Rattle.parquet_scan.proofs.CostLemmas.{rises_pairs, sum_left}
@@ -66,6 +67,25 @@ read_if_given-requires-clause-first g c =
     let below : i < length given = omega (arith, c.loop-i-test.true, c.requires.lengths) in
     let beside = subst (λ (runs : List Interval). runs ≡ get_or given i runs) (sym c.as_slice-runs.ensures) c.index-given-i.is in
     subst (AreFirst c.args.asked.by_pages) (sym beside) (c.requires.first i runs below)
+
+pub read_if_given-requires-clause-located : goal.read_if_given-requires-clause-located
+read_if_given-requires-clause-located g c =
+    let by_pages = c.args.asked.by_pages in
+    let fields = c.args.asked.fields.now in
+    let groups = c.args.groups.now in
+    let given = c.args.given.now in
+    let located = c.args.located.now in
+    let i = c.loop-i.i in
+    let group = c.index-groups-i.result in
+    let runs = c.as_slice-runs.result.now in
+    let lists = c.as_slice.result.now in
+    let below : i < length given = omega (arith, c.loop-i-test.true, c.requires.lengths) in
+    let within : i < length located = omega (arith, c.loop-i-test.true, c.requires.each) in
+    let beside = subst (λ (runs : List Interval). runs ≡ get_or given i runs) (sym c.as_slice-runs.ensures) c.index-given-i.is ∙ get_or_default given i runs [] below in
+    let there = subst (λ (lists : List (List PageLocation)). lists ≡ get_or located i lists) (sym c.as_slice.ensures) c.index-located-i.is ∙ get_or_default located i lists [] within in
+    subst (λ (told : Option (List ℕ)). AreLocatedIf by_pages told fields group runs lists) (sym c.loop-i.invariant.keeps.same)
+    (subst (λ runs. AreLocatedIf by_pages (g.S.Source.told c.args.source.now) fields group runs lists) (sym beside)
+    (subst (AreLocatedIf by_pages (g.S.Source.told c.args.source.now) fields group (get_or given i [])) (sym there) (c.requires.located i group c.loop-i-test.true c.index-groups-i.is)))
 
 pub returns-in_err-read_if_given-clause-reads : goal.returns-in_err-read_if_given-clause-reads
 returns-in_err-read_if_given-clause-reads g c =

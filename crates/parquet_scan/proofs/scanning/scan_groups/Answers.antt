@@ -9,7 +9,7 @@ use Rattle.parquet_base.specs.Intervals.{is_well_shaped}
 use Rattle.parquet_base.specs.declared.interval.Interval.{Interval}
 use Rattle.parquet_meta.specs.Reads.{ReadsFile}
 use Rattle.parquet_meta.specs.declared.metadata.RowGroupMetaData.{RowGroupMetaData}
-use Rattle.parquet_scan.specs.Counting.{AreFirst, are_pruned, lie_in_groups, causes_of_groups, chunks_of_groups, given_of_groups, index_causes_of_groups, indexes_taken_of_groups, lent_of_groups, rows_of_groups, shown, taken_of_groups}
+use Rattle.parquet_scan.specs.Counting.{AreAllLocated, AreFirst, are_pruned, lie_in_groups, causes_of_groups, chunks_of_groups, given_of_groups, index_causes_of_groups, indexes_taken_of_groups, lent_of_groups, rows_of_groups, shown, taken_of_groups}
 use Rattle.parquet_scan.specs.Cells.{columns_of_chunk, given_chunks}
 use Rattle.parquet_scan.specs.Request.{Request}
 use Rattle.parquet_scan.specs.Rows.{file_with, group_counts}
@@ -20,6 +20,7 @@ use Rattle.parquet_scan.proofs.ClippedLemmas.{given_first}
 use Rattle.parquet_scan.proofs.FileCosts.{lent_told, taken_told}
 use Rattle.parquet_scan.proofs.FileLemmas.{chunks_told, given_of, index_wrong, kept_told, legal_size, none_wrong, pruned, pruned_is, read_wrong, rows_told, some_field}
 use Rattle.parquet_scan.proofs.KeptLemmas.{groups_shaped}
+use Rattle.parquet_scan.proofs.LocatedGroups.{given_located}
 use Rattle.parquet_scan.proofs.Sound.{legal_bounds}
 use Rattle.parquet_scan.proofs.scanning.scan_groups.Goals as goal
 
@@ -54,6 +55,26 @@ read_groups-requires-clause-shaped g c =
     ap (lie_in_groups groups) c.deref-2.ensures.value
     ∙ groups_shaped groups c.in_ok-kept.kept.items given c.in_ok-kept.ensures.rows
     (ap (λ kept. list_all (λ (group : GroupKept × List Interval). is_well_shaped group.1 (group.0).rows) (zip kept given)) (sym c.deref.ensures.value) ∙ c.in_ok-given.ensures.shaped)
+
+pub read_groups-requires-clause-each : goal.read_groups-requires-clause-each
+read_groups-requires-clause-each g c = ap length c.deref-3.ensures.value ∙ c.in_ok-kept.ensures.each
+
+pub read_groups-requires-clause-located : goal.read_groups-requires-clause-located
+read_groups-requires-clause-located g c =
+    let told = g.S.Source.told c.args.source.now in
+    let request = c.args.request.now in
+    let groups = c.as_slice-groups.result.now in
+    let by_pages = c.are_pruned-by_pages.result in
+    let limit = c.request.inside.limit in
+    let kept = c.in_ok-kept.kept.items in
+    let given = c.in_ok-given.given.items in
+    let located = c.in_ok-kept.located.items in
+    let all = given_located by_pages told request.fields groups limit kept given located (c.in_ok-given.ensures.rows ∙ ap (given_of_groups limit) c.deref.ensures.value)
+    (ap (λ kept. list_all (λ (group : GroupKept × List Interval). is_well_shaped group.1 (group.0).rows) (zip kept given)) (sym c.deref.ensures.value) ∙ c.in_ok-given.ensures.shaped) c.in_ok-kept.ensures.located in
+    subst (λ (told : Option (List ℕ)). AreAllLocated by_pages told c.request.inside.fields.now groups c.deref-2.result.now c.deref-3.result.now) (sym c.in_ok-kept.ensures.reads.keeps.same)
+    (subst (λ (asked : Request). AreAllLocated by_pages told asked.fields groups c.deref-2.result.now c.deref-3.result.now) (sym c.request.view_is)
+    (subst (λ given. AreAllLocated by_pages told request.fields groups given c.deref-3.result.now) (sym c.deref-2.ensures.value)
+    (subst (AreAllLocated by_pages told request.fields groups given) (sym c.deref-3.ensures.value) all)))
 
 pub read_groups-requires-clause-first : goal.read_groups-requires-clause-first
 read_groups-requires-clause-first g c =
