@@ -1,5 +1,5 @@
 //! Places among the byte strings of a page.
-ghost use Rattle.std.specs.Prelude.{◌≡◌, ◌≤◌, Bool, List, Option, None, Some, [], take, drop, length, map, sum_by, IsSome, IfOk, IfErr, IfSome, OnOk};
+ghost use Rattle.std.specs.Prelude.{◌≡◌, ◌≤◌, Bool, List, Option, None, Some, take, drop, length, map, sum_by, IsSome, IfOk, IfErr, IfSome, OnOk};
 ghost use Rattle.std.specs.Option.{option_copied};
 ghost use Rattle.columns_core.specs.Causes.{ExternalFormat, cause_of};
 ghost use Rattle.columns_core.specs.declared.cell.Cell.{Cell};

@@ -1,5 +1,5 @@
 //! Texts and byte strings of a page, and those that were decoded.
-ghost use Rattle.std.specs.Prelude.{◌≡◌, List, Option, Some, length, map, option_map};
+ghost use Rattle.std.specs.Prelude.{◌≡◌, Option, Some, length, map, option_map};
 ghost use Rattle.std.specs.Option.{option_copied};
 ghost use Rattle.binary_values.specs.ByteLeft.{IsAmongBytes, byte_left};
 ghost use Rattle.binary_values.specs.ByteStrings.{AreJudged, byte_cell, byte_rule, byte_entries};

@@ -1,5 +1,5 @@
 //! Arrays of decoded texts and byte strings.
-ghost use Rattle.std.specs.Prelude.{◌≡◌, ◌↔◌, IsTrue, map, IfOk, IfErr};
+ghost use Rattle.std.specs.Prelude.{◌≡◌, IsTrue, map, IfOk, IfErr};
 ghost use Rattle.columns_core.specs.Causes.{IsWantOfMemory};
 ghost use Rattle.columns_core.specs.Column.{cell_of};
 ghost use Rattle.columns_core.specs.Joined.{AreTexts, FitTogether, joined_strings};
@@ -19,7 +19,8 @@ pub enum ByteColumn<O: Offset> {
     Strings(BinaryArray<O>),
 }
 
-pub(crate) fn is_text_type<O: Offset>(data_type: &DataType) -> bool
+/// Whether arrays of this type hold texts with these offsets.
+pub fn is_text_type<O: Offset>(data_type: &DataType) -> bool
     ensures { result ≡ is_sized_text O.is_large data_type.now }
 {
     if O::is_large() {

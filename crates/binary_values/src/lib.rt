@@ -16,6 +16,6 @@ mod word_rows;
 
 pub use byte_place::BytePlace;
 pub use byte_values::{ByteValues, DecodedBytes};
-pub use into_array::ByteColumn;
+pub use into_array::{ByteColumn, is_text_type};
 pub use string_walk::{StringWalk, TakeStrings};
 pub use strings::Strings;

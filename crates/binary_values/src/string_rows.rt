@@ -1,5 +1,5 @@
 //! Byte strings of a page, spread over the rows of a word that have one.
-ghost use Rattle.std.specs.Prelude.{◌≡◌, ◌⊎◌, ◌≤◌, ◌<◌, ◌+◌, ◌++◌, List, [], drop, take, length, map, sum_by, unwrap_or, Some, IsSome, IfOk, IfErr, OnOk};
+ghost use Rattle.std.specs.Prelude.{◌≡◌, ◌⊎◌, ◌≤◌, ◌<◌, ◌+◌, ◌++◌, [], drop, take, length, map, sum_by, unwrap_or, Some, IsSome, IfOk, IfErr, OnOk};
 ghost use Rattle.columns_core.specs.Causes.{IsWantOfMemory};
 ghost use Rattle.parquet_encoding.specs.Places.{bytes_in};
 ghost use Rattle.parquet_page.specs.Levels.{present_count};

@@ -1,5 +1,5 @@
 //! Byte strings of a page, one after another.
-ghost use Rattle.std.specs.Prelude.{◌≡◌, ◌⊎◌, ◌↔◌, ◌≤◌, ◌<◌, ◌+◌, ◌*◌, ◌++◌, ℕ, Bool, IsTrue, IsUtf8, All, List, [], drop, take, length, map, sum_by, slice_get, unwrap_or, Option, Some, IsSome, IfOk, IfErr, IfSome, OnOk};
+ghost use Rattle.std.specs.Prelude.{◌≡◌, ◌⊎◌, ◌↔◌, ◌≤◌, ◌<◌, ◌+◌, ◌*◌, ◌++◌, ℕ, IsTrue, IsUtf8, All, List, [], drop, take, length, map, sum_by, slice_get, unwrap_or, Option, Some, IsSome, IfOk, IfErr, IfSome, OnOk};
 ghost use Rattle.columns_core.specs.Causes.{IsWantOfMemory, Overflow, cause_of};
 ghost use Rattle.parquet_encoding.specs.Places.{bytes_in};
 ghost use Rattle.page_decoding.specs.Outcome.{causes_in};

@@ -1,12 +1,11 @@
 //! Rows of a word that are appended to decoded texts and byte strings.
 ghost use Rattle.std.specs.Prelude.{◌≡◌, ◌≤◌, ◌++◌, [], drop, length, map, unwrap_or, None, Some, IsSome, IfOk, IfErr, IfSome, OnOk};
 ghost use Rattle.std.specs.Option.{option_copied};
-ghost use Rattle.columns_core.specs.Causes.{IsWantOfMemory};
 ghost use Rattle.parquet_page.specs.Levels.{present_count};
 ghost use Rattle.parquet_page.specs.ValidityParts.{word_places};
 ghost use Rattle.page_decoding.specs.Bytes.{IsCausedByChunks};
 ghost use Rattle.page_decoding.specs.Outcome.{Given};
-ghost use Rattle.flat_values.specs.Decoded.{marked_cells, with_places};
+ghost use Rattle.flat_values.specs.Decoded.{marked_cells};
 ghost use Rattle.flat_values.specs.FlatLeft.{behind_word, word_outcomes};
 ghost use Rattle.binary_values.specs.ByteLeft.{IsAmongBytes, byte_left};
 ghost use Rattle.binary_values.specs.ByteStrings.{AreJudged, byte_cell, byte_entries, stored_outcomes};
@@ -15,20 +14,9 @@ ghost use Rattle.binary_values.specs.OwnBytes.{AreOwnBytes};
 use crate::string_rows::take_stored_rows;
 use crate::string_walk::StringWalk;
 use crate::{BytePlace, ByteValues, DecodedBytes, Strings};
-use columns_core::{Error, MutableBitmap, Offset};
-use flat_values::Values;
+use columns_core::{Error, Offset};
+use flat_values::{Values, mark_rows};
 use parquet_page::ValidityWord;
-
-/// The rows of a word stand behind `held` values.
-fn mark_rows(validity: &mut MutableBitmap, held: usize, word: ValidityWord) -> Result<(), Error>
-    ensures ok { OnOk result (validity.new ≡ with_places held (word_places word) validity.old) }
-    ensures err { IfErr result IsWantOfMemory }
-{
-    if validity.len() == 0 {
-        validity.extend_constant(held, true)?;
-    }
-    validity.extend_from_slice(&word.bits.to_le_bytes(), 0, word.rows)
-}
 
 /// Appends what the rows of a word give: the next strings, of which texts are judged together, and nulls.
 pub(crate) fn take_marked<W: StringWalk, O: Offset>(

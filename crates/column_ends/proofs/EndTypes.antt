@@ -10,7 +10,7 @@ use Rattle.columns_core.specs.DictionaryType.{entry_type, entry_type_at}
 use Rattle.columns_core.specs.declared.cell.Cell.{Cell, Int}
 use Rattle.columns_core.specs.declared.data_type.DataType.{DataType, out-DataType}
 use Rattle.columns_core.specs.declared.data_type.DataType.TheOpen.{DataType-F}
-use Rattle.columns_core.specs.Types.{Layer, signed_range, unsigned_range, value_type, value_type_at}
+use Rattle.columns_core.specs.Types.{Layer, signed_range, unsigned_range, value_type, value_type_at, is_in}
 use Rattle.parquet_meta.specs.ColumnIndex.{column_index_in}
 use Rattle.parquet_meta.specs.Indexes.{index_at, index_in, type_of}
 use Rattle.parquet_meta.specs.Places.{part_at}
@@ -31,7 +31,7 @@ use Rattle.parquet_meta.specs.declared.metadata.RawStatistics.{RawStatistics}
 use Rattle.parquet_meta.specs.declared.metadata.RawStatistics.TheVariants as raw
 use Rattle.parquet_meta.specs.declared.metadata.StatisticsBytes.{StatisticsBytes}
 use Rattle.parquet_page.specs.Stored.{Stored, Number, Truth, Words, Octets}
-use Rattle.flat_values.specs.CellTypes.{is_cell_at, is_in}
+use Rattle.flat_values.specs.CellTypes.{is_cell_at}
 use Rattle.flat_values.specs.Conversion.{Conversion, Item, Value, NotInRange, NotText, Nulls, LowNanoseconds, convert, modulo_bits}
 use Rattle.flat_values.specs.Ends.{stored_end}
 use Rattle.flat_values.specs.Numbers.{words_of}
@@ -42,9 +42,9 @@ use Rattle.flat_values.proofs.ConversionLemmas.{Gives, IsItemAt, Within, from_bo
 use Rattle.flat_values.proofs.EndLemmas.{ends_are_stored}
 use Rattle.flat_values.proofs.PageLemmas.{mapped}
 use Rattle.flat_values.proofs.PairLemmas.{leaf_here, leaf_out, page_here, page_out}
-use Rattle.column_ends.specs.Converted.{as_cell, cell_ends, cell_page, end_cell, index_rule, statistics_rule, told_cells}
+use Rattle.column_ends.specs.Converted.{as_cell, cell_ends, cell_page, end_cell, index_rule, statistics_rule, told_cells, counts_alone, told_ends}
 use Rattle.column_ends.specs.Laws.{AreEndsOf, GroupEndsHaveType, IsEndOf, PageEndsHaveType}
-use Rattle.column_ends.specs.Told.{counts_alone, stored_by, stored_ends, stored_page, stored_pages, told_ends}
+use Rattle.column_ends.specs.Told.{stored_by, stored_ends, stored_page, stored_pages}
 use Rattle.column_ends.proofs.GroupLemmas.{ends_told}
 
 -- ---- ends that a column stores

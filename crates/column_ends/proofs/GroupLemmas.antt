@@ -11,9 +11,9 @@ use Rattle.parquet_meta.specs.declared.metadata.ColumnChunkMetaData.{ColumnChunk
 use Rattle.parquet_meta.specs.declared.metadata.Ends.{Ends}
 use Rattle.parquet_meta.specs.declared.metadata.RawStatistics.{RawStatistics}
 use Rattle.parquet_page.specs.Stored.{Stored}
-use Rattle.column_ends.specs.Converted.{cell_ends, causes_of_ends, told_causes, told_cells}
+use Rattle.column_ends.specs.Converted.{cell_ends, causes_of_ends, told_causes, told_cells, counts_alone, told_ends}
 use Rattle.column_ends.specs.Rules.{value_conversion}
-use Rattle.column_ends.specs.Told.{counts_alone, stored_ends, told_ends}
+use Rattle.column_ends.specs.Told.{stored_ends}
 use Rattle.column_ends.specs.declared.rules.BytesRule.TheVariants as bytes
 use Rattle.column_ends.specs.declared.rules.FixedRule.TheVariants as fixed
 use Rattle.column_ends.specs.declared.rules.Int32Rule.TheVariants as int32

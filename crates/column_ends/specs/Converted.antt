@@ -1,4 +1,4 @@
--- The ends of groups and of pages as values of a type, and what is wrong with them.
+-- The ends that statistics and column indexes tell, as values of a type, and what is wrong with them.
 use Rattle.std.specs.Prelude.{ℕ, List, [], ◌∷◌, ◌++◌, flat_map, map, sum_by, is_some, Option, Some, None, option_and_then, option_map, if◌then◌else◌}
 use Rattle.std.specs.List.{enumerate_from}
 use Rattle.std.specs.Option.{option_map_or}
@@ -8,7 +8,7 @@ use Rattle.columns_core.specs.declared.data_type.DataType.{DataType}
 use Rattle.columns_core.specs.Types.{value_type}
 use Rattle.parquet_base.specs.Reading.{◌>>=◌}
 use Rattle.parquet_meta.specs.Indexes.{type_of}
-use Rattle.parquet_meta.specs.TypedStatistics.{known_count}
+use Rattle.parquet_meta.specs.TypedStatistics.{counts_of, known_count, statistics_of}
 use Rattle.parquet_meta.specs.declared.metadata.ColumnChunkMetaData.{ColumnChunkMetaData}
 use Rattle.parquet_meta.specs.declared.metadata.Ends.{Ends}
 use Rattle.parquet_meta.specs.declared.metadata.Index.{Index}
@@ -17,11 +17,11 @@ use Rattle.parquet_meta.specs.declared.metadata.PhysicalType.{PhysicalType}
 use Rattle.parquet_meta.specs.declared.metadata.PrimitiveType.{PrimitiveType}
 use Rattle.parquet_page.specs.Stored.{Stored}
 use Rattle.page_decoding.specs.Bytes.{cell_bytes, fits_most}
-use Rattle.flat_values.specs.Conversion.{Conversion, Item, Value, NotInRange, NotText, convert}
+use Rattle.flat_values.specs.Conversion.{Conversion, Item, Nulls, Value, NotInRange, NotText, convert}
 use Rattle.flat_values.specs.MostBytes.{most_bytes}
 use Rattle.flat_values.specs.Pairs.{leaf_conversion, page_conversion}
 use Rattle.flat_values.specs.Sound.{is_stored_as}
-use Rattle.column_ends.specs.Told.{stored_pages, told_ends}
+use Rattle.column_ends.specs.Told.{stored_ends, stored_pages}
 
 -- ---- one end
 
@@ -63,6 +63,16 @@ cell_ends rule ends = record {
 
 abbrev pub causes_of_ends : PhysicalType → Conversion → Ends Stored → List Cause
 causes_of_ends type rule ends = end_causes type rule ends.min_value ++ end_causes type rule ends.max_value
+
+-- counts of nulls and of distinct values, without ends
+abbrev pub counts_alone : Option ℕ × Option ℕ → Ends Stored
+counts_alone counts = record { null_count = counts.0; distinct_count = counts.1; min_value = None; max_value = None }
+
+-- What the statistics of a column tell, where they are well stored: each end has its width, and no count is negative. Where there are none,
+-- nothing is told. To one who reads nulls only the counts are.
+abbrev pub told_ends : Conversion → ColumnChunkMetaData → Option (Ends Stored)
+told_ends Nulls column = option_map counts_alone (counts_of column.statistics_bytes)
+told_ends rule column = option_map (λ told. option_map_or stored_ends told (counts_alone (None, None))) (statistics_of (type_of column) column.statistics_bytes)
 
 -- what the statistics tell, by a rule; without a cause
 abbrev pub told_cells : Conversion → ColumnChunkMetaData → Option (Ends Cell)

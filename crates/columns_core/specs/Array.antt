@@ -9,7 +9,7 @@ use Rattle.columns_core.specs.Column.{cell_of}
 use Rattle.columns_core.specs.Keyed.{named_cells}
 use Rattle.columns_core.specs.ElementType.{days_ms_cell}
 
-abbrev natural : Option ℕ → Cell
+abbrev pub natural : Option ℕ → Cell
 natural item = cell_of (λ n. Int (pos n)) item
 
 abbrev pub data_type_of : Array → DataType

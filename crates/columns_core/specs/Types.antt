@@ -1,5 +1,5 @@
 -- The values of each type.
-use Rattle.std.specs.Prelude.{ℕ, ◌-◌, ◌^◌, ℤ, pos, neg_ℤ, Bool, true, false, ◌==◌, Option, Some, None, is_some}
+use Rattle.std.specs.Prelude.{ℕ, ◌-◌, ◌^◌, ℤ, pos, neg_ℤ, int_le, Bool, true, false, ◌==◌, ◌&&◌, Option, Some, None, is_some}
 use Rattle.columns_core.specs.declared.data_type.DataType.{DataType, out-DataType}
 use Rattle.columns_core.specs.declared.data_type.DataType.TheOpen.{DataType-F}
 use Rattle.columns_core.specs.declared.data_type.Field.{Field}
@@ -21,6 +21,10 @@ signed_range bits = (neg_ℤ (pos (2 ^ (bits - 1))), pos (2 ^ (bits - 1) - 1))
 
 abbrev pub unsigned_range : ℕ → ℤ × ℤ
 unsigned_range bits = (pos 0, pos (2 ^ bits - 1))
+
+-- a number lies between a least and a greatest one
+abbrev pub is_in : ℤ × ℤ → ℤ → Bool
+is_in range n = int_le range.0 n && int_le n range.1
 
 -- the least and the greatest number of a type of numbers
 abbrev pub number_range_at : Layer → Option (ℤ × ℤ)

@@ -1,5 +1,5 @@
 //! Lists of truth values that grow.
-ghost use Rattle.std.specs.Prelude.{◌≡◌, ◌<◌, ◌≤◌, ◌+◌, ◌*◌, ◌^◌, ◌++◌, ◌∷◌, [], length, replicate, IfOk, OnOk, OnErr, IfErr};
+ghost use Rattle.std.specs.Prelude.{◌≡◌, ◌<◌, ◌≤◌, ◌+◌, ◌*◌, ◌^◌, ◌++◌, ◌∷◌, [], length, replicate, IfOk, OnOk, IfErr};
 ghost use Rattle.columns_core.specs.Bits.{bits_of};
 ghost use Rattle.columns_core.specs.Causes.{IsWantOfMemory};
 

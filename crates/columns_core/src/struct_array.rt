@@ -1,7 +1,7 @@
 //! Arrays of structs.
 ghost use Rattle.std.specs.Prelude.{◌≡◌, ◌<◌, ◌≤◌, ◌↔◌, IsTrue, IfOk, IfErr, Some, length, slice_get, map, option_copied};
 ghost use Rattle.columns_core.specs.Causes.{IsWantOfMemory, IsMisfit};
-ghost use Rattle.columns_core.specs.Array.{cells, data_type_of};
+ghost use Rattle.columns_core.specs.Array.{data_type_of};
 ghost use Rattle.columns_core.specs.Column.{as_column, cell_of};
 ghost use Rattle.columns_core.specs.Depth.{depth};
 ghost use Rattle.columns_core.specs.Lent.{cell_lent, IsThere, lent_depth};

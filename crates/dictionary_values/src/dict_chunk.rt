@@ -9,7 +9,7 @@ ghost use Rattle.page_decoding.specs.Queue.{IsChunkSize, IsCut};
 ghost use Rattle.page_decoding.specs.Standing.{FailsBy, IsNeeded, NoneComes, standing, still_wanted};
 ghost use Rattle.flat_values.specs.Decoded.{IsMaskFor};
 ghost use Rattle.dictionary_values.specs.DictLeft.{IsKeyed, named_entries};
-ghost use Rattle.dictionary_values.specs.Keys.{key_cells, named_standing, selected_entries};
+ghost use Rattle.dictionary_values.specs.Keys.{named_standing, selected_entries};
 
 use crate::key_array::array_of;
 use crate::{DecodedKeys, KeyDecoder, ReadDict, StoredKey};

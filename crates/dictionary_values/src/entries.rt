@@ -2,14 +2,13 @@
 ghost use Rattle.std.specs.Prelude.{◌≡◌, ◌⊎◌, true, IsTrue, [], None, Some, IfErr, IfNone, IfOk, IfSome};
 ghost use Rattle.columns_core.specs.Causes.{IsWantOfMemory, is_invalid_argument};
 ghost use Rattle.columns_core.specs.DictionaryType.{IsDictionaryOf, entry_type};
-ghost use Rattle.columns_core.specs.Stored.{is_sized_text};
 ghost use Rattle.columns_core.specs.declared.data_type.DataType.{DataType};
 ghost use Rattle.parquet_page.specs.Lending.{has_data_behind};
 ghost use Rattle.page_decoding.specs.Queue.{IsChunkSize};
 ghost use Rattle.dictionary_values.specs.EntryTypes.{HoldsEntries};
 
 use crate::{DictIter, ReadDict, StoredKey};
-use binary_values::{ByteColumn, ByteValues, Strings};
+use binary_values::{ByteColumn, ByteValues, Strings, is_text_type};
 use columns_core::{
     Array, BinaryArray, DataType, Error, FixedSizeBinaryArray, IntegerType, MutablePrimitiveArray,
     NativeType, Offset, Part, Utf8Array,
@@ -50,17 +49,6 @@ impl IntoEntries for FixedValues {
         data_type: DataType,
     ) -> Result<FixedSizeBinaryArray, Error> {
         FixedSizeBinaryArray::try_new(data_type, dict.into_values(), None)
-    }
-}
-
-/// Whether arrays of this type hold texts with these offsets.
-fn is_text_type<O: Offset>(data_type: &DataType) -> bool
-    ensures { result ≡ is_sized_text O.is_large data_type.now }
-{
-    if O::is_large() {
-        matches!(data_type, DataType::LargeUtf8)
-    } else {
-        matches!(data_type, DataType::Utf8)
     }
 }
 

@@ -6,13 +6,13 @@ use Rattle.std.specs.Str.{is_utf8}
 use Rattle.std.proofs.lemmas.Bool.{eqb-true, true≢false}
 use denote.Hole.Carrier
 use Rattle.columns_core.specs.ElementType.{stores_i8, stores_i16, stores_i32, stores_i64, stores_u8, stores_u16, stores_u32, stores_u64, stores_i128, stores_days_ms, is_boolean}
-use Rattle.columns_core.specs.Types.{Layer, signed_range, is_text_at, takes_bytes_at}
+use Rattle.columns_core.specs.Types.{Layer, signed_range, is_text_at, takes_bytes_at, is_in}
 use Rattle.columns_core.specs.declared.cell.Cell.{Cell, Null, Bool as Truth, Int, DaysMs, Text, Bytes}
 use Rattle.columns_core.specs.declared.data_type.DataType.{DataType, out-DataType}
 use Rattle.columns_core.specs.declared.data_type.DataType as type
 use Rattle.columns_core.specs.declared.data_type.DataType.TheOpen.{DataType-F}
 use Rattle.columns_core.specs.declared.data_type.IntervalUnit.TheVariants.{YearMonth, DayTime}
-use Rattle.flat_values.specs.CellTypes.{is_in, cell_range_at, is_boolean_at, is_day_time_at, is_cell_at, is_cell_of}
+use Rattle.flat_values.specs.CellTypes.{cell_range_at, is_boolean_at, is_day_time_at, is_cell_at, is_cell_of}
 use Rattle.flat_values.specs.MostBytes.{most_bytes_at}
 use Rattle.flat_builders.specs.Strings.{stores_strings}
 use Rattle.flat_builders.specs.Built.{byte_layer, has_size, is_type_of_nulls, is_kept_as, kept_layer}

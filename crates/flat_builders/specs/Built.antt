@@ -1,5 +1,6 @@
 -- What the parts of a builder stand for, and which types they are parts of.
-use Rattle.std.specs.Prelude.{ℕ, pos, ◌==◌, ◌&&◌, not, Bool, true, false, List, map, replicate, Option}
+use Rattle.std.specs.Prelude.{ℕ, ◌==◌, ◌&&◌, not, Bool, true, false, List, map, replicate}
+use Rattle.columns_core.specs.Array.{natural}
 use Rattle.columns_core.specs.Column.{cell_of}
 use Rattle.columns_core.specs.ElementType.{days_ms_cell, fixed_size, is_boolean, stores_i8, stores_i16, stores_i32, stores_i64, stores_u8, stores_u16, stores_u32, stores_u64, stores_i128, stores_days_ms}
 use Rattle.columns_core.specs.declared.cell.Cell.{Cell, Null, Bool as Truth, Int, Bytes}
@@ -11,9 +12,6 @@ use Rattle.columns_core.specs.declared.data_type.IntervalUnit.TheVariants.{DayTi
 use Rattle.flat_builders.specs.Strings.{string_cell, stores_strings}
 use Rattle.flat_builders.specs.declared.building.Building.{Building}
 use Rattle.flat_builders.specs.declared.building.Building.TheVariants as part
-
-abbrev natural : Option ℕ → Cell
-natural item = cell_of (λ n. Int (pos n)) item
 
 -- the cells that were appended
 abbrev pub built_cells : Building → List Cell

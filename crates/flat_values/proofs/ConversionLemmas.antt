@@ -15,8 +15,8 @@ use Rattle.columns_core.specs.declared.data_type.DataType.TheOpen.{DataType-F}
 use Rattle.columns_core.specs.declared.data_type.TimeUnit.{TimeUnit}
 use Rattle.columns_core.specs.declared.data_type.TimeUnit.TheVariants.{Second, Millisecond, Microsecond, Nanosecond}
 use Rattle.columns_core.specs.declared.data_type.IntervalUnit.TheVariants.{YearMonth, DayTime}
-use Rattle.columns_core.specs.Types.{Layer, signed_range, unsigned_range, is_text_at, value_type_at}
-use Rattle.flat_values.specs.CellTypes.{is_in, cell_range_at, is_cell_at}
+use Rattle.columns_core.specs.Types.{Layer, signed_range, unsigned_range, is_text_at, value_type_at, is_in}
+use Rattle.flat_values.specs.CellTypes.{cell_range_at, is_cell_at}
 use Rattle.parquet_meta.specs.declared.metadata.PhysicalType.TheVariants as physical
 use Rattle.parquet_page.specs.Stored.{Stored, Number, Truth as Bit, Words, Octets}
 use Rattle.flat_values.specs.Conversion.{Item, Value, NotInRange, NotText, Conversion, Keep, LowUnsigned, LowSigned, Scale, SinceEpoch, BigEndian, Months, DaysAndMilliseconds, AsText, convert, scaled, modulo_bits, with_sign, big_endian, int32_in}

@@ -8,8 +8,7 @@ use Rattle.columns_core.specs.declared.data_type.TimeUnit.{TimeUnit}
 use Rattle.columns_core.specs.declared.data_type.TimeUnit.TheVariants.{Second, Millisecond, Microsecond, Nanosecond}
 use Rattle.parquet_meta.specs.declared.metadata.PrimitiveLogicalType.TheVariants.{Timestamp}
 use Rattle.parquet_meta.specs.declared.metadata.ParquetTimeUnit.TheVariants.{Milliseconds, Microseconds, Nanoseconds}
-use Rattle.columns_core.specs.Types.{signed_range}
-use Rattle.flat_values.specs.CellTypes.{is_in}
+use Rattle.columns_core.specs.Types.{signed_range, is_in}
 use Rattle.parquet_meta.specs.declared.metadata.PrimitiveLogicalType.{PrimitiveLogicalType}
 use Rattle.flat_values.specs.Conversion.{Item, Value, NotInRange, NotText, scaled}
 use Rattle.flat_values.specs.Units.{nanoseconds_of, per_second, unit_factor}

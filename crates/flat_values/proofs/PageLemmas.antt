@@ -27,12 +27,11 @@ use Rattle.parquet_page.specs.Levels.{placed, present_count}
 use Rattle.parquet_page.specs.Spelling.{dictionary_entries, page_encoding, places_and_values, spelled}
 use Rattle.parquet_page.specs.Stored.{Stored, Number, Octets}
 use Rattle.parquet_page.specs.Values.{Encoding, Plain, Keys, DeltaPacked, DeltaLengths, plain_values, delta_values, delta_length_values, dictionary_keys, named_by, unless_none, values_in}
-use Rattle.flat_values.specs.CellTypes.{is_in}
 use Rattle.flat_values.specs.Conversion.{Conversion, Item, Value, NotInRange, NotText, convert, convert_place}
 use Rattle.flat_values.specs.Items.{page_items}
 use Rattle.flat_values.specs.Pairs.{conversion}
 use Rattle.flat_values.specs.Sound.{is_stored_as, is_item_of, PageHasType}
-use Rattle.columns_core.specs.Types.{signed_range}
+use Rattle.columns_core.specs.Types.{signed_range, is_in}
 use Rattle.flat_values.proofs.ConversionLemmas.{converts_to_type, within_mag, half}
 
 -- what holds of each value that is mapped holds of the result

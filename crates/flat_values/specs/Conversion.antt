@@ -5,8 +5,7 @@ use Rattle.std.specs.Str.{is_utf8}
 use Rattle.parquet_base.specs.Bytes.{little_endian}
 use Rattle.columns_core.specs.declared.cell.Cell.{Cell, Null, Bool as Truth, Int, DaysMs, Text, Bytes}
 use Rattle.parquet_page.specs.Stored.{Stored, Number, Truth as Bit, Words, Octets}
-use Rattle.columns_core.specs.Types.{signed_range}
-use Rattle.flat_values.specs.CellTypes.{is_in}
+use Rattle.columns_core.specs.Types.{signed_range, is_in}
 use Rattle.flat_values.specs.Units.{nanoseconds_of}
 
 -- an item, or why there is none

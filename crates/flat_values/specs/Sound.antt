@@ -8,8 +8,8 @@ use Rattle.parquet_meta.specs.declared.metadata.PhysicalType.TheVariants.{Boolea
 use Rattle.parquet_meta.specs.declared.metadata.PrimitiveType.{PrimitiveType}
 use Rattle.parquet_page.specs.Content.{DataContent, DictContent}
 use Rattle.parquet_page.specs.Stored.{Stored, Number, Truth, Words, Octets}
-use Rattle.columns_core.specs.Types.{signed_range}
-use Rattle.flat_values.specs.CellTypes.{is_in, is_cell_of}
+use Rattle.columns_core.specs.Types.{signed_range, is_in}
+use Rattle.flat_values.specs.CellTypes.{is_cell_of}
 use Rattle.flat_values.specs.Conversion.{Conversion, Item, Value, NotInRange, NotText, convert}
 use Rattle.flat_values.specs.Ends.{stored_end}
 use Rattle.flat_values.specs.Items.{page_items}

@@ -1,6 +1,6 @@
 //! The arrays of a flat column, one after another.
 ghost use Rattle.std.specs.Prelude.{◌≡◌, ◌<◌, IsTrue, if◌then◌else◌, is_ok, [], None, IfOk, IfErr};
-ghost use Rattle.columns_core.specs.Array.{cells, data_type_of};
+ghost use Rattle.columns_core.specs.Array.{cells};
 ghost use Rattle.columns_core.specs.Causes.{IsWantOfMemory, is_invalid_argument};
 ghost use Rattle.page_decoding.specs.Chunks.{ended};
 ghost use Rattle.page_decoding.specs.Column.{DataPagesAre};

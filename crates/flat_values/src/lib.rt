@@ -57,6 +57,6 @@ pub use scale::Scale;
 pub use stored::ParquetNativeType;
 pub use time::{Int96Bits, Int96Time, int96_to_i64_ns, unifiy_timestmap_unit};
 pub use truths::{DecodedTruths, TruthValues};
-pub use validity::{freeze_mask, mark_nulls, mark_values};
+pub use validity::{freeze_mask, mark_nulls, mark_rows, mark_values};
 pub use value_decoder::{ValueDecoder, ValueEncoding};
 pub use values::Values;

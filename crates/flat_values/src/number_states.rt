@@ -1,5 +1,5 @@
 //! Places in pages of numbers that are stored in one encoding: plain, or keys.
-ghost use Rattle.std.specs.Prelude.{◌≡◌, ◌⊎◌, [], true, false, List, Some, None, IfOk, IfErr, IfSome, IsSome, OnOk, length};
+ghost use Rattle.std.specs.Prelude.{◌≡◌, ◌⊎◌, [], true, false, List, Some, None, IfOk, IfErr, IfSome, IsSome, OnOk};
 ghost use Rattle.columns_core.specs.Causes.{IsOneOf, NotYetImplemented, cause_of};
 ghost use Rattle.columns_core.specs.declared.cell.Cell.{Cell};
 ghost use Rattle.parquet_meta.specs.declared.metadata.PhysicalType.{PhysicalType};

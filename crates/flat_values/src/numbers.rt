@@ -1,9 +1,7 @@
 //! Numbers in the pages of a column.
-ghost use Rattle.std.specs.Prelude.{◌≡◌, ◌≤◌, ◌+◌, ◌-◌, ◌∷◌, ◌++◌, ℕ, true, List, [], Some, IsSome, IfErr, IfOk, OnOk, is_some, length, min, take, drop, map};
-ghost use Rattle.std.specs.Option.{option_copied};
+ghost use Rattle.std.specs.Prelude.{◌≡◌, ◌+◌, ◌-◌, [], Some, IsSome, IfErr, IfOk, OnOk, is_some, min, take, drop, map};
 ghost use Rattle.columns_core.specs.Causes.{ComesOf, ExternalFormat, IsOneOf, cause_of, unless};
 ghost use Rattle.parquet_encoding.specs.DeltaLeft.{delta_left, numbers};
-ghost use Rattle.parquet_page.specs.Stored.{Stored};
 ghost use Rattle.parquet_page.specs.Values.{delta_values, plain_values};
 ghost use Rattle.page_decoding.specs.Outcome.{causes_in};
 ghost use Rattle.flat_values.specs.Added.{Adds};

@@ -2,7 +2,7 @@
 ghost use Rattle.std.specs.Prelude.{◌≡◌, Option, is_some};
 ghost use Rattle.columns_core.specs.declared.data_type.DataType.{out-DataType};
 ghost use Rattle.parquet_meta.specs.declared.metadata.PrimitiveLogicalType.{PrimitiveLogicalType};
-ghost use Rattle.flat_values.specs.Pairs.{conversion, from_physical, from_int32, from_int64, from_int96, from_fixed, from_byte_array};
+ghost use Rattle.flat_values.specs.Pairs.{conversion, from_physical, from_int32, from_int64, from_fixed, from_byte_array};
 ghost use Rattle.flat_values.specs.Pairs.{entry_from_physical, entry_from_int32, entry_from_int64, entry_from_fixed};
 ghost use Rattle.flat_values.specs.Pairs.{leaf_conversion, page_conversion, page_from_physical, page_from_int96, page_from_fixed};
 

@@ -1,7 +1,6 @@
 //! Times: their units, and the day and nanoseconds of older files.
 ghost use Rattle.std.specs.Prelude.{◌≡◌, true, false, ◌/◌, pos, int_div, nat_abs, option_copied, IfOk, IfErr};
-ghost use Rattle.flat_values.specs.CellTypes.{is_in};
-ghost use Rattle.columns_core.specs.Types.{signed_range};
+ghost use Rattle.columns_core.specs.Types.{signed_range, is_in};
 ghost use Rattle.flat_values.specs.Units.{nanoseconds_of, per_second, unit_factor, stored_per_second};
 ghost use Rattle.flat_values.specs.Units.{factor_between as factor_of};
 ghost use Rattle.flat_values.specs.Numbers.{nanoseconds_in, IsFactor};

@@ -1,5 +1,5 @@
 //! Truth values of a page, and those that were decoded.
-ghost use Rattle.std.specs.Prelude.{◌≡◌, ◌++◌, IsTrue, Bool, length, map, take, drop, None, Some, refl, IfOk, IfErr, OnOk, IsSome};
+ghost use Rattle.std.specs.Prelude.{◌≡◌, ◌++◌, IsTrue, length, map, take, drop, None, Some, refl, IfOk, IfErr, OnOk, IsSome};
 ghost use Rattle.columns_core.specs.Causes.{ExternalFormat, IsWantOfMemory, cause_of, is_invalid_argument};
 ghost use Rattle.columns_core.specs.ElementType.{is_boolean};
 ghost use Rattle.columns_core.specs.declared.cell.Cell.{Bool as TruthCell};

@@ -32,12 +32,8 @@ pub fn mark_nulls(validity: &mut MutableBitmap, held: usize, count: usize) -> Re
     validity.extend_constant(count, false)
 }
 
-/// The rows of a word stand behind `held` values.
-pub(crate) fn mark_rows(
-    validity: &mut MutableBitmap,
-    held: usize,
-    word: ValidityWord,
-) -> Result<(), Error>
+/// The rows of a word stand behind `held` values, each there or null as its bit says.
+pub fn mark_rows(validity: &mut MutableBitmap, held: usize, word: ValidityWord) -> Result<(), Error>
     ensures ok { OnOk result (validity.new ≡ with_places held (word_places word) validity.old) }
     ensures err { IfErr result IsWantOfMemory }
 {

@@ -1,5 +1,5 @@
 //! Bytes of pages, and the values that they spell.
-ghost use Rattle.std.specs.Prelude.{◌≡◌, ◌≤◌, ◌<◌, IsSome};
+ghost use Rattle.std.specs.Prelude.{◌<◌, IsSome};
 ghost use Rattle.parquet_encoding.specs.HybridLeft.{hybrid_left};
 
 use parquet_encoding::{

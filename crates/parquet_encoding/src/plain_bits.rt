@@ -1,5 +1,5 @@
 //! Plain truth values, one bit each.
-ghost use Rattle.std.specs.Prelude.{◌≡◌, ℕ, List, ◌+◌, ◌^◌, ◌<◌, ◌≤◌, min, length, take, drop, map, slice_get, is_ok, is_some, Some, IsSome, IfSome, IfOk};
+ghost use Rattle.std.specs.Prelude.{◌≡◌, ℕ, List, ◌+◌, ◌^◌, ◌<◌, min, length, take, drop, map, slice_get, is_ok, is_some, Some, IsSome, IfSome, IfOk};
 ghost use Rattle.parquet_encoding.specs.PackedRun.{LiesIn, packed_values};
 ghost use Rattle.parquet_encoding.specs.Plain.{plain_bits, truth};
 

@@ -1,5 +1,5 @@
 //! Ends of pages that are stored as bytes of a fixed number.
-ghost use Rattle.std.specs.Prelude.{◌≡◌, [], map, flat_map, length, true, option_map, IfOk, OnOk};
+ghost use Rattle.std.specs.Prelude.{◌≡◌, [], map, flat_map, option_map, IfOk, OnOk};
 ghost use Rattle.columns_core.specs.Causes.{ComesOf};
 ghost use Rattle.parquet_page.specs.Stored.{Octets};
 ghost use Rattle.flat_values.specs.Conversion.{BigEndian};

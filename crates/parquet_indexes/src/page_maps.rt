@@ -1,6 +1,5 @@
 //! Which pages of a group's columns hold rows that are wanted.
 ghost use Rattle.std.specs.Prelude.{◌≡◌, ◌≤◌, ◌+◌, true, false, map, sum_by, IfOk, IfErr, IsErrAnd, OnOk};
-ghost use Rattle.std.specs.List.{list_all};
 ghost use Rattle.columns_core.specs.Causes.{is_invalid_argument};
 ghost use Rattle.columns_core.specs.Refusals.{IsDamaged};
 ghost use Rattle.parquet_base.specs.Intervals.{is_well_shaped as is_well_shaped_by};

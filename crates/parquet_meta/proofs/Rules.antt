@@ -8,7 +8,7 @@ use Rattle.std.proofs.lemmas.Str.{IsUtf8-from_is_utf8, is_utf8-from_IsUtf8}
 use Rattle.parquet_base.specs.Reading.{◌>>=◌, map_value}
 use Rattle.parquet_thrift.specs.Cursor.{Cursor}
 use Rattle.parquet_thrift.specs.Numbers.{signed, bytes_of_length}
-use Rattle.parquet_thrift.specs.Values.{Value, number, binary, list, struct, Values, values, Fields, Context, in_struct, in_list, list_start, elements, fields_of, value, value_within, depth, keep, no_deeper}
+use Rattle.parquet_thrift.specs.Values.{Value, number, binary, list, struct, Values, values, Fields, Context, in_struct, in_list, list_start, elements, fields_of, value, value_within, depth, keep, most_depth, no_deeper}
 use Rattle.parquet_thrift.proofs.ValueLemmas.{value-i32, value-i64, value-binary, value-struct}
 use Rattle.parquet_thrift.proofs.Fronts.{value-list_start}
 use Rattle.parquet_meta.specs.Meaning.{Rule, Field, of_kind, number_of, bytes_of, text_of, i32, i64, byte_string, name, truth_value, unknown, setting, with_rest, by_rule, struct_of, fields_in, in_turn, fields_by, list_of, elements_by, each, elements_by_rule}
@@ -142,7 +142,7 @@ pub ruleset truth_rules = (true_is, false_is, truth_other)
 abbrev nothing_of : Value → Unit {0}
 nothing_of v = tt
 
-pub unknown_is : (kind : ℕ) (bytes : List ℕ) → by_rule in_struct unknown kind bytes ≡ map_value nothing_of (no_deeper 32 in_struct kind bytes)
+pub unknown_is : (kind : ℕ) (bytes : List ℕ) → by_rule in_struct unknown kind bytes ≡ map_value nothing_of (no_deeper most_depth in_struct kind bytes)
 unfolding by_rule unknown
 unknown_is kind bytes = kept (value in_struct kind bytes)
   where

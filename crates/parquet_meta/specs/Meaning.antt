@@ -3,7 +3,7 @@
 use Rattle.std.specs.Prelude.{ℕ, ℤ, pos, negsuc, Bool, true, false, List, [], ◌∷◌, Option, Some, None, option_map, nat_le, ◌==◌, if◌then◌else◌}
 use Rattle.std.specs.Str.{is_utf8}
 use Rattle.parquet_base.specs.Reading.{Read, ◌>>=◌}
-use Rattle.parquet_thrift.specs.Values.{Value, truth, number, double, binary, list, map, struct, Values, no_values, values, Fields, no_fields, fields, Context, in_struct, in_list, elements, fields_of, value, depth}
+use Rattle.parquet_thrift.specs.Values.{Value, truth, number, double, binary, list, map, struct, Values, no_values, values, Fields, no_fields, fields, Context, in_struct, in_list, elements, fields_of, value, depth, most_depth}
 
 abbrev pub Rule : Type 0 → Type 0
 Rule A = ℕ → Value → Option A
@@ -63,9 +63,9 @@ truth_value kind v = if kind == 1 then Some true else (if kind == 2 then Some fa
 unfoldable pub truth_element : Rule Bool
 truth_element kind v = truth_of v
 
--- a field that nobody knows, nested at most 32 deep
+-- a field that nobody knows, and that is not nested too deep to be passed over
 unfoldable pub unknown : Rule (Unit {0})
-unknown kind v = if nat_le (depth v) 32 then Some tt else None
+unknown kind v = if nat_le (depth v) most_depth then Some tt else None
 
 -- What a struct's fields make of a state: each in turn, so the last field of an id counts, and each has to obey its rule.
 abbrev pub Field : Type 0 → Type 0

@@ -7,8 +7,8 @@ use std::alloc::{AllocError, Global};
 use std::marker::Model;
 use std::sync::Arc;
 
-/// The names from the root of a schema to a leaf, which stand in memory once however many hold them: the chunks of a leaf in all row groups do. Without
-/// names it takes no memory. Contracts see it as the list of the names.
+/// The names from the root of a schema to a leaf, which stand in memory once however many hold them: the chunks of a leaf in all row groups do. Contracts
+/// see it as the list of the names.
 #[derive(Drop)]
 pub struct ColumnPath {
     names: Option<Arc<Seq<Name>>>,
@@ -24,6 +24,7 @@ impl Model for ColumnPath {
 }
 
 impl ColumnPath {
+    /// The path of the root. It takes no memory.
     pub fn empty() -> Self
         ensures { result ≡ [] }
     {
@@ -48,7 +49,7 @@ impl ColumnPath {
         }
     }
 
-    /// The same path, which takes no more memory.
+    /// The same path, which takes no more memory. An error where no more can hold it: their number is one of 64 bits.
     pub fn try_clone(&self) -> Result<Self, AllocError>
         ensures { IfOk result (λ path. path ≡ self.now) }
     {

@@ -11,8 +11,7 @@ use crate::ShortBytes;
 use crate::chunks::Chunks;
 use crate::code::TypeCode;
 use crate::decode::{
-    Decode, MOST_RESERVED, Make, decode_field, decode_list_field, decode_made_struct,
-    decode_struct, pass_over,
+    Decode, MOST_RESERVED, Make, decode_field, decode_list_field, decode_made_struct, pass_over,
 };
 use crate::fault::Fault;
 use crate::front::decode_front;

@@ -1,7 +1,5 @@
 //! The elements of a schema.
 
-ghost use Rattle.std.specs.Prelude.{◌≡◌};
-
 use crate::code::TypeCode;
 use crate::decode::{
     Decode, Make, decode_bool, decode_field, decode_made, decode_made_struct, decode_struct,

@@ -1,6 +1,6 @@
 //! Reads a struct field by field.
 
-ghost use Rattle.std.specs.Prelude.{◌≡◌, ℤ, pos};
+ghost use Rattle.std.specs.Prelude.{pos};
 ghost use Rattle.parquet_thrift.specs.Values.{in_struct};
 ghost use Rattle.parquet_meta.specs.Fault.{ReadsOr};
 ghost use Rattle.parquet_meta.specs.Meaning.{Field, by_rule, fields_by};

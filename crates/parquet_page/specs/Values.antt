@@ -59,12 +59,14 @@ has_key_past entries keys = list_any (λ key. nat_le entries key) keys
 
 -- ---- deltas
 
--- of INT32 the low 32 bits
+-- The numbers that the bytes begin with, of INT32 their low 32 bits. Any bytes may follow the last miniblock that is needed: what
+-- `delta_binary` gives back behind it, `read.1`, is dropped.
 unfoldable pub delta_values : PhysicalType → List ℕ → ℕ → Option (List Stored)
 delta_values Int32 bytes count = option_map (λ read. map (λ number. Number (int_wrap w32 number)) read.0) (delta_binary count bytes)
 delta_values Int64 bytes count = option_map (λ read. map Number read.0) (delta_binary count bytes)
 delta_values type bytes count = None
 
+-- The strings that the bytes begin with. Any bytes may follow the last of them.
 unfoldable pub delta_length_values : PhysicalType → List ℕ → ℕ → Option (List Stored)
 delta_length_values ByteArray bytes count = option_map (map Octets) (delta_length bytes count)
 delta_length_values type bytes count = None

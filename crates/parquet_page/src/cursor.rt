@@ -1,5 +1,5 @@
 //! A place in a chunk.
-ghost use Rattle.std.specs.Prelude.{◌≡◌, ◌+◌, ◌<◌, ◌≤◌, slice_range, vec_len, IfOk, IfSome, IsTrue, None};
+ghost use Rattle.std.specs.Prelude.{◌≡◌, ◌<◌, ◌≤◌, slice_range, vec_len, IfOk, IfSome, IsTrue, None};
 ghost use Rattle.parquet_page.specs.Found.{IsInside, found_content};
 ghost use Rattle.parquet_page.specs.Taking.{OpensPage, Walks};
 ghost use Rattle.parquet_meta.specs.declared.metadata.PrimitiveType.{PrimitiveType};

@@ -58,12 +58,12 @@ pub(crate) fn row_count(rows: &[Interval]) -> usize
     count
 }
 
-/// The start of the first page.
-pub(crate) fn first_start(pages: &[FilteredPage]) -> usize
+/// Where the first page starts, and 0 where there is none.
+pub fn first_start(pages: &[FilteredPage]) -> u64
     ensures { result ≡ first_start_by pages.now }
 {
     match pages.first() {
-        Some(page) => page.start as usize,
+        Some(page) => page.start,
         None => 0,
     }
 }
@@ -72,7 +72,7 @@ pub(crate) fn first_start(pages: &[FilteredPage]) -> usize
 pub(crate) fn lie_within(size: usize, pages: &[FilteredPage]) -> bool
     ensures { result ≡ lie_within_by size pages.now }
 {
-    let first = first_start(pages);
+    let first = first_start(pages) as usize;
     for page in pages {
         if is_wanted(page) && !lies_within(page, first, size) {
             return false;

@@ -58,7 +58,7 @@ impl IndexedPageReader {
         }
         let parts = Parts::Chunk {
             bytes: buffer,
-            first: first_start(&pages),
+            first: first_start(&pages) as usize,
         };
         Ok(IndexedPageReader {
             type_: column.descriptor.primitive_type,

@@ -1,5 +1,5 @@
 //! Facts about the definitions that the contracts cite.
-ghost use Rattle.std.specs.Prelude.{◌≡◌, ℕ, ◌≤◌, ℤ, pos, Bool, true, IfSome, IsSome, List, [], ◌∷◌, ◌++◌, length, take, drop, map, replicate, Option, Some, None, option_map};
+ghost use Rattle.std.specs.Prelude.{◌≡◌, ℕ, ◌≤◌, pos, Bool, true, IsSome, List, [], ◌∷◌, ◌++◌, length, take, drop, map, replicate, Option, Some, None, option_map};
 ghost use Rattle.std.specs.List.{flat_map};
 ghost use Rattle.parquet_base.specs.Intervals.{AreAdjacent, is_well_shaped, rows_in_page, rows_of};
 ghost use Rattle.parquet_base.specs.declared.interval.Interval.{Interval};

@@ -1,5 +1,5 @@
 //! Which places of a page have a value, in runs and words.
-ghost use Rattle.std.specs.Prelude.{◌≡◌, ◌≢◌, ◌==◌, ◌+◌, ◌*◌, ◌/◌, ◌%◌, ◌^◌, ◌<◌, ◌≤◌, ◌++◌, ℕ, List, true, false, [], length, take, drop, map, replicate, count_by, nat_le, IfOk, IfErr, IfNone, IfSome, IsSome, None, Some};
+ghost use Rattle.std.specs.Prelude.{◌≡◌, ◌==◌, ◌+◌, ◌*◌, ◌%◌, ◌<◌, ◌≤◌, ◌++◌, ℕ, List, true, false, [], length, take, drop, map, replicate, count_by, nat_le, IfOk, IfErr, IfNone, IfSome, IsSome, None, Some};
 ghost use Rattle.std.specs.List.{list_all};
 ghost use Rattle.columns_core.specs.Causes.{ExternalFormat, cause_of};
 ghost use Rattle.parquet_encoding.specs.Bits.{bits_at};

@@ -20,14 +20,14 @@ mod validity;
 mod validity_part;
 
 pub use body::split_buffer;
-pub use entries::{count_selected, is_wanted};
+pub use entries::{count_selected, first_start, is_wanted};
 pub use indexed::IndexedPageReader;
 pub use page::{DataPage, DictPage, FilteredPage, Page};
 pub use parquet_base::Interval;
 pub use parquet_meta::DataPageHeader;
 pub use reader::PageReader;
 pub use run::Run;
-pub use selection::{page_row_intervals, select_pages};
+pub use selection::{has_shape, page_row_intervals, select_pages};
 pub use slice_filtered::SliceFiltered;
 pub use source::Pages;
 pub use validity::OptionalPageValidity;

@@ -1,5 +1,5 @@
 //! Parts of a chunk that hold one page each.
-ghost use Rattle.std.specs.Prelude.{◌≡◌, ◌<◌, ◌≤◌, length, MatchOption, None, true};
+ghost use Rattle.std.specs.Prelude.{◌≡◌, ◌<◌, length, MatchOption, None, true};
 ghost use Rattle.parquet_page.specs.Lent.{Lent, wanted_page};
 ghost use Rattle.parquet_page.specs.Parts.{Fills, FindsDictionary, entry_at, hold, wanted_part, part_before as part_before_by};
 

@@ -1,8 +1,10 @@
 //! The rows of pages, and which of them are selected.
-ghost use Rattle.std.specs.Prelude.{◌≡◌, ◌+◌, ◌-◌, ◌^◌, ◌<◌, ◌≤◌, All, length, drop, IfOk, IfErr, true};
-ghost use Rattle.parquet_base.specs.Intervals.{end, is_well_shaped as is_well_shaped_by};
+ghost use Rattle.std.specs.Prelude.{◌≡◌, ◌-◌, ◌^◌, ◌<◌, ◌==◌, false, is_some, option_and_then, option_map, slice_get, IfOk, IfErr, IfSome, Some, true};
+ghost use Rattle.std.specs.List.{list_all};
+ghost use Rattle.std.specs.Option.{option_map_or, option_to_list};
+ghost use Rattle.parquet_base.specs.Intervals.{end, interval, is_well_shaped as is_well_shaped_by};
 ghost use Rattle.parquet_meta.specs.Code.{not_negative};
-ghost use Rattle.parquet_page.specs.Locations.{begin_in_time, filtered_page as filtered_page_by, filtered_pages as filtered_pages_by, next_row, page_intervals, rows_between, selected_pages};
+ghost use Rattle.parquet_page.specs.Locations.{begin_in_time, begin_with_row_0, filtered_page as filtered_page_by, filtered_pages as filtered_pages_by, has_shape as has_shape_by, next_row, page_intervals, part_of, rows_between, selected_pages};
 ghost use Rattle.columns_core.specs.Refusals.{IsDamaged, Refuses};
 
 use crate::page::FilteredPage;
@@ -33,7 +35,8 @@ pub fn page_row_intervals(
 
 /// The rows of a page in front of others.
 fn rows_of_page(page: PageLocation, others: &[PageLocation], num_rows: usize) -> Option<Interval>
-    ensures { result ≡ rows_between page.first_row_index (next_row others.now num_rows) }
+    ensures rows { result ≡ rows_between page.first_row_index (next_row others.now num_rows) }
+    ensures fits { IfSome result (λ rows. end rows < 2 ^ 64) }
 {
     let end = match others.first() {
         Some(next) => natural_number(next.first_row_index)?,
@@ -61,6 +64,65 @@ fn natural_number(number: i64) -> Option<usize>
     }
 }
 
+/// Whether locations have their shape: there is at least one, the first has row 0, first rows never fall nor pass the number of rows, and no
+/// number is negative.
+pub fn has_shape(locations: &[PageLocation], num_rows: usize) -> bool
+    ensures { result ≡ has_shape_by locations.now num_rows }
+{
+    are_in_order(locations, num_rows) && have_parts(locations)
+}
+
+/// Whether the first page has row 0, and all have their rows.
+fn are_in_order(locations: &[PageLocation], num_rows: usize) -> bool
+    ensures { result ≡ begin_with_row_0 (page_intervals locations.now num_rows) }
+{
+    begin_at_row_0(first_row(locations)) && have_rows(locations, num_rows)
+}
+
+/// The first row of the first page, where there is a page and that row is not negative.
+fn first_row(locations: &[PageLocation]) -> Option<usize>
+    ensures { result
+        ≡ option_and_then (λ page. not_negative page.first_row_index) (slice_get locations.now 0) }
+{
+    natural_number(locations.first()?.first_row_index)
+}
+
+/// Whether pages of which the first has this first row begin at row 0.
+fn begin_at_row_0(first: Option<usize>) -> bool
+    ensures { result ≡ option_map_or (λ row. row == 0) first false }
+{
+    match first {
+        Some(row) => row == 0,
+        None => false,
+    }
+}
+
+/// Whether first rows never fall nor pass the number of rows, and none is negative.
+fn have_rows(locations: &[PageLocation], num_rows: usize) -> bool
+    ensures { result ≡ is_some (page_intervals locations.now num_rows) }
+{
+    for (i, location) in locations.iter().enumerate() {
+        if rows_of_page(*location, &locations[i + 1..], num_rows).is_none() {
+            return false;
+        }
+    }
+    true
+}
+
+/// Whether neither the place nor the size of any page is negative.
+fn have_parts(locations: &[PageLocation]) -> bool
+    ensures { result ≡ list_all (λ location. is_some (part_of location)) locations.now }
+{
+    locations.iter().all(|location| has_part(location))
+}
+
+/// The same of one page.
+fn has_part(location: &PageLocation) -> bool
+    ensures { result ≡ is_some (part_of location.now) }
+{
+    location.offset >= 0 && location.compressed_page_size >= 0
+}
+
 /// One entry for each page: its part of the file, and the rows of it that lie in the intervals, which may be none.
 pub fn select_pages(
     alloc: Global,
@@ -78,41 +140,45 @@ pub fn select_pages(
     if !is_well_shaped(intervals, num_rows) {
         return Err(Error::InvalidArgumentError(Part::Request));
     }
-    let pages = page_row_intervals(alloc, locations, num_rows)?;
-    if !begins_in_time(&pages, intervals) {
+    if !begins_in_time(first_row(locations), intervals) {
         return Err(Error::ExternalFormat(Part::Location));
     }
-    filtered_pages(alloc, intervals, locations, &pages)
+    filtered_pages(alloc, intervals, locations, num_rows)
 }
 
-/// Whether the first page begins at or before the first interval.
-fn begins_in_time(pages: &[Interval], intervals: &[Interval]) -> bool
-    ensures { result ≡ begin_in_time pages.now intervals.now }
+/// Whether pages of which the first has this first row begin at or before the first interval. Without such a row they begin before none.
+fn begins_in_time(first: Option<usize>, intervals: &[Interval]) -> bool
+    ensures { result
+        ≡ begin_in_time (option_to_list (option_map (λ row. interval row 0) first)) intervals.now }
 {
-    match (pages.first(), intervals.first()) {
+    match (first, intervals.first()) {
         (_, None) => true,
         (None, Some(_)) => false,
-        (Some(page), Some(interval)) => page.start <= interval.start,
+        (Some(row), Some(interval)) => row <= interval.start,
     }
 }
 
-/// The entries of pages with these rows.
+/// The entry of each page, where each has its rows and its part of the file.
 fn filtered_pages(
     alloc: Global,
     intervals: &[Interval],
     locations: &[PageLocation],
-    rows: &[Interval],
+    num_rows: usize,
 ) -> Result<Vec<FilteredPage>, Error>
     requires shaped { is_well_shaped_by intervals.now (2 ^ 64 - 1) ≡ true }
-    requires rows { All (λ page. end page < 2 ^ 64) rows.now }
-    requires all { length rows.now ≡ length locations.now }
     ensures pages { IfOk result (λ pages.
-        filtered_pages_by intervals.now locations.now rows.now ≡ Some pages.items) }
-    ensures refusal { IfErr result (IsDamaged (filtered_pages_by intervals.now locations.now rows.now)) }
+        option_and_then (filtered_pages_by intervals.now locations.now)
+        (page_intervals locations.now num_rows) ≡ Some pages.items) }
+    ensures refusal { IfErr result (IsDamaged
+        (option_and_then (filtered_pages_by intervals.now locations.now)
+        (page_intervals locations.now num_rows))) }
 {
     let mut pages = Vec::with_capacity(alloc, locations.len())?;
-    for i in 0..locations.len() {
-        pages.push(filtered_page(alloc, intervals, locations[i], rows[i])?)?;
+    for (i, location) in locations.iter().enumerate() {
+        let Some(rows) = rows_of_page(*location, &locations[i + 1..], num_rows) else {
+            return Err(Error::ExternalFormat(Part::Location));
+        };
+        pages.push(filtered_page(alloc, intervals, *location, rows)?)?;
     }
     Ok(pages)
 }

@@ -18,7 +18,7 @@ ghost use Rattle.parquet_read.specs.RowGroup.{iter_left};
 use crate::ColumnPages;
 use crate::deserializer::size_within;
 use crate::locations::counted_from;
-use crate::selected::first_start;
+use crate::selected::first_start_from;
 use columns_core::{DataType, Error};
 use flat_binary::{ArrayIter, page_iter_to_arrays};
 use parquet_meta::{ColumnChunkMetaData, Place, Source, read_range};
@@ -118,7 +118,7 @@ fn place_before(column: &ColumnChunkMetaData, pages: &[FilteredPage]) -> Place
     let (offset, _) = column.byte_range();
     Place {
         offset,
-        length: first_start(offset, pages),
+        length: first_start_from(offset, pages),
     }
 }
 

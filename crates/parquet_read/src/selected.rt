@@ -86,7 +86,7 @@ pub(crate) fn are_in_range(column: &ColumnChunkMetaData, pages: &[FilteredPage])
 fn lie_within(start: u64, length: u64, pages: &[FilteredPage]) -> bool
     ensures { result ≡ lie_within_by length (map (counted_from start) pages.now) }
 {
-    all_lie(start, first_start(start, pages), length, pages)
+    all_lie(start, first_start_from(start, pages), length, pages)
 }
 
 /// Whether each page with selected rows lies in so many bytes from a place on, and so does the place where the first page begins.
@@ -102,7 +102,7 @@ fn all_lie(start: u64, first: u64, length: u64, pages: &[FilteredPage]) -> bool
 }
 
 /// Where the first page starts, counted from a place.
-pub(crate) fn first_start(start: u64, pages: &[FilteredPage]) -> u64
+pub(crate) fn first_start_from(start: u64, pages: &[FilteredPage]) -> u64
     ensures { result ≡ first_start_by (map (counted_from start) pages.now) }
 {
     match pages.first() {

@@ -33,7 +33,8 @@ use Rattle.flat_values.specs.Pairs.{page_conversion, page_end_at, page_from_phys
 use Rattle.column_ends.specs.Converted.{causes_of_index, cell_page, each_made, index_cells, index_rule}
 use Rattle.column_ends.specs.Told.{stored_pages}
 use Rattle.parquet_scan.specs.declared.bound.Bound.{Bound}
-use Rattle.parquet_scan.specs.Pages.{column_index_causes, count_causes, ends_of_page, page_ends, page_keeps}
+use Rattle.parquet_scan.specs.Pages.{column_index_causes, count_causes, ends_of_page, page_ends}
+use Rattle.parquet_scan.specs.Rows.{page_keeps}
 use Rattle.parquet_scan.specs.Request.{begins, begins_a_path}
 use Rattle.parquet_scan.proofs.CauseLemmas.{TellsOf, tells_left, tells_right}
 use Rattle.parquet_scan.proofs.LocationLemmas.{one_of}

@@ -1,9 +1,9 @@
 -- Locations that have their shape.
-use Rattle.std.proofs.Common.{◌≡◌, ℕ, Bool, true, false, List, [], ◌∷◌, ◌++◌, length, map, Option, Some, None, refl, sym, subst, ◌∙◌, ap, arith, inl, inr}
-use Rattle.std.specs.Prelude.{◌&&◌, is_some, unwrap_or, IfSome, Contains, Err}
+use Rattle.std.proofs.Common.{◌≡◌, ℕ, true, false, List, [], ◌∷◌, ◌++◌, length, map, Option, Some, None, refl, sym, subst, ◌∙◌, ap, arith, inl, inr}
+use Rattle.std.specs.Prelude.{is_some, unwrap_or, IfSome, Contains, Err}
 use Rattle.std.specs.List.{list_all}
 use Rattle.std.proofs.lemmas.Bool.{and_parts, eqb-true, le-leb}
-use Rattle.columns_core.specs.Causes.{Cause, ExternalFormat, IsOneOf, IsWantOfMemory, cause_of, unless}
+use Rattle.columns_core.specs.Causes.{Cause, ExternalFormat, IsWantOfMemory, unless}
 use Rattle.columns_core.specs.declared.error.Error.{Error}
 use Rattle.parquet_base.specs.Reading.{◌>>=◌}
 use Rattle.parquet_base.specs.Intervals.{AreAdjacent, is_well_shaped, overlaps}
@@ -17,9 +17,8 @@ use Rattle.parquet_meta.specs.declared.metadata.RowGroupMetaData.{RowGroupMetaDa
 use Rattle.parquet_page.specs.Locations.{begin_in_time, begin_with_row_0, filtered_pages, has_shape, page_intervals, part_of, selected_pages}
 use Rattle.columns_core.specs.Refusals.{IsDamaged, Refuses}
 use Rattle.parquet_page.specs.declared.page.FilteredPage.{FilteredPage}
-use Rattle.parquet_page.proofs.SelectionLemmas.{Covers, some, pages-cover, selects}
+use Rattle.parquet_page.proofs.SelectionLemmas.{Covers, some, pages-cover}
 use Rattle.parquet_scan.specs.Pages.{locations, locations_causes}
-use Rattle.parquet_scan.proofs.CauseLemmas.{TellsOf}
 use Rattle.parquet_scan.proofs.ReadLemmas.{finds_fails, first_of}
 use Rattle.parquet_meta.specs.Source.{Finds, IsReadFailure}
 use Rattle.columns_core.specs.declared.error.Part.{Part}
@@ -58,9 +57,14 @@ in_time : (first : Interval) (others intervals : List Interval) → first.start 
 in_time first others [] from_0 = refl
 in_time first others (run ∷ intervals) from_0 = le-leb first.start run.start (omega (arith, from_0))
 
+selects_pages : (intervals : List Interval) (locations : List PageLocation) (rows : ℕ) (pages : List Interval) → page_intervals locations rows ≡ Some pages → begin_in_time pages intervals ≡ true
+    → selected_pages intervals locations rows ≡ filtered_pages intervals locations pages
+unfolding selected_pages
+selects_pages intervals locations rows pages e near = rw (e, near) refl
+
 -- the selection of intervals is that of the pages
 pub selection_is : (intervals : List Interval) (locations : List PageLocation) (rows : ℕ) (have : HaveRows locations rows) → selected_pages intervals locations rows ≡ filtered_pages intervals locations (have.first ∷ have.others)
-selection_is intervals locations rows have = selects intervals locations rows (have.first ∷ have.others) have.are (in_time have.first have.others intervals have.from_0)
+selection_is intervals locations rows have = selects_pages intervals locations rows (have.first ∷ have.others) have.are (in_time have.first have.others intervals have.from_0)
 
 some_entries : (intervals : List Interval) (locations : List PageLocation) (rows : List Interval) → list_all (λ location. is_some (part_of location)) locations ≡ true → is_some (filtered_pages intervals locations rows) ≡ true
 unfolding filtered_pages
@@ -134,18 +138,6 @@ read_none view (Some bytes) column lists none e = by (locations_of bytes column)
   by : (o : Option (List PageLocation)) → (o >>= λ y. Some (y ∷ [])) ≡ Some [] → ⊥
   by None e = cc
   by (Some list) e = cc
-
-pub damaged_rows : (locations : List PageLocation) (rows : ℕ) (e : Error) → IsDamaged (page_intervals locations rows) e → TellsOf (unless (has_shape locations rows) ExternalFormat) e
-damaged_rows locations rows e (inl memory) = inl memory
-damaged_rows locations rows e (inr damaged) =
-    let causes : unless (has_shape locations rows) ExternalFormat ≡ ExternalFormat ∷ [] = ap (λ o. unless (begin_with_row_0 o && list_all (λ location. is_some (part_of location)) locations) ExternalFormat) damaged.1 in
-    let here : Contains (ExternalFormat ∷ []) ExternalFormat = (0, omega arith, refl) in
-    let told : IsOneOf (ExternalFormat ∷ []) (cause_of e) = subst (λ o. IsOneOf (ExternalFormat ∷ []) o) (sym damaged.0) here in
-    inr (subst (λ causes. IsOneOf causes (cause_of e)) (sym causes) told)
-
-pub shape_is : (locations : List PageLocation) (rows : ℕ) (pages : List Interval) (b : Bool) → page_intervals locations rows ≡ Some pages
-    → b ≡ (begin_with_row_0 (Some pages) && list_all (λ location. is_some (part_of location)) locations) → has_shape locations rows ≡ b
-shape_is locations rows pages b are e = ap (λ o. begin_with_row_0 o && list_all (λ location. is_some (part_of location)) locations) are ∙ sym e
 
 pub not_shaped : (locations : List PageLocation) (rows : ℕ) → has_shape locations rows ≡ false → Contains (unless (has_shape locations rows) ExternalFormat) ExternalFormat
 not_shaped locations rows e = first_of ExternalFormat (unless (has_shape locations rows) ExternalFormat) (ap (λ b. unless b ExternalFormat) e)

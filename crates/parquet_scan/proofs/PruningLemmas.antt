@@ -19,9 +19,9 @@ use Rattle.parquet_scan.specs.declared.bound.Bound.{Bound}
 use Rattle.parquet_page.specs.Locations.{has_shape, page_intervals}
 use Rattle.parquet_scan.specs.Causes.{index_causes_of_bound}
 use Rattle.parquet_scan.specs.Counting.{AreLocated}
-use Rattle.parquet_scan.specs.Pages.{column_index_causes, keeps_row, locations, page_ends, page_keeps, row_keeps, rows_at}
+use Rattle.parquet_scan.specs.Pages.{column_index_causes, locations, page_ends, rows_at}
 use Rattle.parquet_scan.specs.Request.{are_values_of, begins, bound_type, bounded_field, is_legal_bound_of}
-use Rattle.parquet_scan.specs.Rows.{bound_keeps, bounded_column, column_named, field_locations, is_named, only_one, pages_keep}
+use Rattle.parquet_scan.specs.Rows.{bound_keeps, bounded_column, column_named, field_locations, is_named, only_one, pages_keep, keeps_row, page_keeps, row_keeps}
 
 -- ---- the column of a name
 

@@ -36,9 +36,9 @@ use Rattle.parquet_scan.specs.Causes.{causes_of_chunk, causes_of_column, causes_
 use Rattle.parquet_scan.specs.Cells.{Reading, dictionary_by_locations, chunk_of, dictionary_before, first_location, given_cell, is_null_type, item_among, item_at, item_located, located_item, located_pages, located_reading, named_page, walked_item, walked_reading}
 use Rattle.parquet_scan.specs.Costs.{holds_any, names_some, opened_locations}
 use Rattle.parquet_scan.specs.LookedAt.{AgreeAt, AgreeOn, bound_parts, chunk_parts, column_parts, dictionary_length, dictionary_part, front_of_part, index_parts_of_group, parts_by_locations, offset_parts, part_in_chunk, parts_if, walked_length, walked_parts, with_dictionary}
-use Rattle.parquet_scan.specs.Pages.{column_index_causes, count_causes, ends_of_page, keeps_row, location_rows, locations, locations_causes, row_keeps, rows_at}
+use Rattle.parquet_scan.specs.Pages.{column_index_causes, count_causes, ends_of_page, location_rows, locations, locations_causes, rows_at}
 use Rattle.parquet_scan.specs.Request.{Request, bound_type, bounded_field}
-use Rattle.parquet_scan.specs.Rows.{bound_keeps, column_named}
+use Rattle.parquet_scan.specs.Rows.{bound_keeps, column_named, keeps_row, row_keeps}
 use Rattle.parquet_scan.proofs.CellLemmas.{same_given}
 use Rattle.parquet_scan.proofs.LocatedLemmas.{any_row, chunk_length, located_by, page_there}
 use Rattle.parquet_scan.proofs.PruningLemmas.{typed_by}

@@ -28,10 +28,9 @@ use Rattle.parquet_scan.specs.Bound.{KnownEnds, ends_keep, meets}
 use Rattle.parquet_scan.specs.Causes.{file_causes, index_causes, index_causes_of_bound, index_causes_of_group, metadata_causes, offset_causes_of_field, read_causes}
 use Rattle.parquet_scan.specs.Cells.{cell, column_cell}
 use Rattle.parquet_scan.specs.Laws.{LosesNoRowOfValidFiles}
-use Rattle.parquet_scan.specs.Pages.{column_index_causes, location_rows, locations, locations_causes, page_ends, page_keeps, row_keeps}
+use Rattle.parquet_scan.specs.Pages.{column_index_causes, location_rows, locations, locations_causes, page_ends}
 use Rattle.parquet_scan.specs.Request.{Request, are_values_of, bound_type, bounded_field, is_legal, is_legal_bound_of}
-use Rattle.parquet_scan.specs.Rows.{File, bound_keeps, bounded_column, column_named, file_with, group_counts, group_keeps, groups_of, kept, prunes_pages}
-use Rattle.parquet_scan.specs.Statistics.{group_ends}
+use Rattle.parquet_scan.specs.Rows.{File, bound_keeps, bounded_column, column_named, file_with, group_counts, group_keeps, groups_of, kept, prunes_pages, page_keeps, row_keeps, group_ends}
 use Rattle.parquet_scan.specs.Truth.{HasTrueStatistics, LosesNoRow, MeetsAll, OnBound, are_true, has_true_index, has_true_statistics, is_true_of_page, items_of}
 use Rattle.parquet_scan.proofs.Exact.{from_items}
 use Rattle.parquet_scan.proofs.FileLemmas.{nothing_first}

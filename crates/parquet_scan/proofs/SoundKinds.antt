@@ -11,7 +11,7 @@ use Rattle.columns_core.specs.declared.data_type.DataType.{DataType, out-DataTyp
 use Rattle.columns_core.specs.declared.data_type.DataType.TheOpen.{DataType-F}
 use Rattle.columns_core.specs.declared.data_type.Field.{Field}
 use Rattle.columns_core.specs.declared.data_type.IntervalUnit.TheVariants.{YearMonth, DayTime}
-use Rattle.columns_core.specs.Types.{Layer, is_ordered, is_ordered_at, is_text_at, number_range_at, value_type, value_type_at}
+use Rattle.columns_core.specs.Types.{Layer, is_ordered, is_ordered_at, is_text_at, number_range_at, value_type, value_type_at, is_in}
 use Rattle.parquet_base.specs.Intervals.{holds}
 use Rattle.parquet_base.specs.Reading.{◌>>=◌, given}
 use Rattle.parquet_meta.specs.Indexes.{raw_index}
@@ -23,7 +23,7 @@ use Rattle.parquet_meta.specs.declared.metadata.PrimitiveType.{PrimitiveType}
 use Rattle.parquet_meta.specs.declared.metadata.RowGroupMetaData.{RowGroupMetaData}
 use Rattle.parquet_page.specs.Chunk.{ChunkPage, PlacedPage}
 use Rattle.parquet_page.proofs.SpelledLemmas.{none_of}
-use Rattle.flat_values.specs.CellTypes.{cell_range_at, is_cell_at, is_cell_of, is_in}
+use Rattle.flat_values.specs.CellTypes.{cell_range_at, is_cell_at, is_cell_of}
 use Rattle.flat_values.specs.Conversion.{Conversion, Item, Value, NotInRange, NotText}
 use Rattle.flat_values.specs.Sound.{is_item_of}
 use Rattle.flat_values.proofs.PageLemmas.{page_has_type}
@@ -33,12 +33,11 @@ use Rattle.column_ends.specs.Told.{stored_pages}
 use Rattle.column_ends.proofs.EndTypes.{group_ends_have_type, page_ends_have_type}
 use Rattle.parquet_scan.specs.declared.bound.Bound.{Bound}
 use Rattle.parquet_scan.specs.declared.bound.Scalar.{Scalar}
-use Rattle.parquet_scan.specs.Bound.{KnownEnds}
+use Rattle.parquet_scan.specs.Bound.{KnownEnds, known_value}
 use Rattle.parquet_scan.specs.Cells.{Reading, cell, column_cell, column_item, content_of, dictionary_content, is_null_type, item_at, item_in, items_in, rows_of_placed, walked_item, walked_pages, walked_reading}
 use Rattle.parquet_scan.specs.Pages.{column_index_causes, count_causes, ends_of_page, locations, page_ends}
 use Rattle.parquet_scan.specs.Request.{are_values_of, bound_type, is_value_of}
-use Rattle.parquet_scan.specs.Rows.{column_named}
-use Rattle.parquet_scan.specs.Statistics.{group_ends, known_ends, known_value, no_ends_known}
+use Rattle.parquet_scan.specs.Rows.{column_named, group_ends, known_ends, no_ends_known}
 use Rattle.parquet_scan.specs.Truth.{items_of}
 use Rattle.parquet_scan.proofs.Exact.{IsItemIn, kind-bytes, kind-int, kind-of_value, kind_at}
 use Rattle.parquet_scan.proofs.Order.{kind}

@@ -13,6 +13,5 @@ pub mod Pages
 pub mod Request
 pub mod Rows
 pub mod Scan
-pub mod Statistics
 pub mod Truth
 pub mod Value

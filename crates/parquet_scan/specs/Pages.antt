@@ -1,10 +1,9 @@
 -- The pages of a column as its indexes tell of them.
-use Rattle.std.specs.Prelude.{ℕ, Bool, ◌==◌, List, [], ◌∷◌, ◌++◌, length, map, zip, unwrap_or, Option, is_some, option_and_then}
+use Rattle.std.specs.Prelude.{ℕ, ◌==◌, List, [], ◌∷◌, ◌++◌, length, map, unwrap_or, Option, is_some, option_and_then}
 use Rattle.std.specs.Option.{option_map_or}
 use Rattle.columns_core.specs.Causes.{Cause, ExternalFormat, NotYetImplemented, and_then, unless}
 use Rattle.columns_core.specs.declared.cell.Cell.{Cell}
 use Rattle.columns_core.specs.declared.data_type.DataType.{DataType}
-use Rattle.parquet_base.specs.Intervals.{is_kept_page}
 use Rattle.parquet_base.specs.Reading.{◌>>=◌}
 use Rattle.parquet_base.specs.declared.interval.Interval.{Interval}
 use Rattle.parquet_meta.specs.Indexes.{locations_of, raw_index}
@@ -17,9 +16,7 @@ use Rattle.parquet_meta.specs.declared.metadata.RowGroupMetaData.{RowGroupMetaDa
 use Rattle.parquet_page.specs.Locations.{has_shape, page_intervals}
 use Rattle.column_ends.specs.Converted.{causes_of_index, index_cells, index_rule}
 use Rattle.column_ends.specs.Told.{stored_pages}
-use Rattle.parquet_scan.specs.declared.bound.Bound.{Bound}
-use Rattle.parquet_scan.specs.Bound.{KnownEnds, ends_keep}
-use Rattle.parquet_scan.specs.Statistics.{known_value}
+use Rattle.parquet_scan.specs.Bound.{KnownEnds, known_value}
 
 -- ---- the offset index: where pages stand, and which rows they hold
 
@@ -62,15 +59,3 @@ column_index_causes data_type count bytes column =
     and_then (unless (is_some (index_rule column.descriptor.primitive_type data_type)) NotYetImplemented)
     (option_map_or (λ index. causes_of_index column.descriptor.primitive_type data_type index ++ count_causes count index)
     (raw_index bytes column) (ExternalFormat ∷ []))
-
--- ---- pages that may hold a row which meets a bound
-
-abbrev pub page_keeps : Bound → Interval × KnownEnds → Bool
-page_keeps bound page = ends_keep page.1 (page.0).length bound
-
--- the page that holds the row is such a one
-abbrev pub keeps_row : List Interval → List KnownEnds → Bound → ℕ → Bool
-keeps_row pages ends bound row = is_kept_page pages (map (page_keeps bound) (zip pages ends)) row
-
-abbrev pub row_keeps : DataType → List ℕ → RowGroupMetaData → Bound → ColumnChunkMetaData → ℕ → Bool
-row_keeps data_type bytes group bound column row = keeps_row (location_rows bytes group column) (page_ends data_type bytes column) bound row

@@ -3,20 +3,22 @@ use Rattle.std.specs.Prelude.{ℕ, ◌-◌, Bool, false, not, ◌&&◌, ◌||◌
 use Rattle.std.specs.List.{list_all, range_with_len}
 use Rattle.std.specs.Option.{option_map_or}
 use Rattle.parquet_base.specs.declared.interval.Interval.{Interval}
-use Rattle.parquet_base.specs.Intervals.{maximal_runs}
+use Rattle.parquet_base.specs.Intervals.{is_kept_page, maximal_runs}
 use Rattle.parquet_base.specs.Reading.{◌>>=◌}
+use Rattle.columns_core.specs.declared.cell.Cell.{Cell}
 use Rattle.columns_core.specs.declared.data_type.DataType.{DataType}
 use Rattle.columns_core.specs.declared.data_type.Field.{Field}
 use Rattle.parquet_meta.specs.File.{footer}
 use Rattle.parquet_meta.specs.declared.metadata.ColumnChunkMetaData.{ColumnChunkMetaData}
+use Rattle.parquet_meta.specs.declared.metadata.Ends.{Ends}
 use Rattle.parquet_meta.specs.declared.metadata.FileMetaData.{FileMetaData}
 use Rattle.parquet_meta.specs.declared.metadata.PageLocation.{PageLocation}
 use Rattle.parquet_meta.specs.declared.metadata.RowGroupMetaData.{RowGroupMetaData}
+use Rattle.column_ends.specs.Converted.{group_cells}
 use Rattle.parquet_scan.specs.declared.bound.Bound.{Bound}
-use Rattle.parquet_scan.specs.Bound.{ends_keep}
+use Rattle.parquet_scan.specs.Bound.{KnownEnds, ends_keep, known_value}
 use Rattle.parquet_scan.specs.Request.{Request, begins, bound_type, bounded_field}
-use Rattle.parquet_scan.specs.Pages.{locations, row_keeps}
-use Rattle.parquet_scan.specs.Statistics.{group_ends}
+use Rattle.parquet_scan.specs.Pages.{location_rows, locations, page_ends}
 
 -- bytes that have metadata
 pub record File : Type 0 where
@@ -63,7 +65,18 @@ bounded_column fields group bound = do
   column ← column_named group bound.field
   Some (bound_type field, column)
 
--- ---- rows that are kept
+-- ---- groups that count
+
+-- What is not told is not known.
+abbrev pub no_ends_known : KnownEnds
+no_ends_known = record { low = None; high = None; nulls = None }
+
+abbrev pub known_ends : Ends Cell → KnownEnds
+known_ends ends = record { low = known_value ends.min_value; high = known_value ends.max_value; nulls = ends.null_count }
+
+-- the ends of a column in a group as values of a type; of statistics without a cause
+abbrev pub group_ends : DataType → ColumnChunkMetaData → KnownEnds
+group_ends data_type column = option_map_or known_ends (group_cells data_type column) no_ends_known
 
 -- a group may hold a row that meets the bound
 abbrev pub group_keeps : List Field → RowGroupMetaData → Bound → Bool
@@ -84,6 +97,19 @@ has_needed_indexes request group =
 -- Rows are pruned by pages where there is a bound, and each group that counts has the indexes.
 abbrev pub prunes_pages : Request → List RowGroupMetaData → Bool
 prunes_pages request groups = nat_lt 0 (length request.bounds) && list_all (has_needed_indexes request) (filter (group_counts request) groups)
+
+-- ---- rows that are kept
+
+-- the page, which has these rows and ends, may hold a row that meets the bound; one without rows holds none
+abbrev pub page_keeps : Bound → Interval × KnownEnds → Bool
+page_keeps bound page = ends_keep page.1 (page.0).length bound
+
+-- the page that holds the row is such a one
+abbrev pub keeps_row : List Interval → List KnownEnds → Bound → ℕ → Bool
+keeps_row pages ends bound row = is_kept_page pages (map (page_keeps bound) (zip pages ends)) row
+
+abbrev pub row_keeps : DataType → List ℕ → RowGroupMetaData → Bound → ColumnChunkMetaData → ℕ → Bool
+row_keeps data_type bytes group bound column row = keeps_row (location_rows bytes group column) (page_ends data_type bytes column) bound row
 
 -- the page of the bounded column that holds the row may hold one that meets the bound
 abbrev pub bound_keeps : List Field → List ℕ → RowGroupMetaData → ℕ → Bound → Bool

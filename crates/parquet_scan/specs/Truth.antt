@@ -16,8 +16,7 @@ use Rattle.parquet_scan.specs.Bound.{KnownEnds, value_of, is_within, meets}
 use Rattle.parquet_scan.specs.Cells.{cell, chunk_of, walked_pages}
 use Rattle.parquet_scan.specs.Pages.{location_rows, locations, page_ends}
 use Rattle.parquet_scan.specs.Request.{Request, bound_type, bounded_field}
-use Rattle.parquet_scan.specs.Rows.{File, column_named, group_counts, groups_of, groups_read, kept, prunes_pages}
-use Rattle.parquet_scan.specs.Statistics.{group_ends}
+use Rattle.parquet_scan.specs.Rows.{File, column_named, group_counts, group_ends, groups_of, groups_read, kept, prunes_pages}
 
 -- ---- ends and a number of nulls
 

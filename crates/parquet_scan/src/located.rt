@@ -4,7 +4,7 @@ ghost use Rattle.columns_core.specs.Array.{cells, data_type_of};
 ghost use Rattle.parquet_base.specs.Intervals.{is_well_shaped, rows_of};
 ghost use Rattle.parquet_base.specs.Pieces.{cut};
 ghost use Rattle.parquet_meta.specs.Places.{lies_in as lies_in_by};
-ghost use Rattle.parquet_page.specs.Lent.{are_well_shaped, first_start as first_start_by, has_parts, is_wanted as is_wanted_by, located_parts};
+ghost use Rattle.parquet_page.specs.Lent.{are_well_shaped, has_parts, is_wanted as is_wanted_by, located_parts};
 ghost use Rattle.page_decoding.specs.Bytes.{IsCausedByChunks, cell_bytes, fits_most};
 ghost use Rattle.page_decoding.specs.Outcome.{Given};
 ghost use Rattle.page_decoding.specs.Queue.{IsChunkSize};
@@ -26,7 +26,7 @@ use crate::pairs::TypedColumn;
 use columns_core::{Array, Error, Part};
 use parquet_base::Steps;
 use parquet_meta::{Place, Source, read_exact_at};
-use parquet_page::{FilteredPage, IndexedPageReader, is_wanted, select_pages};
+use parquet_page::{FilteredPage, IndexedPageReader, first_start, is_wanted, select_pages};
 use std::alloc::Global;
 use std::collections::VecDeque;
 use std::sync::ledger::Ledger;
@@ -162,15 +162,6 @@ fn place_before(chunk: Place, pages: &[FilteredPage]) -> Place
     Place {
         offset: chunk.offset,
         length: first_start(pages).saturating_sub(chunk.offset),
-    }
-}
-
-fn first_start(pages: &[FilteredPage]) -> u64
-    ensures { result ≡ first_start_by pages.now }
-{
-    match pages.first() {
-        Some(page) => page.start,
-        None => 0,
     }
 }
 

@@ -1,9 +1,9 @@
 //! Where the pages of a column stand.
-ghost use Rattle.std.specs.Prelude.{◌≡◌, ◌≤◌, ◌+◌, ◌&&◌, true, is_some, length, sum_by, map, flat_map, IfOk, IfSome, OnOk, Some};
+ghost use Rattle.std.specs.Prelude.{◌≡◌, ◌≤◌, ◌+◌, true, length, sum_by, map, flat_map, IfOk, IfSome, OnOk, Some};
 ghost use Rattle.std.specs.List.{list_all};
 ghost use Rattle.columns_core.specs.Causes.{ComesOf, ExternalFormat, unless};
 ghost use Rattle.parquet_meta.specs.Indexes.{offset_index_length};
-ghost use Rattle.parquet_page.specs.Locations.{begin_with_row_0, has_shape, part_of};
+ghost use Rattle.parquet_page.specs.Locations.{has_shape as has_shape_by};
 ghost use Rattle.parquet_meta.specs.Reads.{ReadsFile};
 ghost use Rattle.parquet_scan.specs.Causes.{offset_causes_of_field};
 ghost use Rattle.parquet_scan.specs.Costs.{location_bytes_of};
@@ -12,11 +12,10 @@ ghost use Rattle.parquet_scan.specs.Rows.{field_locations};
 
 use crate::groups::column_named;
 use columns_core::{Error, Field, Part, Seq};
-use parquet_base::Interval;
 use parquet_meta::{
     ColumnChunkMetaData, PageLocation, RowGroupMetaData, Source, read_pages_locations,
 };
-use parquet_page::page_row_intervals;
+use parquet_page::has_shape;
 use std::alloc::Global;
 use std::slice;
 
@@ -37,7 +36,7 @@ pub(crate) fn read_all_locations<S: Source>(
         map (λ field. field_locations bytes group.now field.name) fields.now ≡ lists)) }
     ensures length { IfOk result (λ lists. length lists ≡ length fields.now) }
     ensures shaped { IfOk result (λ lists.
-        list_all (λ list. has_shape list group.now.num_rows) lists ≡ true) }
+        list_all (λ list. has_shape_by list group.now.num_rows) lists ≡ true) }
     ensures taken { OnOk result (S.taken source.new ≤ S.taken source.old
         + sum_by (location_bytes_of group.now) fields.now) }
 {
@@ -60,7 +59,7 @@ fn read_field_locations<S: Source>(
     ensures locations { IfOk result (λ list.
         IfSome (S.told source.old) (λ bytes. field_locations bytes group.now field.now.name ≡
         list.items)) }
-    ensures shaped { IfOk result (λ list. has_shape list.items group.now.num_rows ≡ true) }
+    ensures shaped { IfOk result (λ list. has_shape_by list.items group.now.num_rows ≡ true) }
     ensures taken { S.taken source.new ≤ S.taken source.old + location_bytes_of group.now field.now }
 {
     let Some(column) = column_named(group, &field.name) else {
@@ -80,55 +79,25 @@ fn read_locations<S: Source>(
         locations_causes bytes group.now column.now) result }
     ensures locations { IfOk result (λ list.
         IfSome (S.told source.old) (λ bytes. locations_by bytes column.now ≡ list.items)) }
-    ensures shaped { IfOk result (λ list. has_shape list.items group.now.num_rows ≡ true) }
+    ensures shaped { IfOk result (λ list. has_shape_by list.items group.now.num_rows ≡ true) }
     ensures taken { S.taken source.new ≤ S.taken source.old + offset_index_length column.now }
 {
     let mut lists = read_pages_locations(alloc, source, slice::from_ref(column))?;
     let Some(locations) = lists.pop() else {
         return Err(Error::ExternalFormat(Part::Location));
     };
-    check_shape(alloc, &locations, group.num_rows)?;
+    check_shape(&locations, group.num_rows)?;
     Ok(locations)
 }
 
 /// Refuses locations that have not their shape.
-fn check_shape(alloc: Global, locations: &[PageLocation], num_rows: usize) -> Result<(), Error>
-    ensures ok { OnOk result (has_shape locations.now num_rows ≡ true) }
-    ensures cause { ComesOf result (unless (has_shape locations.now num_rows) ExternalFormat) }
+fn check_shape(locations: &[PageLocation], num_rows: usize) -> Result<(), Error>
+    ensures ok { OnOk result (has_shape_by locations.now num_rows ≡ true) }
+    ensures cause { ComesOf result (unless (has_shape_by locations.now num_rows) ExternalFormat) }
 {
-    let rows = page_row_intervals(alloc, locations, num_rows)?;
-    if !are_shaped(&rows, locations) {
-        return Err(Error::ExternalFormat(Part::Location));
+    if has_shape(locations, num_rows) {
+        Ok(())
+    } else {
+        Err(Error::ExternalFormat(Part::Location))
     }
-    Ok(())
-}
-
-fn are_shaped(rows: &[Interval], locations: &[PageLocation]) -> bool
-    ensures { result
-        ≡ (begin_with_row_0 (Some rows.now)
-        && list_all (λ location. is_some (part_of location)) locations.now) }
-{
-    begin_at_row_0(rows) && have_parts(locations)
-}
-
-fn have_parts(locations: &[PageLocation]) -> bool
-    ensures { result ≡ list_all (λ location. is_some (part_of location)) locations.now }
-{
-    locations.iter().all(|location| has_part(location))
-}
-
-fn begin_at_row_0(rows: &[Interval]) -> bool
-    ensures { result ≡ begin_with_row_0 (Some rows.now) }
-{
-    match rows.first() {
-        Some(page) => page.start == 0,
-        None => false,
-    }
-}
-
-/// Whether neither the place nor the size of a page is negative.
-fn has_part(location: &PageLocation) -> bool
-    ensures { result ≡ is_some (part_of location.now) }
-{
-    location.offset >= 0 && location.compressed_page_size >= 0
 }

@@ -7,6 +7,7 @@ ghost use Rattle.parquet_meta.specs.Keeps.{Keeps};
 ghost use Rattle.parquet_meta.specs.Reads.{ReadsFile};
 ghost use Rattle.parquet_scan.specs.Pages as spec;
 ghost use Rattle.parquet_scan.specs.Request.{begins};
+ghost use Rattle.parquet_scan.specs.Rows.{page_keeps as page_keeps_by};
 
 use crate::Bound;
 use crate::bound::ends_keep;
@@ -28,7 +29,7 @@ struct PageTest<'a> {
 impl FromEnds<bool> for PageTest<'_> {
     // An index of more pages than these is refused once all are judged.
     ghost made = { λ test told. option_map_or
-        (λ rows. spec.page_keeps test.bound.now (rows, spec.ends_of_page told.1))
+        (λ rows. page_keeps_by test.bound.now (rows, spec.ends_of_page told.1))
         (slice_get test.rows.now told.0) false };
 
     fn make(&self, page: usize, ends: PageIndex<Cell>) -> bool {
@@ -53,7 +54,7 @@ pub(crate) fn read_kept_pages<S: Source>(
     ensures reads { ReadsFile S.Source source.old source.new (λ bytes.
         spec.column_index_causes data_type.now (length rows.now) bytes column.now) result }
     ensures kept { IfOk result (λ keep. IfSome (S.told source.old) (λ bytes.
-        map (spec.page_keeps bound.now) (zip rows.now (spec.page_ends data_type.now bytes column.now))
+        map (page_keeps_by bound.now) (zip rows.now (spec.page_ends data_type.now bytes column.now))
         ≡ keep.items)) }
     ensures length { IfOk result (λ keep. length keep.items ≡ length rows.now) }
     ensures taken { S.taken source.new ≤ S.taken source.old + column_index_length column.now }
@@ -93,7 +94,7 @@ fn read_index<S: Source>(
 }
 
 fn page_keeps(page: Interval, ends: &PageIndex<Cell>, bound: &Bound) -> bool
-    ensures { result ≡ spec.page_keeps bound.now (page, spec.ends_of_page ends.now) }
+    ensures { result ≡ page_keeps_by bound.now (page, spec.ends_of_page ends.now) }
 {
     ends_keep(
         ends.min.as_ref(),

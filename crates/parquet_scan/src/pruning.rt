@@ -8,9 +8,9 @@ ghost use Rattle.parquet_meta.specs.Reads.{ReadsFile};
 ghost use Rattle.parquet_scan.specs.Causes.{index_causes_of_bound, index_causes_of_group};
 ghost use Rattle.parquet_scan.specs.Costs.{index_bytes_of, location_bytes_of};
 ghost use Rattle.parquet_scan.specs.Counting.{AreLocated};
-ghost use Rattle.parquet_scan.specs.Pages.{column_index_causes, keeps_row, page_ends, rows_at};
+ghost use Rattle.parquet_scan.specs.Pages.{column_index_causes, page_ends, rows_at};
 ghost use Rattle.parquet_scan.specs.Request.{begins, is_legal_bound_of};
-ghost use Rattle.parquet_scan.specs.Rows.{bound_keeps, field_locations, pages_keep};
+ghost use Rattle.parquet_scan.specs.Rows.{bound_keeps, field_locations, pages_keep, keeps_row};
 
 use crate::Bound;
 use crate::groups::bounded_column;

@@ -1,5 +1,5 @@
 //! The arrays of the columns of a field, of a slot for each group.
-ghost use Rattle.std.specs.Prelude.{◌≡◌, [], ◌∷◌, ◌++◌, true, length, map, IfOk, IfErr, OnOk};
+ghost use Rattle.std.specs.Prelude.{◌≡◌, [], ◌∷◌, ◌++◌, true, map, IfOk, IfErr, OnOk};
 ghost use Rattle.columns_core.specs.Array.{cells, column_of, data_type_of};
 ghost use Rattle.columns_core.specs.Causes.{IsWantOfMemory};
 ghost use Rattle.columns_core.specs.declared.data_type.DataType.{UInt64};

@@ -1,5 +1,5 @@
 //! Dictionaries whose keys name all entries in turn.
-ghost use Rattle.std.specs.Prelude.{◌≡◌, ◌⊎◌, ◌<◌, ◌≤◌, [], pos, length, map, option_map, Some, IfOk, IfErr, OnOk};
+ghost use Rattle.std.specs.Prelude.{◌≡◌, ◌⊎◌, ◌<◌, ◌≤◌, [], pos, map, option_map, Some, IfOk, IfErr, OnOk};
 ghost use Rattle.std.specs.List.{range_with_len};
 ghost use Rattle.columns_core.specs.Array.{cells, column_of};
 ghost use Rattle.columns_core.specs.Causes.{IsWantOfMemory};

@@ -1,7 +1,6 @@
 //! Times of a column in the unit that is asked for.
 ghost use Rattle.std.specs.Prelude.{◌≡◌, true, false, option_copied, IfOk, IfErr};
-ghost use Rattle.columns_core.specs.Types.{signed_range};
-ghost use Rattle.flat_values.specs.CellTypes.{is_in};
+ghost use Rattle.columns_core.specs.Types.{signed_range, is_in};
 ghost use Rattle.parquet_statistics.specs.Times.{time_in};
 
 use columns_core::{Error, TimeUnit};

@@ -185,6 +185,10 @@ abbrev mutual
   fields_depth no_fields = 0
   fields_depth (fields id kind v fs) = max (depth v) (fields_depth fs)
 
+-- how deep a value may be nested that is passed over
+abbrev pub most_depth : ℕ
+most_depth = 32
+
 -- what was read, where it is no deeper
 abbrev pub keep : {A : Type 0} → (A → ℕ) → ℕ → Option (A × List ℕ) → Option (A × List ℕ)
 keep depth_of most None = None

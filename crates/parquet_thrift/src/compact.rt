@@ -4,7 +4,7 @@ ghost use Rattle.std.specs.Prelude.{◌≡◌, ◌+◌, length, drop, option_map
 ghost use Rattle.parquet_base.specs.Reading.{IsEnd};
 ghost use Rattle.parquet_thrift.specs.Cursor.{Cursor, Reads, Passes};
 ghost use Rattle.parquet_thrift.specs.Numbers.{signed, signed_byte, bytes_of_length};
-ghost use Rattle.parquet_thrift.specs.Values.{field_header, list_start, list_truth, no_deeper, in_struct};
+ghost use Rattle.parquet_thrift.specs.Values.{field_header, list_start, list_truth, most_depth, no_deeper, in_struct};
 
 use crate::header::{FieldHeader, ListHeader, field_header_at, list_header_at};
 use crate::number::{binary_at, bool_at, end_of, i8_at, i32_at, i64_at};
@@ -124,7 +124,7 @@ impl<'a> Compact<'a> {
     #[inline(always)]
     #[tactic(auto, using(parquet_base::proofs::EndLemmas::IsEnd_through, crate::proofs::Depths::value_within_no_deeper))]
     pub fn skip(&mut self, kind: u8) -> Result<(), Unspelled>
-        ensures { Passes (no_deeper 32 in_struct kind) self.old result self.new }
+        ensures { Passes (no_deeper most_depth in_struct kind) self.old result self.new }
     {
         self.rest = end_of(self.rest, skip_at(self.rest, kind)?);
         Ok(())

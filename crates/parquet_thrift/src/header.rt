@@ -1,6 +1,6 @@
 //! Headers of fields, lists and maps.
 
-ghost use Rattle.std.specs.Prelude.{◌≡◌, ◌<◌, length, IfOk, IsTrue, option_map};
+ghost use Rattle.std.specs.Prelude.{◌≡◌, ◌<◌, length, IfOk, option_map};
 ghost use Rattle.parquet_base.specs.Reading.{Gives, IsEnd};
 ghost use Rattle.parquet_thrift.specs.Values.{field_header, list_header, map_header, is_kind};
 

@@ -2,7 +2,7 @@
 
 ghost use Rattle.std.specs.Prelude.{◌≡◌, ◌<◌, ◌+◌, length, IfOk};
 ghost use Rattle.parquet_base.specs.Reading.{Gives, IsEnd};
-ghost use Rattle.parquet_base.specs.Varint.{varint, zigzag};
+ghost use Rattle.parquet_base.specs.Varint.{varint};
 ghost use Rattle.parquet_thrift.specs.Numbers.{signed, signed_byte, raw, bytes_of_length};
 ghost use Rattle.parquet_thrift.specs.Values.{list_truth};
 

@@ -1,10 +1,10 @@
 //! What is told of the items of each page of a chunk.
 
-ghost use Rattle.std.specs.Prelude.{◌≡◌, map, pos};
+ghost use Rattle.std.specs.Prelude.{◌≡◌, pos};
 ghost use Rattle.compact_write.specs.Calls.{Writes};
 ghost use Rattle.compact_write.specs.Written.{signed_bytes, truth_byte};
 ghost use Rattle.parquet_plain.specs.Structs.{column_index_bytes};
-ghost use Rattle.parquet_thrift.specs.Values.{number, truth};
+ghost use Rattle.parquet_thrift.specs.Values.{number};
 ghost use Rattle.parquet_write.specs.Told.{greatest_bytes, greatest_told, index_told, is_null_page, least_bytes, least_told, null_counts_bytes, null_pages_bytes};
 
 use crate::facts::PageFacts;

@@ -1,6 +1,6 @@
 //! The footer, and the end of the file.
 
-ghost use Rattle.std.specs.Prelude.{◌≡◌, ◌++◌, length, sum_by, All, IfOk};
+ghost use Rattle.std.specs.Prelude.{◌≡◌, length, sum_by, All, IfOk};
 ghost use Rattle.compact_write.specs.Calls.{Writes};
 ghost use Rattle.parquet_plain.specs.Structs.{footer_bytes};
 ghost use Rattle.parquet_write.specs.Told.{HasColumns, end_of_file_bytes, file_told};

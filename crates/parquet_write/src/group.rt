@@ -1,6 +1,6 @@
 //! What the footer says of groups and their chunks.
 
-ghost use Rattle.std.specs.Prelude.{◌≡◌, ◌++◌, length, sum_by, IfOk};
+ghost use Rattle.std.specs.Prelude.{◌≡◌, length, sum_by, IfOk};
 ghost use Rattle.compact_write.specs.Calls.{Writes};
 ghost use Rattle.compact_write.specs.Fields.{values_of};
 ghost use Rattle.compact_write.specs.Written.{elements_bytes, value_count};

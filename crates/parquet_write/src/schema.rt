@@ -1,8 +1,7 @@
 //! The schema: its root, and an element for each column.
 
-ghost use Rattle.std.specs.Prelude.{◌≡◌, length};
+ghost use Rattle.std.specs.Prelude.{◌≡◌};
 ghost use Rattle.compact_write.specs.Calls.{Writes};
-ghost use Rattle.compact_write.specs.Fields.{values_of};
 ghost use Rattle.compact_write.specs.Written.{element_bytes, elements_bytes, truth_kind};
 ghost use Rattle.parquet_plain.specs.Structs.{code_number, element_value, repetition_number, root_value};
 ghost use Rattle.parquet_plain.specs.Structs.{schema_values, single_name, unit_number};

@@ -1,5 +1,5 @@
 //! Where a tool's text goes.
-ghost use Rattle.std.specs.Prelude.{◌≡◌, ◌+◌, ◌-◌, ◌<◌, ◌≤◌, ℕ, List, Option, Some, None, length, take, true, IsTrue, IsFalse, IfOk, IfErr, OnOk, OnErr, MatchResult};
+ghost use Rattle.std.specs.Prelude.{◌≡◌, ◌+◌, ◌-◌, ◌<◌, ◌≤◌, ℕ, List, Option, Some, None, length, take, IsTrue, IsFalse, IfOk, IfErr, OnOk, OnErr, MatchResult};
 ghost use Rattle.parquet_base.specs.Failures.{CountsFailures};
 ghost use Rattle.parquet_meta.specs.Source.{counted as counted_by};
 ghost use Rattle.pq_common.specs.Memory.{after_call, empty_memory, is_full_for, refuses_next, with_fault, with_piece};

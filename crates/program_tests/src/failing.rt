@@ -1,5 +1,5 @@
 //! Sources and sinks that fail at each call in turn, or hand out and take one byte in each call.
-ghost use Rattle.std.specs.Prelude.{◌≡◌, Some};
+ghost use Rattle.std.specs.Prelude.{Some};
 
 use crate::running::{run_on, words_of};
 use files_for_tests::{F1, F1_ROWS};

@@ -11,7 +11,8 @@ use Rattle.parquet_meta.specs.declared.metadata.Ends.{Ends}
 use Rattle.parquet_meta.specs.declared.metadata.PageIndex.{PageIndex}
 use Rattle.parquet_meta.specs.declared.metadata.PhysicalType.{PhysicalType}
 use Rattle.parquet_page.specs.Stored.{Stored}
-use Rattle.column_ends.specs.Told.{counts_alone, stored_by, stored_ends, stored_page}
+use Rattle.column_ends.specs.Told.{stored_by, stored_ends, stored_page}
+use Rattle.column_ends.specs.Converted.{counts_alone}
 use Rattle.parquet_plain.specs.Bodies.{present}
 use Rattle.parquet_plain.specs.Columns.{Written, end_bytes, ends_of, greatest, least, nulls_of, written_page}
 use Rattle.parquet_plain.specs.Description.{PlainPage, greatest_of, least_of, statistics_from}

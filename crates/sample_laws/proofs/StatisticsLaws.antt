@@ -15,8 +15,8 @@ use Rattle.parquet_meta.specs.declared.metadata.Index.{Index}
 use Rattle.parquet_page.specs.Stored.{Stored}
 use Rattle.flat_values.specs.Conversion.{Conversion}
 use Rattle.flat_values.specs.Sound.{is_stored_as}
-use Rattle.column_ends.specs.Converted.{causes_of_index, causes_of_page, cell_ends, cell_page, bytes_of_one_end as cell_end_bytes, end_causes, end_cell, group_causes, group_cells, high_of_page, index_rule, low_of_page, statistics_rule}
-use Rattle.column_ends.specs.Told.{counts_alone, stored_ends, stored_pages, told_ends}
+use Rattle.column_ends.specs.Converted.{causes_of_index, causes_of_page, cell_ends, cell_page, bytes_of_one_end as cell_end_bytes, end_causes, end_cell, group_causes, group_cells, high_of_page, index_rule, low_of_page, statistics_rule, counts_alone, told_ends}
+use Rattle.column_ends.specs.Told.{stored_ends, stored_pages}
 use Rattle.parquet_plain.specs.Bodies.{present}
 use Rattle.parquet_plain.specs.Columns.{Written, end_bytes, nulls_of, written_chunk, written_page}
 use Rattle.parquet_plain.specs.Description.{descriptor_of}

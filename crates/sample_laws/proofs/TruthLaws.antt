@@ -10,8 +10,7 @@ use Rattle.parquet_page.specs.Stored.{Stored}
 use Rattle.flat_values.specs.Conversion.{Conversion}
 use Rattle.column_ends.specs.Converted.{end_cell}
 use Rattle.parquet_scan.specs.declared.bound.Scalar.{Scalar}
-use Rattle.parquet_scan.specs.Bound.{KnownEnds, is_above, is_past, value_of}
-use Rattle.parquet_scan.specs.Statistics.{known_value}
+use Rattle.parquet_scan.specs.Bound.{KnownEnds, is_above, is_past, value_of, known_value}
 use Rattle.parquet_scan.specs.Truth.{are_true, is_between, is_null}
 use Rattle.parquet_plain.specs.Bodies.{present}
 use Rattle.parquet_plain.specs.Columns.{Written, greatest, least, nulls_of}

@@ -1,5 +1,5 @@
 //! The items of a command line: fields, and ends of bounds.
-ghost use Rattle.std.specs.Prelude.{◌≡◌, ◌+◌, ◌<◌, ◌≤◌, ◌∷◌, [], ℕ, None, List, length, map, take, drop, option_map, if◌then◌else◌, slice_index, IfOk, IfSome};
+ghost use Rattle.std.specs.Prelude.{◌≡◌, ◌+◌, ◌<◌, ◌≤◌, ◌∷◌, ℕ, None, List, length, map, take, drop, option_map, if◌then◌else◌, slice_index, IfOk, IfSome};
 ghost use Rattle.scan_program.specs.Parsed.{as_item, as_written, items_behind, split_at, split_items};
 ghost use Rattle.scan_program.specs.Words as spec;
 

@@ -7,14 +7,14 @@ pub returns-in_default-clause-refusal : goal.returns-in_default-clause-refusal
 returns-in_default-clause-refusal c =
     let locations = c.args.locations.now in
     let step = page_intervals-drop locations c.loop-i.i c.args.num_rows c.loop-i-test.true in
-    let own = sym (rows_here locations c.loop-i.i c.args.num_rows _ c.loop-i-test.true) ∙ sym c.in_default.ensures in
+    let own = sym (rows_here locations c.loop-i.i c.args.num_rows _ c.loop-i-test.true) ∙ sym c.in_default.ensures.rows in
     inr (refl, none_here c.loop-i.intervals.items _ _ _ _ step own c.loop-i.invariant)
 
 pub loop-i-preserved : goal.loop-i-preserved
 loop-i-preserved c =
     let locations = c.args.locations.now in
     let step = page_intervals-drop locations c.loop-i.i c.args.num_rows c.loop-i-test.true in
-    let own = sym (rows_here locations c.loop-i.i c.args.num_rows _ c.loop-i-test.true) ∙ sym c.in-Some.ensures in
+    let own = sym (rows_here locations c.loop-i.i c.args.num_rows _ c.loop-i-test.true) ∙ sym c.in-Some.ensures.rows in
     rw (c.in_ok-push.ensures.items, add-one c.loop-i.i) (one_more c.loop-i.intervals.items _ c.in-Some.interval _ _ _ step own c.loop-i.invariant)
 
 pub returns-clause-rows : goal.returns-clause-rows

@@ -10,5 +10,5 @@ pub returns : goal.returns
 returns c =
     let start = c.args.start in
     let size = c.args.length in
-    c.all_lie.ensures ∙ ap (λ (first : ℕ). list_all (λ (entry : FilteredPage). nat_le (entry.start - start + entry.length) size && nat_le first size) (filter is_wanted c.args.pages.now)) c.first_start.ensures
+    c.all_lie.ensures ∙ ap (λ (first : ℕ). list_all (λ (entry : FilteredPage). nat_le (entry.start - start + entry.length) size && nat_le first size) (filter is_wanted c.args.pages.now)) c.first_start_from.ensures
     ∙ sym (lie_placed start size c.args.pages.now)
