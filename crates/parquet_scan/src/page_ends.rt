@@ -32,6 +32,7 @@ impl FromEnds<bool> for PageTest<'_> {
         (λ rows. page_keeps_by test.bound.now (rows, spec.ends_of_page told.1))
         (slice_get test.rows.now told.0) false };
 
+    #[inline(always)]
     fn make(&self, page: usize, ends: PageIndex<Cell>) -> bool {
         match self.rows.get(page) {
             Some(rows) => page_keeps(*rows, &ends, self.bound),
@@ -93,6 +94,7 @@ fn read_index<S: Source>(
     Ok(index)
 }
 
+#[inline(always)]
 fn page_keeps(page: Interval, ends: &PageIndex<Cell>, bound: &Bound) -> bool
     ensures { result ≡ page_keeps_by bound.now (page, spec.ends_of_page ends.now) }
 {
