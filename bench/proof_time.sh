@@ -1,57 +1,94 @@
 #!/bin/sh
-# Prints what the proofs cost in processor seconds, crate by crate, and the sum in processor minutes: about what `rt ci` spends on a machine
-# that has nothing kept. Run by hand at the repository's top, on a machine that is otherwise idle; it takes as long as the gate from nothing.
+# Prints what proofs cost in seconds of a processor, which hang less on what else runs than those of the clock. Run by hand, at the repository's top.
 #
-# How it measures: in a copy of the crates, lowest first, it runs for each crate
-#   rt verdict             the crate from nothing, and its tests: under `tests` for a crate that has tests (tests stand in crates of their
-#                          own, whose own proof is next to nothing), else under `proof`
-#   rt must-fail --anew    the edits, with the proof that they begin with, under `edits`
-# and takes the user and system time of each, waited-for children included, from `time -p`. Crates below are built before and not counted.
-#
-# Usage: bench/proof_time.sh [CRATE..]     these crates alone; without one, all of crates.txt
-set -eu
-top=$(cd "$(dirname "$0")/.." && pwd)
-work=$(mktemp -d)
-trap 'rm -rf "$work"' EXIT
-mkdir "$work/repo"
-cp "$top/crates.txt" "$top/HANDLES" "$work/repo/"
-(cd "$top" && tar -c --exclude=out crates) | (cd "$work/repo" && tar -x)
-cd "$work/repo"
+# Usage: bench/proof_time.sh [WORD..]
+#            runs `rt ci WORD..`, without a word `rt ci --anew`, the whole gate from nothing, and prints for each crate what its proof, the base of its edits, its edits and
+#            its tests took, of all checks that run on the machine meanwhile. A check that ends between two samples, a second apart, loses what it took since the first.
+#        bench/proof_time.sh --functions CRATE [SECONDS]
+#            proves a crate anew by one process, over the libraries below as they are kept, and prints each function that took at least so many seconds (10). Lemmas that are
+#            checked between two functions count for the second: the first function behind a file of lemmas seems dear.
+exec python3 - "$@" <<'PYTHON'
+import collections, os, re, shutil, subprocess, sys, threading, time
 
-# seconds COMMAND..: the processor seconds of a command; what it says is in $work/said.
-seconds() {
-    if ! time -p sh -c '"$@" >"$0" 2>&1' "$work/said" "$@" 2>"$work/time"; then
-        cat "$work/said" >&2
-        echo "proof_time.sh: $* failed" >&2
-        exit 1
-    fi
-    awk '$1 == "user" || $1 == "sys" { sum += $2 } END { printf "%.0f", sum }' "$work/time"
-}
+TICKS = os.sysconf("SC_CLK_TCK")
+KINDS = ("proof", "base", "edits", "tests")
 
-# lowest_first: the crates of crates.txt, each behind those that it stands on.
-lowest_first() {
-    sed -e 's/#.*//' -e 's/ staticlib:/:/' crates.txt | awk -F: 'NF > 1 { names[++count] = $1; below[$1] = $2 }
-        function visit(name,    parts, many, i) {
-            if (!(name in below) || name in seen) return
-            seen[name] = 1
-            many = split(below[name], parts, " ")
-            for (i = 1; i <= many; i++) visit(parts[i])
-            print name
-        }
-        END { for (i = 1; i <= count; i++) visit(names[i]) }'
-}
 
-printf '%-20s %8s %8s %8s\n' crate proof tests edits
-total=0
-for crate in ${*:-$(lowest_first)}; do
-    proof=0 tests=0 edits=0
-    cd "crates/$crate"
-    rt check --only '' >/dev/null 2>&1 || true
-    spent=$(seconds rt verdict)
-    if grep -rq '#\[test\]' src; then tests=$spent; else proof=$spent; fi
-    cd ../..
-    if ls "crates/$crate"/must-fail/*.edit >/dev/null 2>&1; then edits=$(seconds rt must-fail --anew "$crate"); fi
-    printf '%-20s %8d %8d %8d\n' "$crate" "$proof" "$tests" "$edits"
-    total=$((total + proof + tests + edits))
-done
-echo "sum: $(((total + 30) / 60)) processor minutes"
+def checks():
+    """Each process that checks a crate: its number, words, folder and seconds so far. One that has ended is passed over."""
+    for number in filter(str.isdigit, os.listdir("/proc")):
+        try:
+            with open(f"/proc/{number}/cmdline", encoding="utf-8", errors="replace") as file:
+                words = file.read().split("\0")
+            if os.path.basename(words[0]) != "rattle" or words[1] not in ("check", "build") or "--crate-name" not in words:
+                continue
+            folder = os.readlink(f"/proc/{number}/cwd")
+            with open(f"/proc/{number}/stat", encoding="ascii", errors="replace") as file:
+                fields = file.read().rpartition(")")[2].split()
+        except (OSError, IndexError):
+            continue
+        # the name of a process may hold blanks and ends with ")": user and system time are the twelfth and thirteenth behind it
+        yield int(number), words, folder, (int(fields[11]) + int(fields[12])) / TICKS
+
+
+def kind(words, folder):
+    if "--test" in words:
+        return "tests"
+    if words[1] == "build":
+        return "proof"
+    return "edits" if "/rt-edit-" in folder else "base"
+
+
+def watch(ended, most):
+    while not ended.wait(1):
+        for number, words, folder, seconds in checks():
+            crate = words[words.index("--crate-name") + 1]
+            most[number, crate, kind(words, folder)] = seconds
+
+
+def gate(words):
+    ended, most, begun = threading.Event(), {}, time.time()
+    watcher = threading.Thread(target=watch, args=(ended, most))
+    watcher.start()
+    try:
+        status = subprocess.run(["rt", "ci", *words], check=False).returncode
+    finally:
+        ended.set()
+        watcher.join()
+    sums = collections.Counter()
+    for (_, crate, of_kind), seconds in most.items():
+        sums[crate, of_kind] += seconds
+    print(f"{'crate':20}" + "".join(f"{it:>8}" for it in KINDS))
+    for crate in dict.fromkeys(crate for _, crate, _ in most):
+        print(f"{crate:20}" + "".join(f"{sums[crate, it]:8.0f}" for it in KINDS))
+    print(f"{sum(sums.values()) / 60:.0f} processor minutes, {(time.time() - begun) / 60:.0f} minutes of the clock")
+    return status
+
+
+def functions(crate, least):
+    folder = os.path.join("crates", crate)
+    shutil.rmtree(os.path.join(folder, "out/incremental"), ignore_errors=True)
+    words = ["rt", "check", "--progress", "--jobs", "1"]
+    with subprocess.Popen(words, cwd=folder, stdout=subprocess.PIPE, stderr=subprocess.STDOUT, text=True, errors="replace") as run:
+        found, last = [], 0.0
+        for line in run.stdout:
+            checked = re.match(r"checked (\S+), \d+ of \d+", line)
+            if not checked:
+                continue
+            now = max((it[3] for it in checks() if it[1][it[1].index("--crate-name") + 1] == crate), default=last)
+            found.append((now - last, checked[1]))
+            last = now
+    for seconds, name in sorted(found, reverse=True):
+        if seconds >= least:
+            print(f"{seconds:8.1f} {name}")
+    print(f"{last:8.1f} in all, of {len(found)} functions")
+    return run.returncode
+
+
+given = sys.argv[1:]
+if given[:1] == ["--functions"]:
+    if len(given) not in (2, 3):
+        sys.exit("usage: bench/proof_time.sh --functions CRATE [SECONDS]")
+    sys.exit(functions(given[1], float(given[2]) if len(given) == 3 else 10.0))
+sys.exit(gate(given or ["--anew"]))
+PYTHON

@@ -4,6 +4,7 @@
   Each link leads to a file that is there.
   Each definition that a document names beside a link to its file stands in that file.
   Each file that CONTRIBUTING names behind a crate is a file of that crate.
+  Each public call that may refuse, or that may change what it is handed, is named in the table of SECURITY.md of what a refusal leaves.
   The README has at most 80 lines, and its example is the text of a crate, but for what `// ..` stands for.
   The pictures are those that their scripts draw.
 """
@@ -13,6 +14,9 @@ TOP = os.path.join(os.path.dirname(os.path.abspath(__file__)), "..")
 LONGEST_README = 80
 EXAMPLE = "crates/scan_example/src/lib.rt"
 PICTURES = ["docs/layers.py", "docs/plots.py"]
+REFUSALS = "docs/SECURITY.md"
+# crates on whose calls nothing of a user stands
+FOR_TESTS = ("files_for_tests", "pages_for_tests")
 found = []
 
 
@@ -47,6 +51,12 @@ def links_in(text):
     return links
 
 
+def calls_that_refuse(path):
+    """The public functions of a file whose signature has a result or takes a value to change."""
+    signatures = re.findall(r"^ *pub fn (\w+)(.*?)\n *(?:\{|ensures|requires|where)", text_of(path), re.M | re.S)
+    return [name for name, signature in signatures if "Result<" in signature.split("->")[-1] or "&mut " in signature]
+
+
 for document in documents():
     for shown, goal in links_in(text_of(os.path.join(TOP, document))):
         if re.match(r"[a-z]+:", goal) or goal.startswith("#"):
@@ -66,6 +76,18 @@ for line in text_of(os.path.join(TOP, "CONTRIBUTING.md")).splitlines():
     for path in re.findall(r"`((?:src|specs)/[^`]+)`", cells[1]):
         if path.lower() not in ("src/name.rt", "specs/name.antt") and not any(os.path.exists(os.path.join(TOP, "crates", crate, path)) for crate in crates):
             found.append("CONTRIBUTING.md: %s stands in none of %s" % (path, ", ".join(crates)))
+
+table = " ".join(line for line in text_of(os.path.join(TOP, REFUSALS)).splitlines() if line.startswith("|"))
+named = re.findall(r"\w+(?:\.\.)?", " ".join(re.findall(r"`[^`]*`", table)))
+begun = tuple(name[:-2] for name in named if name.endswith(".."))
+for crate in sorted(os.listdir(os.path.join(TOP, "crates"))):
+    folder = os.path.join(TOP, "crates", crate, "src")
+    if crate in FOR_TESTS or crate.endswith("_tests"):
+        continue
+    for path in sorted(os.path.join(at, name) for at, _, names in os.walk(folder) for name in names if name.endswith(".rt")):
+        for name in calls_that_refuse(path):
+            if name not in named and not name.startswith(begun):
+                found.append("%s: the table of what a refusal leaves does not name %s of %s" % (REFUSALS, name, crate))
 
 lines = len(text_of(os.path.join(TOP, "README.md")).splitlines())
 if lines > LONGEST_README:

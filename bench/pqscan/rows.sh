@@ -6,11 +6,12 @@
 . "$(dirname "$0")/shared.sh"
 wants_program
 
-# best PROGRAM FILE ITEM: the processor milliseconds of the best run.
-best() {
+# both FILE ITEM: the processor milliseconds of the best run of each program, which run in turn.
+both() {
     for _ in $(seq "${RUNS:-11}"); do
-        "$work/timed" "$1" "$2" "$3"
-    done | awk 'NR == 1 || $1 < least {least = $1} END {printf "%.2f", least / 1000}'
+        "$work/timed" "$ours" "$1" "$2" | sed 's/^/ours /'
+        "$work/timed" "$work/twin" "$1" "$2" | sed 's/^/twin /'
+    done | awk '!($1 in least) || $2 < least[$1] {least[$1] = $2} END {printf "%.2f | %.2f", least["ours"] / 1000, least["twin"] / 1000}'
 }
 
 echo "| rows | numbers ms | Rust numbers ms | texts ms | Rust texts ms |"
@@ -20,7 +21,7 @@ for rows in 125000 250000 500000 1000000 2000000; do
     for kind in numbers:a:Int32 short:a:Utf8; do
         write "rows_${kind%%:*}_$rows" $rows "${kind%%:*}"
         file=$work/rows_${kind%%:*}_$rows.parquet
-        line="$line $(best "$ours" "$file" "${kind#*:}") | $(best "$work/twin" "$file" "${kind#*:}") |"
+        line="$line $(both "$file" "${kind#*:}") |"
     done
     echo "$line"
 done

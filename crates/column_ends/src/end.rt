@@ -98,6 +98,7 @@ impl StoredEnd for Seq<u8> {
 }
 
 /// A number of 32 or 64 bits as a value. Of a rule for 32 bits it has to be one of these.
+#[inline(always)]
 fn number_value(n: i64, rule: ValueRule, part: Part) -> Result<Cell, Error>
     ensures value { IfOk result (λ cell. item_by rule (Number n) ≡ Value cell) }
     ensures ok { OnOk result (item_causes_by rule (Number n) ≡ []) }

@@ -9,6 +9,7 @@ use Rattle.columns_core.specs.Column.{cell_of}
 use Rattle.columns_core.specs.Keyed.{named_cells}
 use Rattle.columns_core.specs.ElementType.{days_ms_cell}
 
+-- the cell of a number of an unsigned type
 abbrev pub natural : Option ℕ → Cell
 natural item = cell_of (λ n. Int (pos n)) item
 

@@ -1,6 +1,7 @@
 -- What a scan answers and what it refuses, from its parts.
-use Rattle.std.proofs.Common.{◌≡◌, ◌∙◌, ℕ, ◌≤◌, All, true, false, List, [], ◌∷◌, map, refl, sym, subst, arith, inl, inr}
-use Rattle.std.specs.Prelude.{Contains, Option, Some, None, option_map, IfSome, IfOk, IfErr, IsTrue, Result, Ok, Err}
+use Rattle.std.proofs.Common.{◌≡◌, ◌∙◌, ℕ, ◌≤◌, All, Bool, true, false, List, [], ◌∷◌, length, map, refl, sym, subst, arith, inl, inr}
+use Rattle.std.specs.Prelude.{Contains, Option, Some, None, ◌&&◌, nat_lt, option_map, IfSome, IfOk, IfErr, IsTrue, Result, Ok, Err}
+use Rattle.std.specs.List.{list_all}
 use Rattle.std.specs.Option.{option_map_or}
 use Rattle.std.proofs.lemmas.Bool.{false≢true}
 use Rattle.std.proofs.lemmas.List.Elements.{Contains-push}
@@ -15,9 +16,9 @@ use Rattle.parquet_meta.specs.Source.{Finds, IsReadFailure}
 use Rattle.parquet_meta.specs.declared.metadata.FileMetaData.{FileMetaData}
 use Rattle.parquet_scan.specs.Causes.{IsValid, causes, file_causes}
 use Rattle.parquet_scan.specs.Cells.{columns_of_chunk, given_chunks}
-use Rattle.parquet_scan.specs.Request.{Request, is_legal}
+use Rattle.parquet_scan.specs.Request.{Request, are_distinct, bounded_name, is_legal, is_legal_bound_of, name_of_field, names_columns}
 use Rattle.parquet_scan.specs.Rows.{file_with, given_row_count}
-use Rattle.parquet_scan.specs.Scan.{Answers, IsApart, IsSound, OnFile, RefusesScan, kept_groups, kept_of, rows_in}
+use Rattle.parquet_scan.specs.Scan.{Answers, IsApart, IsSound, OnFile, RefusesScan, chunk_shapes, kept_groups, kept_of, rows_in, shape_of}
 use Rattle.parquet_scan.specs.declared.scanning.Scan.{Scan}
 use Rattle.parquet_scan.proofs.CauseLemmas.{TellsOf}
 use Rattle.parquet_scan.proofs.GivenCells.{own_chunks}
@@ -32,16 +33,26 @@ pub legal_told : (request : Request) (told : Option (List ℕ)) (metadata : File
 legal_told request None metadata at legal = tt
 legal_told request (Some bytes) metadata at legal = subst (λ (o : Option FileMetaData). IsTrue (is_legal request o)) (sym at) legal
 
+-- and so one that is legal as far as that hangs on no file
+pub legal_alone : (request : Request) (metadata : FileMetaData) → is_legal request (Some metadata) ≡ true → IsTrue (is_legal request None)
+legal_alone request metadata legal =
+    without (nat_lt 0 (length request.fields)) (names_columns request (Some metadata)) (are_distinct name_of_field request.fields) (option_map_or (nat_lt 0) request.chunk_size true)
+    (list_all (is_legal_bound_of request.fields) request.bounds) (are_distinct bounded_name request.bounds) legal where
+      without : (a b c d e f : Bool) → (a && b && c && d && e && f) ≡ true → (a && true && c && d && e && f) ≡ true
+      without true true c d e f h = h
+      without true false c d e f h = absurd (false≢true h)
+      without false b c d e f h = absurd (false≢true h)
+
 pub answers : (request : Request) (told : Option (List ℕ)) (r : Result Scan Error)
-    → IfSome told (λ bytes. IsTrue (is_legal request (footer bytes))) → IfOk r (λ _. IfSome told (IsValid request))
+    → IsTrue (is_legal request None) → IfSome told (λ bytes. IsTrue (is_legal request (footer bytes))) → IfOk r (λ _. IfSome told (IsValid request))
     → IfOk r (λ scan. OnFile told (λ file. map kept_of scan.kept ≡ kept_groups request file))
     → IfOk r (λ scan. OnFile told (λ file. given_chunks request file ≡ Some (map columns_of_chunk scan.chunks)))
     → IfOk r (λ scan. OnFile told (λ file. scan.rows ≡ given_row_count request file))
     → IfOk r (λ scan. OnFile told (λ file. IsSound request file (map kept_of scan.kept)))
-    → IfOk r (λ scan. All IsApart scan.kept) → IfOk r (λ scan. All AreEqualLengths scan.chunks) → IfOk r (λ scan. scan.rows ≡ rows_in scan.chunks)
+    → IfOk r (λ scan. map shape_of scan.chunks ≡ chunk_shapes request scan.kept) → IfOk r (λ scan. All IsApart scan.kept) → IfOk r (λ scan. All AreEqualLengths scan.chunks) → IfOk r (λ scan. scan.rows ≡ rows_in scan.chunks)
     → IfOk r (Answers request told)
-answers request told (Err e) legal valid kept chunks rows sound apart even own = tt
-answers request told (Ok scan) legal valid kept chunks rows sound apart even own = record {
+answers request told (Err e) asked legal valid kept chunks rows sound shapes apart even own = tt
+answers request told (Ok scan) asked legal valid kept chunks rows sound shapes apart even own = record {
   legal = legal;
   valid = valid;
   kept = kept;
@@ -49,6 +60,8 @@ answers request told (Ok scan) legal valid kept chunks rows sound apart even own
   as_cells = own_chunks request (Ok scan) told (λ (scan : Scan). map columns_of_chunk scan.chunks) chunks;
   rows = rows;
   sound = sound;
+  asked = asked;
+  shapes = shapes;
   apart = apart;
   even = even;
   own_rows = own;

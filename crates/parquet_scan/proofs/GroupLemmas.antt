@@ -21,6 +21,7 @@ use Rattle.parquet_scan.specs.Cells.{column_cell, columns_of_chunk, given_chunk,
 use Rattle.parquet_scan.specs.Chunks.{side_by_side, turned}
 use Rattle.parquet_scan.specs.Counting.{shown}
 use Rattle.parquet_scan.specs.Rows.{column_named}
+use Rattle.parquet_scan.specs.Scan.{shape_of, shapes_of_rows}
 
 -- ---- lists of which each item is there
 
@@ -234,3 +235,41 @@ told_chunks (Some bytes) by_pages fields group pieces items columns before some 
     map-append (λ arrays. Some (columns_of_chunk arrays)) before (side_by_side lists)
     ∙ ap (λ chunks. shown before ++ shown chunks) (sides (map length pieces) lists (some_lists items columns some) (columns_long items (map length pieces) columns are) ∙ ap (λ n. turned n lists) count)
     ∙ ap (λ chunks. shown before ++ chunks) (sym (chunks_are by_pages fields bytes group pieces lists (e ∙ sym (map-map (map (λ array. Some (column_of array))) items columns))))
+
+-- ---- what shape they have
+
+-- each array of a column has the column's type
+pub own_types : (type : DataType) (pieces : List (List ℕ)) (arrays : List Array) → All (λ array. data_type_of array ≡ type) arrays
+    → map (λ array. length (cells array)) arrays ≡ map length pieces → map (λ _. type) pieces ≡ map data_type_of arrays
+own_types type [] [] typed e = refl
+own_types type [] (array ∷ arrays) typed e = absurd cc
+own_types type (piece ∷ pieces) [] typed e = absurd cc
+own_types type (piece ∷ pieces) (array ∷ arrays) typed e =
+    let own : type ≡ data_type_of array = sym (typed 0 array (omega arith)) in
+    λ i. own i ∷ own_types type pieces arrays (All-tail (λ array. data_type_of array ≡ type) array arrays typed) (ap (drop 1) e) i
+
+-- chunks of these types, beside the pieces whose rows they have
+paired : (types : List DataType) (pieces : List (List ℕ)) (chunks : List (List Array)) → map (λ _. types) pieces ≡ map (map data_type_of) chunks → map chunk_rows chunks ≡ map length pieces
+    → map shape_of chunks ≡ map (λ (piece : List ℕ). (types, length piece)) pieces
+paired types [] [] typed rows = refl
+paired types [] (chunk ∷ chunks) typed rows = absurd cc
+paired types (piece ∷ pieces) [] typed rows = absurd cc
+paired types (piece ∷ pieces) (chunk ∷ chunks) typed rows =
+    let own : map data_type_of chunk ≡ types = sym (ap (λ lists. get_or lists 0 types) typed) in
+    let count : chunk_rows chunk ≡ length piece = ap (λ ns. get_or ns 0 0) rows in
+    λ i. (own i, count i) ∷ paired types pieces chunks (ap (drop 1) typed) (ap (drop 1) rows) i
+
+pub side_shapes : {X : Type 0} (fields : List Field) (size : Option ℕ) (rows : List ℕ) (items : X → List Array) (columns : List X) → 0 < length columns
+    → All (λ column. map (λ array. length (cells array)) (items column) ≡ map length (cut size rows)) columns
+    → map (λ (field : Field). map (λ _. field.data_type) (cut size rows)) fields ≡ map (λ column. map data_type_of (items column)) columns
+    → map shape_of (side_by_side (map items columns)) ≡ shapes_of_rows fields size rows
+side_shapes fields size rows items columns some are types =
+    let pieces = cut size rows in
+    let lists = map items columns in
+    let more = some_lists items columns some in
+    let long = columns_long items (map length pieces) columns are in
+    let count : length (map (length {A = ℕ}) pieces) ≡ length pieces = length-map pieces length in
+    let typed = turned_is (λ (piece : List ℕ) (field : Field). field.data_type) data_type_of pieces fields lists (types ∙ sym (map-map (map data_type_of) items columns)) in
+    ap (map shape_of) (sides (map length pieces) lists more long ∙ ap (λ n. turned n lists) count)
+    ∙ paired (map (λ (field : Field). field.data_type) fields) pieces (turned (length pieces) lists) typed
+    (ap (λ n. map chunk_rows (turned n lists)) (sym count) ∙ (turned_long (map length pieces) lists more long).rows)

@@ -175,6 +175,14 @@ made_more (Some bytes) f xs i x made z h at e own =
     let left : drop i xs ≡ x ∷ drop (i + 1) xs = drop_more xs i x h ∙ ap (λ first. first ∷ drop (i + 1) xs) (sym at) in
     e ∙ ap (λ rest. made ++ map (f bytes) rest) left ∙ ap (λ first. made ++ first ∷ map (f bytes) (drop (i + 1) xs)) own ∙ sym (append_assoc made (z ∷ []) (map (f bytes) (drop (i + 1) xs)))
 
+-- what the items so far gave stands in front of what those behind them give
+pub given_more : {X Z : Type 0} (f : X → List Z) (xs : List X) (i : ℕ) (x : X) (before so_far now : List Z) → i < length xs → x ≡ get_or xs i x
+    → before ++ flat_map f xs ≡ so_far ++ flat_map f (drop i xs) → now ≡ so_far ++ f x → before ++ flat_map f xs ≡ now ++ flat_map f (drop (i + 1) xs)
+given_more f xs i x before so_far now h at e own =
+    let rest = flat_map f (drop (i + 1) xs) in
+    let left : drop i xs ≡ x ∷ drop (i + 1) xs = drop_more xs i x h ∙ ap (λ first. first ∷ drop (i + 1) xs) (sym at) in
+    e ∙ ap (λ left. so_far ++ flat_map f left) left ∙ sym (append_assoc so_far (f x) rest) ∙ ap (λ front. front ++ rest) (sym own)
+
 -- nothing is wrong with the whole where it is the part
 pub none_as : (told : Option (List ℕ)) (whole part : List ℕ → List Cause) → IfSome told (λ bytes. whole bytes ≡ part bytes) → IfSome told (λ bytes. part bytes ≡ []) → IfSome told (λ bytes. whole bytes ≡ [])
 none_as None whole part same none = tt

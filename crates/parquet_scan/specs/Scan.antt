@@ -1,12 +1,16 @@
 -- What a scan answers.
-use Rattle.std.specs.Prelude.{◌≡◌, ℕ, ◌+◌, ◌-◌, ◌^◌, ◌<◌, ◌≤◌, List, All, Contains, map, min, sum_by, Option, Some, IfSome, IsTrue, IsFalse}
+use Rattle.std.specs.Prelude.{◌≡◌, ℕ, ◌+◌, ◌-◌, ◌^◌, ◌<◌, ◌≤◌, List, All, Contains, flat_map, length, map, min, sum_by, Option, Some, None, IfSome, IsTrue, IsFalse}
 use Rattle.std.specs.List.{AllZip}
 use Rattle.parquet_base.specs.declared.interval.Interval.{Interval}
 use Rattle.parquet_base.specs.Failures.{MayFail}
-use Rattle.parquet_base.specs.Intervals.{AreApart, covers}
+use Rattle.parquet_base.specs.Intervals.{AreApart, covers, rows_of}
+use Rattle.parquet_base.specs.Pieces.{cut}
+use Rattle.columns_core.specs.Array.{data_type_of}
 use Rattle.columns_core.specs.Chunk.{AreEqualLengths, array_rows}
 use Rattle.columns_core.specs.declared.array.Array.{Array}
 use Rattle.columns_core.specs.Causes.{cause_of, is_invalid_argument}
+use Rattle.columns_core.specs.declared.data_type.DataType.{DataType}
+use Rattle.columns_core.specs.declared.data_type.Field.{Field}
 use Rattle.columns_core.specs.declared.data_type.Schema.{Schema}
 use Rattle.columns_core.specs.declared.error.Error.{Error}
 use Rattle.columns_core.specs.declared.error.Error.TheVariants as error
@@ -18,7 +22,7 @@ use Rattle.parquet_scan.specs.declared.scanning.Scan.{Scan}
 use Rattle.parquet_scan.specs.Causes.{IsValid, causes}
 use Rattle.parquet_scan.specs.Cells.{columns_of_chunk, file_chunks, given_chunks}
 use Rattle.parquet_scan.specs.Request.{Request, is_legal}
-use Rattle.parquet_scan.specs.Rows.{File, file_of, given_row_count, groups_of, intervals}
+use Rattle.parquet_scan.specs.Rows.{File, file_of, first_rows, given_row_count, groups_of, intervals}
 use Rattle.parquet_scan.specs.Truth.{HasTrueCountsAndLocations, HasTrueStatistics, MeetsAll}
 
 abbrev pub request_of : Schema → List Bound → Option ℕ → Option ℕ → Request
@@ -35,6 +39,19 @@ IsApart group = AreApart 0 group.intervals group.rows
 -- the rows of chunks, up to the greatest number that is shown
 abbrev pub rows_in : List (List Array) → ℕ
 rows_in chunks = min (sum_by array_rows chunks) (2 ^ 64 - 1)
+
+-- the shape of a chunk: the types of its columns, and how many rows it has
+abbrev pub shape_of : List Array → List DataType × ℕ
+shape_of arrays = (map data_type_of arrays, array_rows arrays)
+
+-- those of the chunks that the rows of a group are cut to, with a column for each field
+abbrev pub shapes_of_rows : List Field → Option ℕ → List ℕ → List (List DataType × ℕ)
+shapes_of_rows fields size rows = map (λ (piece : List ℕ). (map (λ (field : Field). field.data_type) fields, length piece)) (cut size rows)
+
+-- and of all chunks: the first rows that are kept, cut within each group
+abbrev pub chunk_shapes : Request → List GroupKept → List (List DataType × ℕ)
+chunk_shapes request kept =
+    flat_map (shapes_of_rows request.fields request.chunk_size) (first_rows request.limit (map (λ (group : GroupKept). rows_of group.intervals) kept))
 
 -- a group's rows, and the runs of them that are kept
 abbrev pub kept_of : GroupKept → ℕ × List Interval
@@ -77,7 +94,10 @@ pub record Answers (request : Request) (told : Option (List ℕ)) (scan : Scan) 
   pub rows : OnFile told (λ file. scan.rows ≡ given_row_count request file)
   -- Where the statistics of a group are true, none of its rows that meets all bounds lies outside its runs.
   pub sound : OnFile told (λ file. IsSound request file (map kept_of scan.kept))
-  -- This holds even over a source that does not tell its bytes.
+  -- This holds even over a source that does not tell its bytes: the request is legal as far as that hangs on no file, and
+  -- the chunks have the types of the fields and the rows that its limit and its chunk size leave of those that are kept.
+  pub asked : IsTrue (is_legal request None)
+  pub shapes : map shape_of scan.chunks ≡ chunk_shapes request scan.kept
   pub apart : All IsApart scan.kept
   pub even : All AreEqualLengths scan.chunks
   pub own_rows : scan.rows ≡ rows_in scan.chunks

@@ -1,6 +1,6 @@
 //! The chunks of groups.
-ghost use Rattle.std.specs.Prelude.{◌≡◌, ◌+◌, ◌-◌, ◌<◌, ◌^◌, ◌≤◌, ◌++◌, [], Some, get_or, min, map, length, true, IfOk, IfSome, OnOk, All};
-ghost use Rattle.columns_core.specs.Array.{cells, column_of};
+ghost use Rattle.std.specs.Prelude.{◌≡◌, ◌+◌, ◌-◌, ◌<◌, ◌^◌, ◌≤◌, ◌++◌, [], Some, flat_map, get_or, min, map, length, true, IfOk, IfSome, OnOk, All};
+ghost use Rattle.columns_core.specs.Array.{cells, column_of, data_type_of};
 ghost use Rattle.columns_core.specs.Chunk.{AreEqualLengths};
 ghost use Rattle.page_decoding.specs.Queue.{IsChunkSize};
 ghost use Rattle.parquet_base.specs.Intervals.{is_well_shaped, row_count, rows_of};
@@ -10,7 +10,7 @@ ghost use Rattle.parquet_scan.specs.Causes.{causes_of_column, causes_of_group};
 ghost use Rattle.parquet_scan.specs.Cells.{given_chunk, given_column};
 ghost use Rattle.parquet_scan.specs.Costs.{lent_of_column, lent_of_group, taken_of_column, taken_of_group};
 ghost use Rattle.parquet_scan.specs.Counting.{AreAllLocated, AreFirst, AreLocated, AreLocatedIf, AreLocations, lie_in_groups, causes_if_read, causes_of_groups, chunks_if_read, chunks_of_groups, lies_in_group, lent_if_read, lent_of_groups, rows_of_groups, shown, taken_if_read, taken_of_groups};
-ghost use Rattle.parquet_scan.specs.Scan.{RisesBy, RisesJustBy, rows_in};
+ghost use Rattle.parquet_scan.specs.Scan.{RisesBy, RisesJustBy, rows_in, shape_of, shapes_of_rows};
 
 use crate::chunks::{RowsRead, add_chunks};
 use crate::given::GivenRows;
@@ -51,6 +51,9 @@ pub(crate) fn read_groups<S: Source, L: Ledger>(
     ensures chunks { OnOk result (IfSome (S.told source.old) (λ bytes. shown read.new.chunks.items
         ≡ shown read.old.chunks.items ++ chunks_of_groups asked.entry.by_pages asked.entry.chunk_size
         asked.entry.fields.now bytes groups.now given.now)) }
+    ensures shapes { OnOk result (map shape_of read.new.chunks.items ≡ map shape_of read.old.chunks.items
+        ++ flat_map (λ runs. shapes_of_rows asked.entry.fields.now asked.entry.chunk_size (rows_of runs))
+        given.now) }
     ensures rows { OnOk result (read.new.rows ≡
         min (read.old.rows + rows_of_groups given.now) (2 ^ 64 - 1)) }
     ensures own_rows { read.old.rows ≡ rows_in read.old.chunks.items →
@@ -100,6 +103,8 @@ fn read_if_given<S: Source, L: Ledger>(
     ensures chunks { OnOk result (IfSome (S.told source.old) (λ bytes. shown read.new.chunks.items
         ≡ shown read.old.chunks.items ++ chunks_if_read asked.entry.by_pages asked.entry.chunk_size
         asked.entry.fields.now bytes (rows.entry.group.now, rows.entry.runs.now))) }
+    ensures shapes { OnOk result (map shape_of read.new.chunks.items ≡ map shape_of read.old.chunks.items
+        ++ shapes_of_rows asked.entry.fields.now asked.entry.chunk_size (rows_of rows.entry.runs.now)) }
     ensures rows { OnOk result (read.new.rows
         ≡ min (read.old.rows + row_count rows.entry.runs.now) (2 ^ 64 - 1)) }
     ensures own_rows { read.old.rows ≡ rows_in read.old.chunks.items →
@@ -146,6 +151,8 @@ fn read_group<S: Source, L: Ledger>(
     ensures chunks { OnOk result (IfSome (S.told source.old) (λ bytes. shown read.new.chunks.items
         ≡ shown read.old.chunks.items ++ map (given_chunk asked.entry.by_pages asked.entry.fields.now bytes
         rows.entry.group.now) (cut asked.entry.chunk_size (rows_of rows.entry.runs.now)))) }
+    ensures shapes { OnOk result (map shape_of read.new.chunks.items ≡ map shape_of read.old.chunks.items
+        ++ shapes_of_rows asked.entry.fields.now asked.entry.chunk_size (rows_of rows.entry.runs.now)) }
     ensures rows { OnOk result (read.new.rows
         ≡ min (read.old.rows + row_count rows.entry.runs.now) (2 ^ 64 - 1)) }
     ensures own_rows { read.old.rows ≡ rows_in read.old.chunks.items →
@@ -189,6 +196,10 @@ fn read_columns<S: Source, L: Ledger>(
     ensures counts { IfOk result (λ found.
         let lengths = map length (cut asked.entry.chunk_size (rows_of rows.entry.runs.now)) in
         All (λ column. map (λ array. length (cells array)) column.items ≡ lengths) found.0.items) }
+    ensures types { IfOk result (λ found.
+        let pieces = cut asked.entry.chunk_size (rows_of rows.entry.runs.now) in
+        map (λ field. map (λ _. field.data_type) pieces) asked.entry.fields.now
+        ≡ map (λ column. map data_type_of column.items) found.0.items) }
     ensures columns { IfOk result (λ found. IfSome (S.told source.old) (λ bytes.
         let pieces = cut asked.entry.chunk_size (rows_of rows.entry.runs.now) in
         let column = given_column asked.entry.by_pages bytes rows.entry.group.now in
@@ -248,6 +259,8 @@ fn read_field<S: Source, L: Ledger>(
     ensures counts { IfOk result (λ found.
         map (λ array. length (cells array)) found.0.items ≡
         map length (cut asked.entry.chunk_size (rows_of rows.entry.runs.now))) }
+    ensures types { IfOk result (λ found. map (λ _. field.now.data_type)
+        (cut asked.entry.chunk_size (rows_of rows.entry.runs.now)) ≡ map data_type_of found.0.items) }
     ensures columns { IfOk result (λ found. IfSome (S.told source.old) (λ bytes.
         map (λ piece. given_column asked.entry.by_pages bytes rows.entry.group.now piece field.now)
         (cut asked.entry.chunk_size (rows_of rows.entry.runs.now))

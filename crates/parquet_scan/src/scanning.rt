@@ -9,7 +9,7 @@ ghost use Rattle.parquet_scan.specs.Cells.{columns_of_chunk, given_chunks};
 ghost use Rattle.parquet_scan.specs.Costs.{bytes_behind_footer, most_bytes_taken, most_pages, pages_lent};
 ghost use Rattle.parquet_scan.specs.Request as spec;
 ghost use Rattle.parquet_scan.specs.Rows.{file_with, given_row_count, group_counts};
-ghost use Rattle.parquet_scan.specs.Scan.{Answers, IsApart, OnFile, RefusesScan, RisesBy, RisesJustBy, kept_groups as kept_groups_by, kept_of, request_of, rows_in};
+ghost use Rattle.parquet_scan.specs.Scan.{Answers, IsApart, OnFile, RefusesScan, RisesBy, RisesJustBy, chunk_shapes, kept_groups as kept_groups_by, kept_of, request_of, rows_in, shape_of};
 
 use crate::Bound;
 use crate::chunks::RowsRead;
@@ -128,6 +128,8 @@ fn scan_groups<S: Source, L: Ledger>(
         ≡ Some (map columns_of_chunk scan.chunks))) }
     ensures rows { IfOk result (λ scan. IfSome (S.told source.old) (λ bytes.
         scan.rows ≡ min (given_row_count request.now (file_with bytes metadata.now)) (2 ^ 64 - 1))) }
+    ensures shapes { IfOk result (λ scan.
+        map shape_of scan.chunks ≡ chunk_shapes request.now scan.kept) }
     ensures apart { IfOk result (λ scan. All IsApart scan.kept) }
     ensures even { IfOk result (λ scan. All AreEqualLengths scan.chunks) }
     ensures own_rows { IfOk result (λ scan. scan.rows ≡ rows_in scan.chunks) }

@@ -2,7 +2,7 @@
 
 ghost use Rattle.std.specs.Prelude.{◌≡◌, ◌<◌, ℕ, suc, length, IfOk, slice_get, false};
 ghost use Rattle.parquet_base.specs.Reading.{Gives, IsEnd, after};
-ghost use Rattle.parquet_thrift.specs.Values.{value_within, in_struct};
+ghost use Rattle.parquet_thrift.specs.Values.{value_within, in_struct, most_depth};
 ghost use Rattle.parquet_thrift.specs.Skipping.{context_of, after_part, BeginsValue, GivesNext, PaysBegun, PaysNext};
 
 use crate::header::{FieldHeader, field_header_at, list_header_at, map_header_at};
@@ -166,7 +166,7 @@ const DEEPEST: usize = 32;
 
 /// Room for the parts that are open at once, with the first of them.
 fn room_for(part: Part) -> [Part; DEEPEST]
-    ensures length { length result ≡ 32 }
+    ensures length { length result ≡ most_depth }
     ensures first { slice_get result 0 ≡ Some part }
 {
     [part; DEEPEST]
@@ -175,7 +175,7 @@ fn room_for(part: Part) -> [Part; DEEPEST]
 /// Passes over a field's value of this kind. Those that are met most come first, so that they need no `Part`.
 #[tactic(auto, unfolding(crate::specs::Values::value_within))]
 pub(crate) fn skip_at(bytes: &[u8], kind: u8) -> Result<&[u8], Unspelled>
-    ensures spelled { Gives (λ x. x.now) result (after (value_within 32 in_struct kind bytes.now)) }
+    ensures spelled { Gives (λ x. x.now) result (after (value_within most_depth in_struct kind bytes.now)) }
     ensures ends { IfOk result (λ x. IsEnd bytes.now x.now) }
 {
     match kind {
@@ -191,7 +191,7 @@ pub(crate) fn skip_at(bytes: &[u8], kind: u8) -> Result<&[u8], Unspelled>
 /// The same for any kind.
 #[inline(never)]
 fn skip_other(bytes: &[u8], kind: u8) -> Result<&[u8], Unspelled>
-    ensures spelled { Gives (λ x. x.now) result (after (value_within 32 in_struct kind bytes.now)) }
+    ensures spelled { Gives (λ x. x.now) result (after (value_within most_depth in_struct kind bytes.now)) }
     ensures ends { IfOk result (λ x. IsEnd bytes.now x.now) }
 {
     let (begun, rest) = begin(bytes, false, kind)?;

@@ -15,21 +15,23 @@ pub(crate) fn parse<'a>(alloc: Global, words: &'a [String]) -> Result<ArgMatches
     ensures refused { IfErr result (λ e. kind_of e ≢ ErrorKind.OutOfMemory →
         spelled_command (map string_bytes words.entry.now) ≡ None) }
 {
-    let item = Arg::new(alloc, "ITEM").action(ArgAction::Append);
-    let chunk = Arg::new(alloc, "chunk")
-        .long("chunk")
-        .action(ArgAction::Set);
-    let limit = Arg::new(alloc, "limit")
-        .long("limit")
-        .action(ArgAction::Set);
-    let summary = Arg::new(alloc, "summary")
-        .long("summary")
-        .action(ArgAction::SetTrue);
     Command::new(alloc, "pqscan")
         .disable_help_flag(true)
-        .arg(item)?
-        .arg(chunk)?
-        .arg(limit)?
-        .arg(summary)?
+        .arg(Arg::new(alloc, "ITEM").action(ArgAction::Append))?
+        .arg(
+            Arg::new(alloc, "chunk")
+                .long("chunk")
+                .action(ArgAction::Set),
+        )?
+        .arg(
+            Arg::new(alloc, "limit")
+                .long("limit")
+                .action(ArgAction::Set),
+        )?
+        .arg(
+            Arg::new(alloc, "summary")
+                .long("summary")
+                .action(ArgAction::SetTrue),
+        )?
         .try_get_matches_from(words)
 }

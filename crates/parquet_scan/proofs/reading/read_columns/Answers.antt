@@ -3,7 +3,7 @@ use Rattle.std.specs.Prelude.{IfSome}
 use Rattle.std.proofs.lemmas.List.{get_or_default, map-append}
 use Rattle.std.proofs.lemmas.Result.{err_from_is_err_and}
 use Rattle.std.proofs.lemmas.List.Elements.{All-push}
-use Rattle.columns_core.specs.Array.{cells, column_of}
+use Rattle.columns_core.specs.Array.{cells, column_of, data_type_of}
 use Rattle.columns_core.specs.declared.cell.Cell.{Cell}
 use Rattle.columns_core.specs.declared.data_type.DataType.{DataType}
 use Rattle.columns_core.specs.declared.data_type.Field.{Field}
@@ -53,6 +53,8 @@ loop-i-preserved g c =
     let made = map (λ column. map (λ array. Some (column_of array)) column.items) c.loop-i.columns.items in
     let more : map (λ column. map (λ array. Some (column_of array)) column.items) c.push.new.self.items ≡ made ++ map (λ array. Some (column_of array)) arrays.items ∷ []
     = ap (map (λ column. map (λ array. Some (column_of array)) column.items)) c.in_ok-push.ensures.items ∙ map-append (λ column. map (λ array. Some (column_of array)) column.items) c.loop-i.columns.items (arrays ∷ []) in
+    let typed : map (λ column. map data_type_of column.items) c.push.new.self.items ≡ map (λ column. map data_type_of column.items) c.loop-i.columns.items ++ map data_type_of arrays.items ∷ []
+    = ap (map (λ column. map data_type_of column.items)) c.in_ok-push.ensures.items ∙ map-append (λ column. map data_type_of column.items) c.loop-i.columns.items (arrays ∷ []) in
     record {
       keeps = search rules;
       quiet = c.in_ok-arrays.ensures.reads.quiet ∙ c.loop-i.invariant.quiet;
@@ -64,6 +66,9 @@ loop-i-preserved g c =
       count = search rules;
       counts = subst (λ columns. All (λ column. map (λ array. length (cells array)) column.items ≡ map length pieces) columns) (sym c.in_ok-push.ensures.items)
           (All-push (λ column. map (λ array. length (cells array)) column.items ≡ map length pieces) c.loop-i.columns.items arrays c.loop-i.invariant.counts c.in_ok-arrays.ensures.counts);
+      types = subst (λ (made : List (List DataType)). map (λ (field : Field). map (λ _. field.data_type) pieces) fields ≡ made ++ map (λ (field : Field). map (λ _. field.data_type) pieces) (drop (i + 1) fields)) (sym typed)
+          (made_more (Some []) (λ bytes (field : Field). map (λ _. field.data_type) pieces) fields i field (map (λ column. map data_type_of column.items) c.loop-i.columns.items) (map data_type_of arrays.items) c.loop-i-test.true at
+          c.loop-i.invariant.types c.in_ok-arrays.ensures.types);
       ticks = search rules;
       pages = search rules;
     }

@@ -1,6 +1,6 @@
 use Rattle.std.proofs.Common.{◌≡◌, ◌≤◌, ◌+◌, ◌-◌, ◌^◌, ◌++◌, Some, drop, length, map, All}
 use Rattle.std.specs.Prelude.{IfSome, min}
-use Rattle.columns_core.specs.Array.{cells, column_of}
+use Rattle.columns_core.specs.Array.{cells, column_of, data_type_of}
 use Rattle.parquet_base.specs.Intervals.{rows_of}
 use Rattle.parquet_base.specs.Pieces.{cut}
 use Rattle.parquet_meta.specs.Keeps.{Keeps}
@@ -27,6 +27,7 @@ invariant-loop-i g l =
           source.taken l.source + taken_of_group l.asked.by_pages (drop l.i l.asked.fields.now) bytes (l.rows.group.now, rows) ≤ source.taken l.fn.source + taken_of_group l.asked.by_pages l.asked.fields.now bytes (l.rows.group.now, rows));
       count : length l.columns.items ≡ l.i;
       counts : All (λ column. map (λ array. length (cells array)) column.items ≡ map length pieces) l.columns.items;
+      types : map (λ field. map (λ _. field.data_type) pieces) l.asked.fields.now ≡ map (λ column. map data_type_of column.items) l.columns.items ++ map (λ field. map (λ _. field.data_type) pieces) (drop l.i l.asked.fields.now);
       ticks : l.fn.steps ≤ l.steps;
       pages : l.pages ≡ min (l.steps - l.fn.steps) (2 ^ 64 - 1);
     }

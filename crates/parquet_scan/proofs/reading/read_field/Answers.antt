@@ -6,7 +6,7 @@ use Rattle.parquet_base.specs.Pieces.{cut}
 use Rattle.parquet_scan.specs.Costs.{lent_of_column, lent_of_read, taken_of_column, taken_of_read}
 use Rattle.parquet_scan.proofs.CostLemmas.{rises_as, taken_named}
 use Rattle.parquet_scan.proofs.ExactCounts.{just_as, named_lent}
-use Rattle.parquet_scan.proofs.GroupLemmas.{told_columns}
+use Rattle.parquet_scan.proofs.GroupLemmas.{own_types, told_columns}
 use Rattle.parquet_scan.proofs.PageLemmas.{both_if}
 use Rattle.parquet_scan.proofs.reading.read_field.Goals as goal
 
@@ -19,6 +19,10 @@ returns-clause-columns g c =
     both_if c.read_column.result (λ found typed e.
     told_columns (g.S.Source.told c.args.source.now) c.args.asked.by_pages c.args.rows.group.now c.args.field.now c.in-Some.column.now (cut c.args.asked.chunk_size (rows_of c.args.rows.runs.now)) found.0.items named typed e)
     c.read_column.ensures.typed c.read_column.ensures.cells
+
+pub returns-clause-types : goal.returns-clause-types
+returns-clause-types g c =
+    both_if c.read_column.result (λ found. own_types c.args.field.now.data_type (cut c.args.asked.chunk_size (rows_of c.args.rows.runs.now)) found.0.items) c.read_column.ensures.typed c.read_column.ensures.counts
 
 pub returns-clause-lent : goal.returns-clause-lent
 returns-clause-lent g c =

@@ -1,17 +1,17 @@
-use Rattle.std.proofs.Common.{rules, ◌≡◌, ◌≤◌, ◌<◌, ◌∙◌, ◌++◌, [], length, drop, arith, sym, subst, List, ℕ, Option, ap, get_or}
-use Rattle.std.specs.Prelude.{IfSome}
+use Rattle.std.proofs.Common.{rules, ◌≡◌, ◌≤◌, ◌<◌, ◌∙◌, ◌++◌, [], length, drop, map, append-nil, arith, sym, subst, List, ℕ, Option, ap, get_or}
+use Rattle.std.specs.Prelude.{IfSome, flat_map}
 use Rattle.std.proofs.lemmas.List.{drop_all, get_or_default}
 use Rattle.std.proofs.lemmas.Result.{err_from_is_err_and}
-use Rattle.parquet_base.specs.Intervals.{row_count}
+use Rattle.parquet_base.specs.Intervals.{row_count, rows_of}
 use Rattle.parquet_base.specs.declared.interval.Interval.{Interval}
 use Rattle.parquet_meta.specs.declared.metadata.PageLocation.{PageLocation}
 use Rattle.parquet_scan.specs.Counting.{AreFirst, AreLocatedIf, causes_if_read, chunks_if_read, lies_in_group, lent_if_read, rows_of_groups, shown, taken_if_read}
-use Rattle.parquet_scan.specs.Scan.{RisesBy, RisesJustBy}
+use Rattle.parquet_scan.specs.Scan.{RisesBy, RisesJustBy, shape_of, shapes_of_rows}
 use Rattle.parquet_scan.proofs.CallLemmas.{refuses}
 use Rattle.parquet_scan.proofs.CostLemmas.{rises_pairs, sum_left}
 use Rattle.parquet_scan.proofs.ExactCounts.{just_pair, just_pairs, most_pair}
 use Rattle.parquet_scan.proofs.PairLemmas.{flat_pair, none_pair, pair_passes}
-use Rattle.parquet_scan.proofs.ScanLemmas.{in_pair}
+use Rattle.parquet_scan.proofs.ScanLemmas.{given_more, in_pair}
 use Rattle.parquet_scan.proofs.reading.read_groups.Goals as goal
 
 pub loop-i-preserved : goal.loop-i-preserved
@@ -38,6 +38,8 @@ loop-i-preserved g c =
       none = none_pair told (causes_if_read by_pages size fields) groups given i group runs runs c.loop-i-test.true below c.index-groups-i.is beside c.loop-i.invariant.none none;
       chunks = flat_pair told (chunks_if_read by_pages size fields) groups given i group runs (shown c.args.read.now.chunks.items) (shown c.loop-i.read.chunks.items) (shown c.read_if_given.new.read.chunks.items)
           c.loop-i-test.true below c.index-groups-i.is beside c.loop-i.invariant.chunks chunks;
+      shapes = given_more (λ (runs : List Interval). shapes_of_rows fields size (rows_of runs)) given i runs (map shape_of c.args.read.now.chunks.items) (map shape_of c.loop-i.read.chunks.items)
+          (map shape_of c.read_if_given.new.read.chunks.items) below beside c.loop-i.invariant.shapes c.in_ok-read_if_given.ensures.shapes;
       lent = just_pair told (lent_if_read by_pages fields) groups given i group runs c.args.steps.now c.loop-i.steps c.read_if_given.new.steps c.loop-i-test.true below c.index-groups-i.is beside c.loop-i.invariant.lent lent;
       taken = most_pair told (taken_if_read by_pages fields) groups given i group runs (g.S.Source.taken c.args.source.now) (g.S.Source.taken c.loop-i.source) (g.S.Source.taken c.read_if_given.new.source)
           c.loop-i-test.true below c.index-groups-i.is beside c.loop-i.invariant.taken taken;
@@ -100,6 +102,13 @@ returns-in_err-read_if_given-clause-reads g c =
 
 none_left : (given : List (List Interval)) (i : ℕ) → length given ≤ i → rows_of_groups (drop i given) ≡ 0
 none_left given i h = ap rows_of_groups (drop_all i given h)
+
+pub returns-clause-shapes : goal.returns-clause-shapes
+returns-clause-shapes g c =
+    let given = c.args.given.now in
+    let shapes : List Interval → _ = λ runs. shapes_of_rows c.args.asked.fields.now c.args.asked.chunk_size (rows_of runs) in
+    let so_far = map shape_of c.loop-i.read.chunks.items in
+    sym (c.loop-i.invariant.shapes ∙ ap (λ rest. so_far ++ flat_map shapes rest) (drop_all c.loop-i.i given (omega (arith, c.requires.lengths))) ∙ append-nil so_far)
 
 pub returns-clause-rows : goal.returns-clause-rows
 returns-clause-rows g c = omega (arith, c.loop-i.invariant.rows, c.loop-i.invariant.fits, none_left c.args.given.now c.loop-i.i (omega (arith, c.requires.lengths)))

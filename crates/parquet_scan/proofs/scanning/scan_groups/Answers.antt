@@ -1,11 +1,12 @@
 use Rattle.std.proofs.Common.{◌≡◌, ◌≤◌, ◌<◌, ◌∙◌, ◌+◌, ◌-◌, ◌^◌, ◌++◌, All, Bool, [], List, ℕ, length, map, min, ap, arith, subst, sym}
-use Rattle.std.specs.Prelude.{Err, Option, Some, IfSome, zip}
+use Rattle.std.specs.Prelude.{Err, Option, Some, IfSome, flat_map, zip}
 use Rattle.std.specs.List.{list_all}
 use Rattle.std.proofs.lemmas.List.{length-map}
+use Rattle.std.proofs.lemmas.List.Folds.{flat_map-map}
 use Rattle.std.proofs.lemmas.Result.{err_from_is_err_and}
 use Rattle.columns_core.specs.declared.array.Array.{Array}
 use Rattle.page_decoding.specs.Queue.{IsChunkSize}
-use Rattle.parquet_base.specs.Intervals.{is_well_shaped}
+use Rattle.parquet_base.specs.Intervals.{is_well_shaped, rows_of}
 use Rattle.parquet_base.specs.declared.interval.Interval.{Interval}
 use Rattle.parquet_meta.specs.Reads.{ReadsFile}
 use Rattle.parquet_meta.specs.declared.metadata.RowGroupMetaData.{RowGroupMetaData}
@@ -13,7 +14,7 @@ use Rattle.parquet_scan.specs.Counting.{AreAllLocated, AreFirst, are_pruned, lie
 use Rattle.parquet_scan.specs.Cells.{columns_of_chunk, given_chunks}
 use Rattle.parquet_scan.specs.Request.{Request}
 use Rattle.parquet_scan.specs.Rows.{file_with, group_counts}
-use Rattle.parquet_scan.specs.Scan.{RisesBy, RisesJustBy, kept_groups, kept_of}
+use Rattle.parquet_scan.specs.Scan.{RisesBy, RisesJustBy, chunk_shapes, kept_groups, kept_of, shape_of, shapes_of_rows}
 use Rattle.parquet_scan.specs.declared.scanning.GroupKept.{GroupKept}
 use Rattle.parquet_scan.proofs.CallLemmas.{answered, keeps_on, refuses, refuses_first}
 use Rattle.parquet_scan.proofs.ClippedLemmas.{given_first}
@@ -164,6 +165,21 @@ returns-clause-chunks g c =
     let chunks = read_as (λ told b asked groups given. IfSome told (λ bytes. shown found ≡ shown c.new.result.items ++ chunks_of_groups b asked.chunk_size asked.fields bytes groups given)) c.in_ok-kept.ensures.reads.keeps.same is c.request.view_is c.as_slice-groups.ensures c.deref-2.ensures.value c.in_ok-read_groups.ensures.chunks in
     let alone = subst (λ (before : List (List Array)). IfSome told (λ bytes. shown found ≡ shown before ++ chunks_of_groups (pruned request metadata) request.chunk_size request.fields bytes metadata.row_groups given)) c.new.ensures.items chunks in
     subst (λ (chunks : List (List Array)). IfSome told (λ bytes. given_chunks request (file_with bytes metadata) ≡ Some (map columns_of_chunk chunks))) (sym c.new-3.ensures) (chunks_told request metadata kept given told found are alone)
+
+pub returns-clause-shapes : goal.returns-clause-shapes
+returns-clause-shapes g c =
+    let request = c.args.request.now in
+    let kept = c.in_ok-kept.kept.items in
+    let given = c.in_ok-given.given.items in
+    let found = c.read_groups.new.read.chunks.items in
+    let each = shapes_of_rows request.fields request.chunk_size in
+    let rows : map rows_of given ≡ given_of_groups request.limit kept
+    = c.in_ok-given.ensures.rows ∙ ap (λ (asked : Request). given_of_groups asked.limit c.deref.result.now) c.request.view_is ∙ ap (given_of_groups request.limit) c.deref.ensures.value in
+    let inside = c.request.inside in
+    let of_given = subst (λ (given : List (List Interval)). map shape_of found ≡ map shape_of c.new.result.items ++ flat_map (λ (runs : List Interval). shapes_of_rows inside.fields.now inside.chunk_size (rows_of runs)) given) c.deref-2.ensures.value c.in_ok-read_groups.ensures.shapes in
+    let of_request = subst (λ (asked : Request). map shape_of found ≡ map shape_of c.new.result.items ++ flat_map (λ (runs : List Interval). shapes_of_rows asked.fields asked.chunk_size (rows_of runs)) given) c.request.view_is of_given in
+    let alone = subst (λ (before : List (List Array)). map shape_of found ≡ map shape_of before ++ flat_map (λ (runs : List Interval). each (rows_of runs)) given) c.new.ensures.items of_request in
+    ap (map shape_of) c.new-3.ensures ∙ alone ∙ sym (flat_map-map each rows_of given) ∙ ap (flat_map each) rows ∙ ap (chunk_shapes request) (sym c.new-2.ensures)
 
 pub returns-clause-rows : goal.returns-clause-rows
 returns-clause-rows g c =

@@ -14,7 +14,7 @@ use Rattle.parquet_scan.specs.Rows.{file_with, given_row_count}
 use Rattle.parquet_scan.specs.Scan.{Answers, OnFile, RefusesScan, RisesBy, RisesJustBy, kept_groups, kept_of, request_of}
 use Rattle.parquet_scan.specs.declared.bound.Bound.{Bound}
 use Rattle.parquet_scan.specs.declared.scanning.Scan.{Scan}
-use Rattle.parquet_scan.proofs.AnswerLemmas.{answers, illegal, legal_told, refused_by_causes, refused_by_footer, refused_by_groups}
+use Rattle.parquet_scan.proofs.AnswerLemmas.{answers, illegal, legal_alone, legal_told, refused_by_causes, refused_by_footer, refused_by_groups}
 use Rattle.parquet_scan.proofs.FileCosts.{all_taken, at_most, scan_sound}
 use Rattle.parquet_scan.proofs.FileLemmas.{are_counted, behind_metadata, has_cause, is_valid, meta_cause, on_answer, on_file}
 use Rattle.parquet_scan.proofs.LegalLemmas.{asks_legally, each_error, no_file}
@@ -98,9 +98,9 @@ returns-clause-answers g c =
     let rows = are_counted asked metadata scan told (λ (scan : Scan). scan.rows) footed
     (subst (λ (told : Option (List ℕ)). IfOk scan (λ (scan : Scan). IfSome told (λ bytes. scan.rows ≡ min (given_row_count asked (file_with bytes metadata)) (2 ^ 64 - 1)))) same c.scan_groups.ensures.rows) in
     of_request (λ (request : Request). IfOk scan (Answers request told)) c.args.bounds.now c.args.chunk_size c.args.limit c.as_slice.ensures
-    (answers asked told scan (legal_told asked told metadata footed legal) valid kept chunks rows
+    (answers asked told scan (legal_alone asked metadata legal) (legal_told asked told metadata footed legal) valid kept chunks rows
     (scan_sound asked metadata scan told (λ (scan : Scan). map kept_of scan.kept) footed legal valid kept)
-    c.scan_groups.ensures.apart c.scan_groups.ensures.even c.scan_groups.ensures.own_rows)
+    c.scan_groups.ensures.shapes c.scan_groups.ensures.apart c.scan_groups.ensures.even c.scan_groups.ensures.own_rows)
 
 pub returns-clause-pages_lent : goal.returns-clause-pages_lent
 returns-clause-pages_lent g c =
