@@ -5,7 +5,7 @@
 #            runs `rt ci WORD..`, without a word `rt ci --anew`, the whole gate from nothing, and prints for each crate what its proof, the base of its edits, its edits and
 #            its tests took, of all checks that run on the machine meanwhile. A check that ends between two samples, a second apart, loses what it took since the first.
 #        bench/proof_time.sh --functions CRATE [SECONDS]
-#            proves a crate anew by one process, over the libraries below as they are kept, and prints each function that took at least so many seconds (10). Lemmas that are
+#            proves a crate anew by one process (what its checks kept in out/incremental goes), over the libraries below as they are kept, and prints each function that took at least so many seconds (10). Lemmas that are
 #            checked between two functions count for the second: the first function behind a file of lemmas seems dear.
 exec python3 - "$@" <<'PYTHON'
 import collections, os, re, shutil, subprocess, sys, threading, time

@@ -4,7 +4,8 @@
   Each link leads to a file that is there.
   Each definition that a document names beside a link to its file stands in that file.
   Each file that CONTRIBUTING names behind a crate is a file of that crate.
-  Each public call that may refuse, or that may change what it is handed, is named in the table of SECURITY.md of what a refusal leaves.
+  The name of each public function that may refuse, or that may change what it is handed, stands in the table of SECURITY.md of what a refusal leaves.
+  (A name is all that is compared: of which type a `new` is, and calls of traits, are for a reader to see.)
   The README has at most 80 lines, and its example is the text of a crate, but for what `// ..` stands for.
   The pictures are those that their scripts draw.
 """
@@ -77,7 +78,8 @@ for line in text_of(os.path.join(TOP, "CONTRIBUTING.md")).splitlines():
         if path.lower() not in ("src/name.rt", "specs/name.antt") and not any(os.path.exists(os.path.join(TOP, "crates", crate, path)) for crate in crates):
             found.append("CONTRIBUTING.md: %s stands in none of %s" % (path, ", ".join(crates)))
 
-table = " ".join(line for line in text_of(os.path.join(TOP, REFUSALS)).splitlines() if line.startswith("|"))
+section = text_of(os.path.join(TOP, REFUSALS)).split("\n## What a refusal leaves\n")[1].split("\n## ")[0]
+table = " ".join(line for line in section.splitlines() if line.startswith("|"))
 named = re.findall(r"\w+(?:\.\.)?", " ".join(re.findall(r"`[^`]*`", table)))
 begun = tuple(name[:-2] for name in named if name.endswith(".."))
 for crate in sorted(os.listdir(os.path.join(TOP, "crates"))):
