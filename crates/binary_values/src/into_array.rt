@@ -1,6 +1,5 @@
 //! Arrays of decoded texts and byte strings.
 ghost use Rattle.std.specs.Prelude.{◌≡◌, IsTrue, map, IfOk, IfErr};
-ghost use Rattle.columns_core.specs.Causes.{IsWantOfMemory};
 ghost use Rattle.columns_core.specs.Column.{cell_of};
 ghost use Rattle.columns_core.specs.Joined.{AreTexts, FitTogether, joined_strings};
 ghost use Rattle.columns_core.specs.Stored.{is_binary, is_sized_text};
@@ -69,7 +68,7 @@ fn byte_column<O: Offset>(
     ensures typed { IfOk result (λ column. column_type column ≡ data_type) }
     ensures cells { IfOk result (λ column.
         column_cells column ≡ map (cell_of Bytes) (joined_strings offsets values.items validity)) }
-    ensures memory { IfErr result IsWantOfMemory }
+    ensures granted { IfErr result (λ _. ⊥) }
 {
     let array = BinaryArray::try_new(data_type, offsets, values, validity)?;
     Ok(ByteColumn::Strings(array))

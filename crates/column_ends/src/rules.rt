@@ -95,7 +95,8 @@ pub fn statistics_rule(stored: &PrimitiveType, data_type: &DataType) -> Option<E
 
 /// How the ends that a page index tells of a column of this type become values of that type, whatever the column's repetition is.
 pub fn index_rule(stored: &PrimitiveType, data_type: &DataType) -> Option<EndRule>
-    ensures { option_map conversion_of result ≡ spec.index_rule stored.now data_type.now }
+    ensures rule { option_map conversion_of result ≡ spec.index_rule stored.now data_type.now }
+    ensures stored { IfSome result (IsRuleOf stored.now.physical_type) }
 {
     Some(EndRule::Values(page_rule(stored, data_type)?))
 }

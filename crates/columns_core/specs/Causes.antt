@@ -57,6 +57,10 @@ abbrev pub IsOneOf : List Cause → Option Cause → Type 0
 IsOneOf causes None = ⊥
 IsOneOf causes (Some cause) = Contains causes cause
 
+-- an error tells of one of these causes, as those of a call that takes no memory do
+abbrev pub TellsOf : {T : Type 0} → Result T Error → List Cause → Type 0
+TellsOf result causes = IfErr result (λ e. IsOneOf causes (cause_of e))
+
 -- an error is want of memory, or tells of one of these causes
 abbrev pub ComesOf : {T : Type 0} → Result T Error → List Cause → Type 0
 ComesOf result causes = IfErr result (λ e. IsWantOfMemory e ⊎ IsOneOf causes (cause_of e))

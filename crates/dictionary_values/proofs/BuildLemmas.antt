@@ -1,9 +1,9 @@
 -- States of pages of keys.
-use Rattle.std.proofs.Common.{◌≡◌, ℕ, zero, suc, ◌<◌, Bool, true, false, List, [], ◌∷◌, length, map, take, Option, Some, None, refl, sym, ap, ap₂, ◌∙◌, subst, inr, arith, append-nil}
-use Rattle.std.specs.Prelude.{is_some, min, IfErr, IfOk, OnOk, Result, Ok, Err, option_map, unwrap_or}
+use Rattle.std.proofs.Common.{◌≡◌, ℕ, zero, suc, ◌<◌, Bool, true, false, List, [], ◌∷◌, length, map, take, Option, Some, None, refl, sym, ap, ap₂, ◌∙◌, subst, arith, append-nil}
+use Rattle.std.specs.Prelude.{is_some, min, IfOk, OnOk, Result, Ok, Err, option_map, unwrap_or}
 use Rattle.std.proofs.lemmas.List.Elements.{Contains-push}
 use Rattle.std.specs.Option.{option_map_or}
-use Rattle.columns_core.specs.Causes.{Cause, ComesOf, ExternalFormat, IsOneOf, NotYetImplemented, cause_of}
+use Rattle.columns_core.specs.Causes.{Cause, ExternalFormat, IsOneOf, NotYetImplemented, TellsOf, cause_of}
 use Rattle.columns_core.specs.declared.error.Error.{Error}
 use Rattle.columns_core.specs.Array.{cells}
 use Rattle.columns_core.specs.declared.array.Array.{Array}
@@ -183,14 +183,14 @@ module _ (most : ℕ) (dict : Option Array) (page : DataContent) where
             let Q : DataContent → Type 0 = λ p. IsKeyState p state in
             subst P (sym there) (built-rows most entries page state named (causes-here ∙ fine) (subst Q same own))
 
-      pub opened-cause : IfErr result (λ e. IsOneOf (page_causes (Some most) true (Some count) here) (cause_of e)) → ComesOf result (causes_in (take 1 (selected_keys most (option_map cells dict) page)))
+      pub opened-cause : TellsOf result (page_causes (Some most) true (Some count) here) → TellsOf result (causes_in (take 1 (selected_keys most (option_map cells dict) page)))
       opened-cause told = go result told where
-        go : (result : Result (FlatState KeyPlace) Error) → IfErr result (λ e. IsOneOf (page_causes (Some most) true (Some count) here) (cause_of e)) → ComesOf result (causes_in (take 1 (selected_keys most (option_map cells dict) page)))
+        go : (result : Result (FlatState KeyPlace) Error) → TellsOf result (page_causes (Some most) true (Some count) here) → TellsOf result (causes_in (take 1 (selected_keys most (option_map cells dict) page)))
         go (Ok state) told = tt
         go (Err error) told =
             let P : Option Array → Type 0 = λ d. IsOneOf (causes_in (take 1 (selected_keys most (option_map cells d) page))) (cause_of error) in
             let Q : List Cause → Type 0 = λ causes. IsOneOf causes (cause_of error) in
-            inr (subst P (sym there) (told-first most (Some (cells entries)) page (cause_of error) (subst Q (sym causes-here ∙ causes-as most (length (cells entries)) ByteArray page named) told)))
+            subst P (sym there) (told-first most (Some (cells entries)) page (cause_of error) (subst Q (sym causes-here ∙ causes-as most (length (cells entries)) ByteArray page named) told))
 
 -- what is wrong with a page whose levels are read, by its keys
 pub page-opened : (most entries : ℕ) (page : DataContent) (body : Body) (count : ℕ) (steps : List Step) → read_encoding true page ≡ Some Keys → levels_causes page ≡ [] → body_parts page.type.repetition page.header page.body ≡ Some body → steps ≡ plan page.selected (unwrap_or (page_places page) []) → count ≡ stored_values steps

@@ -11,7 +11,7 @@ use Rattle.page_decoding.specs.NextChunk.{GivesChunk, IfChunk, IfFault, IsFirstC
 use Rattle.page_decoding.specs.declared.queue.MaybeNext.TheVariants as next
 use Rattle.page_decoding.specs.Outcome.{Outcome, Given}
 use Rattle.page_decoding.specs.Queue.{joined}
-use Rattle.page_decoding.specs.Standing.{Advances, FailsBy, Passes, Rests, Standing, after_pages, causes_behind, standing, still_wanted}
+use Rattle.page_decoding.specs.Standing.{Advances, FailsBy, IsNeeded, IsShort, Passes, Rests, Standing, after_pages, causes_behind, standing, still_wanted}
 use Rattle.dictionary_values.specs.DictLeft.{IsKeyed}
 use Rattle.dictionary_values.specs.Keys.{NamesEntry, named_cell, named_row, named_standing, selected_entries, selected_keys}
 use Rattle.dictionary_values.proofs.ColumnLemmas.{all-back, all-front, in_front, none-front}
@@ -71,13 +71,19 @@ module _ (entries : DictContent → Result (List Cell) (List Cause)) (most : ℕ
     wanted-is after new causes_now (after-keyed after advances) ∙ ap (map (named_row (names after new))) none.1,
   )
 
+  named-needed : (size : Option ℕ) → IsNeeded size before → IsNeeded size (named_standing before)
+  named-needed size need =
+      let same : length (map (named_row (unwrap_or before.dictionary [])) before.waiting) ≡ length before.waiting = simp length-map in
+      let P : ℕ → Type 0 = λ n. IsShort size n in
+      (need.0, subst P (sym same) need.1)
+
   -- An error that tells of rows of keys tells of the rows of entries.
   pub fails-named : (size : Option ℕ) (error : Error) → FailsBy entries (selected_keys most) None size old new causes before error → FailsBy entries (selected_entries most) None size old new causes (named_standing before) error
   fails-named size error fails =
       let P : List Content → Type 0 = IsKeyed before in
       let front = keyed-front before fails.lent_pages new (subst P fails.split keyed) in
       record {
-        awaited = fails.awaited;
+        awaited = (named-needed size fails.awaited.0, fails.awaited.1);
         lent_pages = fails.lent_pages;
         split = fails.split;
         tells = chunks-named (names before fails.lent_pages) size _ _ error (wanted-is before fails.lent_pages (causes_behind new causes) front) fails.tells;

@@ -1,5 +1,5 @@
 -- What is left of a column of keys that is read in arrays.
-use Rattle.std.specs.Prelude.{◌≡◌, ◌⊎◌, ℕ, true, All, List, [], ◌∷◌, Option, None, Result, refl, unwrap_or}
+use Rattle.std.specs.Prelude.{◌≡◌, ◌⊎◌, ℕ, true, All, List, [], ◌∷◌, Option, Some, None, Result, refl, unwrap_or}
 use Rattle.std.specs.Coded.{Coded, code_by, coded×}
 use Rattle.std.specs.List.{list_all}
 use Rattle.std.specs.Result.{result_ok}
@@ -10,11 +10,11 @@ use Rattle.columns_core.specs.Keyed.{KeyedColumn, named_cells}
 use Rattle.columns_core.specs.declared.error.Error.{Error}
 use Rattle.parquet_page.specs.Content.{Content, DataOf, DictContent, DictOf, is_data}
 use Rattle.parquet_page.specs.Lending.{has_data_behind}
-use Rattle.page_decoding.specs.Chunks.{ChunksLeft, chunks_code, standing_of}
+use Rattle.page_decoding.specs.Chunks.{ChunksLeft, IfGiven, chunks_code, standing_of}
 use Rattle.page_decoding.specs.Outcome.{cells_in}
-use Rattle.page_decoding.specs.Standing.{Standing}
+use Rattle.page_decoding.specs.Standing.{Advances, Standing}
 use Rattle.flat_values.specs.ColumnLeft.{ColumnLeft, Decoding, GivesArray}
-use Rattle.dictionary_values.specs.Keys.{NamesEntry, named_standing, selected_entries}
+use Rattle.dictionary_values.specs.Keys.{NamesEntry, named_standing, selected_entries, selected_keys}
 use Rattle.dictionary_values.specs.declared.key_decoder.KeyDecoder.{KeyDecoder}
 
 -- how a column of keys is decoded by a reader of its entries, where its type has so many keys
@@ -37,6 +37,11 @@ pub record IsKeyed (s : Standing) (pages : List Content) : Type 0 where
   pub lent : s.dictionary ≡ None → cells_in s.waiting ≡ []
   pub still : (s.waiting ≡ []) ⊎ (list_all is_data pages ≡ true)
   pub ordered : has_data_behind pages ≡ true
+
+-- So many rows are wanted still: as many as before where no page was read, and else as many as the page leaves.
+abbrev pub LeavesWanted : (DictContent → Result (List Cell) (List Cause)) → ℕ → List Content → List Content → Standing → ℕ → Type 0
+LeavesWanted entries most old new before remaining =
+    (after : Standing) × Advances entries (selected_keys most) old new before after × (after.remaining ≡ remaining)
 
 -- the type of the arrays, and what is left of the column in chunks, with the reader of its entries in the place of the decoder
 pub record DictLeft (I R : Type 0) : Type 0 where
@@ -78,6 +83,8 @@ module _ {I D : Type 0} (decoding : D → Decoding) (to_come : I → List Conten
   abbrev pub dict_left : DictLeft I D → ColumnLeft
   dict_left iter = keyed_left iter.data_type iter.chunks
 
-  -- the next array, over steps of its own
+  -- the next array, with all entries of the dictionary, over steps of its own
   abbrev pub GivesDict : DictLeft I D → Option (Result KeyedColumn Error) → DictLeft I D → Type 0
-  GivesDict old result new = GivesArray array_type named_cells (dict_left old) result (dict_left new)
+  GivesDict old result new =
+      GivesArray array_type named_cells (dict_left old) result (dict_left new)
+      × IfGiven result (λ array. new.chunks.dictionary ≡ Some array.entries)

@@ -8,7 +8,7 @@ ghost use Rattle.page_decoding.specs.NextChunk.{BeginsFull, GivesChunk, IfChunk,
 ghost use Rattle.page_decoding.specs.Queue.{IsChunkSize, IsCut};
 ghost use Rattle.page_decoding.specs.Standing.{FailsBy, IsNeeded, NoneComes, standing, still_wanted};
 ghost use Rattle.flat_values.specs.Decoded.{IsMaskFor};
-ghost use Rattle.dictionary_values.specs.DictLeft.{IsKeyed, named_entries};
+ghost use Rattle.dictionary_values.specs.DictLeft.{IsKeyed, LeavesWanted, named_entries};
 ghost use Rattle.dictionary_values.specs.Keys.{named_standing, selected_entries};
 
 use crate::key_array::array_of;
@@ -58,6 +58,10 @@ pub fn next_dict<K: StoredKey, I: Pages, R: ReadDict, L: Ledger>(
     ensures dictionary { let named = named_entries (R.entries read_dict.now) in
         OnNoError result (named (option_map cells dict.new) (I.to_come iter.new)
         ≡ named (option_map cells dict.old) (I.to_come iter.old)) }
+    ensures standing { let shown = ⟦<DecodedKeys<K> as DecodedState>⟧.shown in
+        let before = standing shown cells items.old.items remaining.old dict.old in
+        let leaves = LeavesWanted (R.entries read_dict.now) K.key_count (I.to_come iter.old) in
+        OnNoError result (leaves (I.to_come iter.new) before remaining.new) }
     ensures keyed { let shown = ⟦<DecodedKeys<K> as DecodedState>⟧.shown in
         let after = standing shown cells items.new.items remaining.new dict.new in
         OnNoError result (IsKeyed after (I.to_come iter.new)) }

@@ -163,6 +163,7 @@ fn next_alone<K: StoredKey, R: ReadDict + Drop, I: Pages, L: Ledger>(
         let left = keyed_left decoding I.to_come I.causes I.row_count I.lent_count in
         GivesArray array_type named_cells
         (left arrays.old.data_type arrays.old.chunks) result (left arrays.new.data_type arrays.new.chunks) }
+    ensures entries { IfGiven result (λ array. arrays.new.chunks.dictionary ≡ Some array.entries) }
 {
     let mut steps = Steps::<L>::new(blank);
     arrays.next_counted(&mut steps)

@@ -1,6 +1,6 @@
 //! Pages of keys of any stored type: the decoder of keys, and places in such pages.
-ghost use Rattle.std.specs.Prelude.{◌≡◌, [], true, IfOk, IfErr, OnOk};
-ghost use Rattle.columns_core.specs.Causes.{IsOneOf, cause_of};
+ghost use Rattle.std.specs.Prelude.{◌≡◌, [], true, IfOk, OnOk};
+ghost use Rattle.columns_core.specs.Causes.{TellsOf};
 ghost use Rattle.parquet_page.specs.Content.{DataContent, DataOf, data_content, is_shaped};
 ghost use Rattle.parquet_page.specs.Plan.{kept_count};
 ghost use Rattle.page_decoding.specs.FilteredLeft.{IsPageOf, filtered_steps};
@@ -68,8 +68,7 @@ impl KeyState {
         requires { is_shaped (DataOf (data_content page.now)) ≡ true }
         ensures state { IfOk result (λ keys. IsStateOfKeys (data_content page.now) keys.state) }
         ensures ok { OnOk result (uncompared_causes (data_content page.now) ≡ []) }
-        ensures cause { let causes = uncompared_causes (data_content page.now) in
-            IfErr result (λ e. IsOneOf causes (cause_of e)) }
+        ensures cause { TellsOf result (uncompared_causes (data_content page.now)) }
     {
         if !has_keys(&page.header) {
             return Err(Error::NotYetImplemented(Part::Header));

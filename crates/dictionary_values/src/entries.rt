@@ -22,13 +22,13 @@ use std::marker::Model;
 
 /// Decodes values whose dictionaries become arrays.
 pub trait IntoEntries: IntoArray {
-    /// The array of the entries of a dictionary.
+    /// The array of the entries of a dictionary, which takes no memory of its own.
     fn into_entries(&self, dict: Self::Dict, data_type: DataType) -> Result<Self::Array, Error>
         requires own { Self.is_own_dict self.now dict }
         requires fits { Self.is_type self.now data_type }
         ensures typed { IfOk result (λ array. Self.array_type array ≡ data_type) }
         ensures cells { IfOk result (λ array. Self.array_cells array ≡ Self.dict_shown self.now dict) }
-        ensures memory { IfErr result IsWantOfMemory };
+        ensures granted { IfErr result (λ _. ⊥) };
 }
 
 impl<P: ParquetNativeType, T: NativeType + Default, C: Convert<P, T>> IntoEntries

@@ -1,8 +1,8 @@
 //! Decodes pages of keys.
-ghost use Rattle.std.specs.Prelude.{◌≡◌, [], ◌∷◌, true, Some, None, refl, IfErr, IfOk, OnOk};
+ghost use Rattle.std.specs.Prelude.{◌≡◌, [], ◌∷◌, true, Some, None, refl, IfOk, OnOk};
 ghost use Rattle.std.specs.Option.{option_map_or};
 ghost use Rattle.columns_core.specs.Array.{cells, data_type_of};
-ghost use Rattle.columns_core.specs.Causes.{ExternalFormat, IsOneOf, cause_of};
+ghost use Rattle.columns_core.specs.Causes.{ExternalFormat, TellsOf};
 ghost use Rattle.parquet_page.specs.Content.{DataOf, data_content, is_shaped};
 ghost use Rattle.parquet_page.specs.Opened.{key_causes, page_causes};
 ghost use Rattle.parquet_page.specs.Spelling.{header_encoding, is_keys};
@@ -62,8 +62,7 @@ fn judge_keys<K: StoredKey>(bytes: &[u8], count: usize, entries: usize) -> Resul
     ensures ok { let causes = key_causes (Some K.key_count) (Some entries) in
         OnOk result (option_map_or causes (dictionary_keys bytes.now count) (ExternalFormat ∷ []) ≡ []) }
     ensures cause { let causes = key_causes (Some K.key_count) (Some entries) in
-        let found = option_map_or causes (dictionary_keys bytes.now count) (ExternalFormat ∷ []) in
-        IfErr result (λ e. IsOneOf found (cause_of e)) }
+        TellsOf result (option_map_or causes (dictionary_keys bytes.now count) (ExternalFormat ∷ [])) }
 {
     let _named = KeyPlace::open(bytes, count, Some(entries))?;
     let most = K::most_keys();
@@ -83,8 +82,8 @@ fn judge_page<K: StoredKey>(page: &DataPage<'_>, entries: usize) -> Result<(), E
     requires spelled { page_causes None true None (data_content page.now) ≡ [] }
     ensures ok { let causes = page_causes (Some K.key_count) true (Some entries) (data_content page.now) in
         OnOk result (causes ≡ []) }
-    ensures cause { let causes = page_causes (Some K.key_count) true (Some entries) (data_content page.now) in
-        IfErr result (λ e. IsOneOf causes (cause_of e)) }
+    ensures cause { TellsOf result
+        (page_causes (Some K.key_count) true (Some entries) (data_content page.now)) }
 {
     let walk = FilteredOptionalPageValidity::try_new(page)?;
     let (_, _, bytes) = split_buffer(page)?;
@@ -105,8 +104,8 @@ fn open_keys<K: StoredKey>(
     ensures state { IfOk result (IsKeyState (data_content page.now)) }
     ensures ok { let causes = page_causes (Some K.key_count) true (Some entries) (data_content page.now) in
         OnOk result (causes ≡ []) }
-    ensures cause { let causes = page_causes (Some K.key_count) true (Some entries) (data_content page.now) in
-        IfErr result (λ e. IsOneOf causes (cause_of e)) }
+    ensures cause { TellsOf result
+        (page_causes (Some K.key_count) true (Some entries) (data_content page.now)) }
 {
     let state = FlatState::<KeyPlace>::try_new(page)?;
     judge_page::<K>(page, entries)?;

@@ -21,7 +21,7 @@ pub record AreCollected (left : ColumnLeft) (arrays : List Array) : Type 0 where
 abbrev pub pages_of : ColumnLeft → ℕ
 pages_of left = length (pages_wanted left.decoding.entries left.decoding.outcomes left.standing.dictionary left.standing.remaining left.pages)
 
--- All arrays of a column and the count of the pages, each of which is a step; or an error that tells of the rows.
+-- All arrays of a column and the count of the pages, each of which is a step; or an error, want of memory or one that tells of the rows.
 pub record Collects {X : Type 0} (arrays : X → List Array) (count : X → ℕ) (left : ColumnLeft) (result : Result X Error) (steps steps_now : ℕ) : Type 0 where
   pub collected : IfOk result (λ found. AreCollected left (arrays found))
   pub cause : IfErr result (IsCausedByChunks left.decoding.most_bytes left.size (wanted left))

@@ -1,6 +1,6 @@
 //! Places in pages of byte strings that are joined behind their lengths.
 ghost use Rattle.std.specs.Prelude.{◌≡◌, [], List, ℕ, None, Some, true, drop, length, slice_get, unwrap_or, IfErr, IfOk, OnOk};
-ghost use Rattle.columns_core.specs.Causes.{ExternalFormat, IsOneOf, cause_of};
+ghost use Rattle.columns_core.specs.Causes.{ExternalFormat, TellsOf, cause_of};
 ghost use Rattle.parquet_encoding.specs.DeltaLength.{delta_length_places};
 ghost use Rattle.parquet_page.specs.Content.{DataContent, DataOf, data_content, is_shaped};
 ghost use Rattle.parquet_page.specs.Plan.{kept_count, plan};
@@ -46,7 +46,7 @@ impl Delta {
             IfOk result (λ delta. string_places (data_content page.now) ≡
             Some (strings_behind bytes delta)) }
         ensures ok { OnOk result (joined_causes (data_content page.now) ≡ []) }
-        ensures cause { IfErr result (λ e. IsOneOf (joined_causes (data_content page.now)) (cause_of e)) }
+        ensures cause { TellsOf result (joined_causes (data_content page.now)) }
     {
         let FilteredDelta { walk: _, delta } = FilteredDelta::try_new(page)?;
         Ok(delta)
@@ -129,7 +129,7 @@ impl FilteredDelta {
         ensures strings { let behind = strings_behind (value_bytes (data_content page.now)) in
             IfOk result (λ rows. string_places (data_content page.now) ≡ Some (behind rows.delta)) }
         ensures ok { OnOk result (joined_causes (data_content page.now) ≡ []) }
-        ensures cause { IfErr result (λ e. IsOneOf (joined_causes (data_content page.now)) (cause_of e)) }
+        ensures cause { TellsOf result (joined_causes (data_content page.now)) }
     {
         if !is_joined_page(page) {
             return Err(Error::NotYetImplemented(Part::Header));

@@ -37,8 +37,8 @@ abbrev pub arrays_at_most : ColumnLeft → Count
 arrays_at_most left = at_most (length (wanted left) + min 1 left.standing.remaining)
 
 module _ {X : Type 0} (type_of : X → DataType) (shown : X → List Cell) where
-  -- An array of the first chunk of the rows that are wanted, whose bytes fit, and the others are left; or an error that tells of these
-  -- rows; or none is wanted. The pages that were lent for it are steps.
+  -- An array of the first chunk of the rows that are wanted, whose bytes fit, and the others are left; or an error, want of memory or one
+  -- that tells of these rows; or none is wanted. The pages that were lent for it are steps.
   pub record GivesColumn (old : ColumnLeft) (result : Option (Result X Error)) (new : ColumnLeft) (steps steps_now : ℕ) : Type 0 where
     pub chunk : GivesFirstChunk shown old.decoding.most_bytes old.size (wanted old) (wanted new) result
     pub typed : IfGiven result (λ array. type_of array ≡ old.data_type)

@@ -1,6 +1,6 @@
 //! Columns that are read as truth values.
 ghost use Rattle.std.specs.Prelude.{◌≡◌, IsTrue, true, [], None, IfOk, IfErr, take};
-ghost use Rattle.columns_core.specs.Causes.{ComesOf, is_invalid_argument};
+ghost use Rattle.columns_core.specs.Causes.{TellsOf, is_invalid_argument};
 ghost use Rattle.columns_core.specs.ElementType.{is_boolean};
 ghost use Rattle.page_decoding.specs.Column.{DataPagesAre};
 ghost use Rattle.page_decoding.specs.Outcome.{causes_in};
@@ -54,7 +54,7 @@ impl FlatState<PlainBits> {
         ensures rows { let outcomes = selected_outcomes Keep None (data_content page.now) in
             IfOk result (λ state. state_outcomes truth_outcomes (data_content page.now) state ≡ outcomes) }
         ensures cause { let outcomes = selected_outcomes Keep None (data_content page.now) in
-            ComesOf result (causes_in (take 1 outcomes)) }
+            TellsOf result (causes_in (take 1 outcomes)) }
     {
         BooleanDecoder::default().build_state(page, None)
     }

@@ -1,7 +1,7 @@
 //! Decodes flat pages, by a decoder of their values.
 ghost use Rattle.std.specs.Prelude.{◌≡◌, ◌≤◌, true, false, [], ◌++◌, drop, length, map, take, Option, None, Some, IfOk, IfErr, IfSome, OnOk, option_map};
 ghost use Rattle.std.specs.Option.{option_copied};
-ghost use Rattle.columns_core.specs.Causes.{IsOneOf, cause_of};
+ghost use Rattle.columns_core.specs.Causes.{TellsOf};
 ghost use Rattle.parquet_page.specs.Content.{DataContent, data_content};
 ghost use Rattle.parquet_page.specs.Opened.{goes_on_dictionary as goes_on_by};
 ghost use Rattle.parquet_page.specs.Levels.{present_count};
@@ -252,11 +252,10 @@ fn open_values<V: ValueDecoder>(
         (value_causes (V.physical decoder.now)
         (option_map (λ dict. length (V.dict_shown decoder.now dict)) (option_copied dict.entry))
         (as_encoding encoding) bytes.now count) ≡ []) }
-    ensures cause { IfErr result (λ e.
-        IsOneOf (causes_unless_none count
+    ensures cause { TellsOf result (causes_unless_none count
         (value_causes (V.physical decoder.now)
         (option_map (λ dict. length (V.dict_shown decoder.now dict)) (option_copied dict.entry))
-        (as_encoding encoding) bytes.now count)) (cause_of e)) }
+        (as_encoding encoding) bytes.now count)) }
 {
     if count == 0 {
         return Ok(None);

@@ -1,7 +1,6 @@
 //! Decoded values that become arrays.
 ghost use Rattle.std.specs.Prelude.{◌≡◌, ◌↔◌, IsTrue, List, IfOk, IfErr};
 ghost use Rattle.columns_core.specs.Array.{cells, data_type_of};
-ghost use Rattle.columns_core.specs.Causes.{IsWantOfMemory};
 ghost use Rattle.columns_core.specs.declared.cell.Cell.{Cell};
 ghost use Rattle.columns_core.specs.declared.data_type.DataType.{DataType};
 
@@ -29,13 +28,13 @@ pub trait IntoArray: ValueDecoder {
     fn fits(&self, data_type: &DataType) -> bool
         ensures { IsTrue result ↔ is_type self.now data_type.now };
 
-    /// The array of decoded values.
+    /// The array of decoded values, which takes no memory of its own.
     fn into_array(&self, decoded: Self::Decoded, data_type: DataType) -> Result<Self::Array, Error>
         requires own { Self.is_own self.now decoded }
         requires fits { is_type self.now data_type }
         ensures typed { IfOk result (λ array. array_type array ≡ data_type) }
         ensures cells { IfOk result (λ array. array_cells array ≡ Self.Decoded.shown decoded) }
-        ensures memory { IfErr result IsWantOfMemory };
+        ensures granted { IfErr result (λ _. ⊥) };
 }
 
 /// Decodes values whose arrays are columns.

@@ -1,7 +1,7 @@
 //! Keys of a dictionary, in the pages of a column.
-ghost use Rattle.std.specs.Prelude.{◌≡◌, ◌<◌, ◌++◌, ◌||◌, ℕ, [], ◌∷◌, nat_le, slice_index_or, Some, IsSome, IfOk, IfErr, IfNone, IfSome, OnOk, length, max, min, take, drop, map};
+ghost use Rattle.std.specs.Prelude.{◌≡◌, ◌<◌, ◌++◌, ◌||◌, ℕ, [], ◌∷◌, nat_le, slice_index_or, Some, IsSome, IfOk, IfNone, IfSome, OnOk, length, max, min, take, drop, map};
 ghost use Rattle.std.specs.Option.{option_map_or};
-ghost use Rattle.columns_core.specs.Causes.{ComesOf, ExternalFormat, IsOneOf, cause_of};
+ghost use Rattle.columns_core.specs.Causes.{ComesOf, ExternalFormat, TellsOf};
 ghost use Rattle.parquet_encoding.specs.HybridLeft.{hybrid_left, hybrid_values};
 ghost use Rattle.parquet_page.specs.Opened.{key_causes, passes};
 ghost use Rattle.parquet_page.specs.Values.{dictionary_keys, has_key_past};
@@ -32,9 +32,8 @@ impl KeyPlace {
         ensures among { IfOk result (IsAmongKeys bytes.now) }
         ensures ok { OnOk result (option_map_or (key_causes None entries) (dictionary_keys bytes.now count)
             (ExternalFormat ∷ []) ≡ []) }
-        ensures cause { IfErr result (λ e.
-            IsOneOf (option_map_or (key_causes None entries) (dictionary_keys bytes.now count)
-            (ExternalFormat ∷ [])) (cause_of e)) }
+        ensures cause { let found = dictionary_keys bytes.now count in
+            TellsOf result (option_map_or (key_causes None entries) found (ExternalFormat ∷ [])) }
     {
         let damaged = Error::ExternalFormat(Part::Values);
         let Some((width, rest)) = bytes.split_first() else {

@@ -120,11 +120,20 @@ impl Iterator for NullIter {
 
 /// The nulls as the arrays of a column, whose rows wait.
 impl ColumnArrays for NullIter {
+    ghost use Rattle.columns_core.specs.Array.{cells, data_type_of};
+    ghost use Rattle.page_decoding.specs.Chunks.{IfFailed};
+    ghost use Rattle.flat_values.specs.ColumnLeft.{GivesColumn};
     ghost use Rattle.flat_values.specs.NullChunks.{nulls_left};
 
     ghost left = { nulls_left };
 
-    fn next_counted<L: Ledger>(&mut self, _steps: &mut Steps<L>) -> Option<Result<Array, Error>> {
+    fn next_counted<L: Ledger>(&mut self, _steps: &mut Steps<L>) -> Option<Result<Array, Error>>
+        ensures given { GivesColumn data_type_of cells (nulls_left self.old) result (nulls_left self.new)
+            _steps.old _steps.new }
+
+        // No array takes memory.
+        ensures granted { IfFailed result (λ _. ⊥) }
+    {
         Some(Ok(Array::Null(NullArray::new(self.take_rows()?))))
     }
 

@@ -1,6 +1,6 @@
 //! Places in pages of numbers that are stored in one encoding: plain, or keys.
 ghost use Rattle.std.specs.Prelude.{◌≡◌, ◌⊎◌, [], true, false, List, Some, None, IfOk, IfErr, IfSome, IsSome, OnOk};
-ghost use Rattle.columns_core.specs.Causes.{IsOneOf, NotYetImplemented, cause_of};
+ghost use Rattle.columns_core.specs.Causes.{IsOneOf, NotYetImplemented, TellsOf, cause_of};
 ghost use Rattle.columns_core.specs.declared.cell.Cell.{Cell};
 ghost use Rattle.parquet_meta.specs.declared.metadata.PhysicalType.{PhysicalType};
 ghost use Rattle.parquet_page.specs.Content.{DataOf, data_content, is_shaped};
@@ -32,9 +32,8 @@ fn open_values<P: ParquetNativeType>(
         IfSome place (λ place. IsSome (plain_values P.physical bytes.now place.count))) }
     ensures ok { OnOk result (causes_unless_none count (value_causes P.physical None Plain bytes.now count)
         ≡ []) }
-    ensures cause { let causes = causes_unless_none count
-        (value_causes P.physical None Plain bytes.now count) in
-        IfErr result (λ e. IsOneOf causes (cause_of e)) }
+    ensures cause { TellsOf result
+        (causes_unless_none count (value_causes P.physical None Plain bytes.now count)) }
 {
     if count == 0 {
         return Ok(None);
@@ -51,9 +50,8 @@ fn open_keys(bytes: &[u8], count: usize) -> Result<Option<KeyPlace>, Error>
     ensures over { IfOk result (λ place. IfSome place (IsAmongKeys bytes.now)) }
     ensures ok { (type : PhysicalType)
         → OnOk result (causes_unless_none count (value_causes type None Keys bytes.now count) ≡ []) }
-    ensures cause { let causes = λ (type : PhysicalType). causes_unless_none count
-        (value_causes type None Keys bytes.now count) in
-        (type : PhysicalType) → IfErr result (λ e. IsOneOf (causes type) (cause_of e)) }
+    ensures cause { (type : PhysicalType)
+        → TellsOf result (causes_unless_none count (value_causes type None Keys bytes.now count)) }
 {
     if count == 0 {
         return Ok(None);

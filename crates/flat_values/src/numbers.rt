@@ -1,6 +1,6 @@
 //! Numbers in the pages of a column.
-ghost use Rattle.std.specs.Prelude.{◌≡◌, ◌+◌, ◌-◌, [], Some, IsSome, IfErr, IfOk, OnOk, is_some, min, take, drop, map};
-ghost use Rattle.columns_core.specs.Causes.{ComesOf, ExternalFormat, IsOneOf, cause_of, unless};
+ghost use Rattle.std.specs.Prelude.{◌≡◌, ◌+◌, ◌-◌, [], Some, IsSome, IfOk, OnOk, is_some, min, take, drop, map};
+ghost use Rattle.columns_core.specs.Causes.{ComesOf, ExternalFormat, TellsOf, unless};
 ghost use Rattle.parquet_encoding.specs.DeltaLeft.{delta_left, numbers};
 ghost use Rattle.parquet_page.specs.Values.{delta_values, plain_values};
 ghost use Rattle.page_decoding.specs.Outcome.{causes_in};
@@ -57,8 +57,8 @@ pub(crate) fn open_plain<P: ParquetNativeType>(
     ensures among { IfOk result (λ place. IsSome (plain_values P.physical bytes.now place.count)) }
     ensures ok { OnOk result (unless (is_some (plain_values P.physical bytes.now count)) ExternalFormat
         ≡ []) }
-    ensures cause { IfErr result (λ e.
-        IsOneOf (unless (is_some (plain_values P.physical bytes.now count)) ExternalFormat) (cause_of e)) }
+    ensures cause { TellsOf result
+        (unless (is_some (plain_values P.physical bytes.now count)) ExternalFormat) }
 {
     if P::is_plain(bytes, count) {
         Ok(PlainPlace { count, next: 0 })
@@ -116,8 +116,8 @@ pub(crate) fn open_deltas<P: ParquetNativeType>(
     ensures among { IfOk result (λ place. IsSome (delta_left place bytes.now)) }
     ensures ok { OnOk result (unless (is_some (delta_values P.physical bytes.now count)) ExternalFormat
         ≡ []) }
-    ensures cause { IfErr result (λ e.
-        IsOneOf (unless (is_some (delta_values P.physical bytes.now count)) ExternalFormat) (cause_of e)) }
+    ensures cause { TellsOf result
+        (unless (is_some (delta_values P.physical bytes.now count)) ExternalFormat) }
 {
     match P::open_deltas(bytes, count) {
         Ok(place) => Ok(place),

@@ -1,6 +1,6 @@
 //! Places in pages of byte strings that stand each behind its length.
-ghost use Rattle.std.specs.Prelude.{◌≡◌, [], true, false, Some, None, is_some, IfOk, IfErr, IfSome, OnOk};
-ghost use Rattle.columns_core.specs.Causes.{ExternalFormat, IsOneOf, NotYetImplemented, cause_of, unless};
+ghost use Rattle.std.specs.Prelude.{◌≡◌, [], true, false, Some, None, is_some, IfOk, IfSome, OnOk};
+ghost use Rattle.columns_core.specs.Causes.{ExternalFormat, NotYetImplemented, TellsOf, unless};
 ghost use Rattle.parquet_meta.specs.declared.metadata.PhysicalType.TheVariants.{ByteArray};
 ghost use Rattle.parquet_page.specs.Content.{DataOf, data_content, is_shaped};
 ghost use Rattle.parquet_page.specs.Values.{Plain, plain_values, unless_none};
@@ -23,8 +23,8 @@ fn open_strings(bytes: &[u8], count: usize) -> Result<PlainBytes, Error>
     ensures over { IfOk result (IsOverStrings bytes.now) }
     ensures ok { OnOk result (unless (is_some (plain_values ByteArray bytes.now count)) ExternalFormat
         ≡ []) }
-    ensures cause { IfErr result (λ e.
-        IsOneOf (unless (is_some (plain_values ByteArray bytes.now count)) ExternalFormat) (cause_of e)) }
+    ensures cause { TellsOf result
+        (unless (is_some (plain_values ByteArray bytes.now count)) ExternalFormat) }
 {
     match PlainBytes::try_new(bytes, count) {
         Ok(place) => Ok(place),
@@ -41,9 +41,8 @@ fn open_values(bytes: &[u8], count: usize) -> Result<Option<PlainBytes>, Error>
     ensures over { IfOk result (λ place. IfSome place (IsOverStrings bytes.now)) }
     ensures ok { OnOk result (causes_unless_none count (value_causes ByteArray None Plain bytes.now count)
         ≡ []) }
-    ensures cause { let causes = causes_unless_none count
-        (value_causes ByteArray None Plain bytes.now count) in
-        IfErr result (λ e. IsOneOf causes (cause_of e)) }
+    ensures cause { TellsOf result
+        (causes_unless_none count (value_causes ByteArray None Plain bytes.now count)) }
 {
     if count == 0 {
         return Ok(None);
@@ -58,7 +57,7 @@ impl FlatState<PlainBytes> {
         requires shaped { is_shaped (DataOf (data_content page.now)) ≡ true }
         ensures state { IfOk result (IsStringState (data_content page.now)) }
         ensures ok { OnOk result (string_causes (data_content page.now) ≡ []) }
-        ensures cause { IfErr result (λ e. IsOneOf (string_causes (data_content page.now)) (cause_of e)) }
+        ensures cause { TellsOf result (string_causes (data_content page.now)) }
     {
         if page_encoding(page, false) != Some(ValueEncoding::Plain) {
             return Err(Error::NotYetImplemented(Part::Header));

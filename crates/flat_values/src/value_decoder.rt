@@ -1,7 +1,7 @@
 //! How the stored values of a page are read.
-ghost use Rattle.std.specs.Prelude.{◌≡◌, true, List, [], length, Some, Ok, IfOk, IfErr, IfSome, OnOk, option_map};
+ghost use Rattle.std.specs.Prelude.{◌≡◌, true, List, [], length, Some, Ok, IfOk, IfSome, OnOk, option_map};
 ghost use Rattle.std.specs.Option.{option_copied};
-ghost use Rattle.columns_core.specs.Causes.{ComesOf, IsOneOf, cause_of};
+ghost use Rattle.columns_core.specs.Causes.{ComesOf, TellsOf};
 ghost use Rattle.columns_core.specs.declared.cell.Cell.{Cell};
 ghost use Rattle.parquet_page.specs.Content.{dict_content};
 ghost use Rattle.parquet_page.specs.Values.{goes_with};
@@ -60,7 +60,7 @@ pub trait ValueDecoder: Values {
         ensures cause { let entries = option_map
             (λ dict. length (dict_shown self.now dict)) (option_copied dict.entry) in
             let causes = value_causes (physical self.now) entries (as_encoding encoding) bytes.now count in
-            IfErr result (λ e. IsOneOf causes (cause_of e)) };
+            TellsOf result causes };
 
     /// The entries of a dictionary page, all converted.
     fn read_dict(&self, alloc: Global, page: &DictPage<'_>) -> Result<Self::Dict, Error>

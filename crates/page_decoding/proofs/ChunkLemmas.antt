@@ -13,7 +13,7 @@ use Rattle.page_decoding.specs.Outcome.{Outcome, Given}
 use Rattle.page_decoding.specs.Queue.{IsChunkSize, IsCut, first_chunk, joined}
 use Rattle.page_decoding.specs.NextChunk.{BeginsFull, Ends, GivesChunk, IfChunk, IfFault, IsFirstChunk, Moves, OnNoError, Opens, Stays, front_of}
 use Rattle.page_decoding.specs.declared.queue.MaybeNext.TheVariants as next
-use Rattle.page_decoding.specs.Standing.{Advances, AreNeeded, FailsBy, IsFinished, IsNeeded, IsShort, NoneComes, Passes, Rests, Standing, TellsOf, after_page, after_pages, causes_behind, standing, still_wanted}
+use Rattle.page_decoding.specs.Standing.{Advances, AreNeeded, Awaits, FailsBy, IsCausedByPages, IsFinished, IsNeeded, IsShort, NoneComes, Passes, Rests, Standing, after_page, after_pages, causes_behind, standing, still_wanted}
 use Rattle.page_decoding.specs.Chunks.{GivesFirstChunk, IfFailed, IfGiven, Reaches, ReadsChunks, lent_more}
 use Rattle.page_decoding.proofs.NextLemmas.{fails-caused, still-pages}
 
@@ -69,7 +69,7 @@ module _ {X : Type 0} (shown : X → List Cell) (entries : DictContent → Resul
   -- one more page is lent
   one-more : {result : Option (Result X Error)} {old mid new : List Content} {causes : List Cause} {before now after : Standing} {steps steps_now steps_then lent lent_now lent_then : ℕ} (page : Content)
       → (reads : ReadsChunks shown entries outcomes most size None old mid causes before now steps steps_now lent lent_now) → mid ≡ page ∷ new → list_all is_data new ≡ true → IsNeeded size now → steps_then ≡ steps_now + 1 → lent_then ≡ raised lent_now 1
-      → Reaches shown result (after_page entries outcomes now page) after → IfFailed result (TellsOf entries outcomes most size before (reads.lent_pages ++ page ∷ []) new causes) → ReadsChunks shown entries outcomes most size result old new causes before after steps steps_then lent lent_then
+      → Reaches shown result (after_page entries outcomes now page) after → IfFailed result (IsCausedByPages entries outcomes most size before (reads.lent_pages ++ page ∷ []) new causes) → ReadsChunks shown entries outcomes most size result old new causes before after steps steps_then lent lent_then
   one-more {result = result} {old = old} {mid = mid} {new = new} {before = before} {now = now} {after = after} {lent = lent} page reads first alone need ticked counted reaches tells =
       let N : Standing → Type 0 = λ s. IsNeeded size s in
       let R : Standing → Type 0 = λ s. Reaches shown result s after in
@@ -87,7 +87,7 @@ module _ {X : Type 0} (shown : X → List Cell) (entries : DictContent → Resul
   -- no more page is lent
   no-more : {result : Option (Result X Error)} {old mid new : List Content} {causes : List Cause} {before now after : Standing} {steps steps_now steps_then lent lent_now lent_then : ℕ}
       → (reads : ReadsChunks shown entries outcomes most size None old mid causes before now steps steps_now lent lent_now) → new ≡ mid → steps_then ≡ steps_now → lent_then ≡ lent_now
-      → Reaches shown result now after → IfFailed result (TellsOf entries outcomes most size before reads.lent_pages new causes) → ReadsChunks shown entries outcomes most size result old new causes before after steps steps_then lent lent_then
+      → Reaches shown result now after → IfFailed result (IsCausedByPages entries outcomes most size before reads.lent_pages new causes) → ReadsChunks shown entries outcomes most size result old new causes before after steps steps_then lent lent_then
   no-more {result = result} {after = after} reads same ticked counted reaches tells =
       let R : Standing → Type 0 = λ s. Reaches shown result s after in
       let A : List Content → Type 0 = λ pages. (reads.lent_pages ≡ []) ⊎ (list_all is_data pages ≡ true) in
@@ -104,7 +104,7 @@ module _ {X : Type 0} (shown : X → List Cell) (entries : DictContent → Resul
 
   pub reads-on : {result : Option (Result X Error)} {old mid new : List Content} {causes wrong wrong_now : List Cause} {before now reached after : Standing} {steps steps_now steps_then lent lent_now lent_then : ℕ} (needs : Type 0)
       → ReadsChunks shown entries outcomes most size None old mid causes before now steps steps_now lent lent_now → Moves needs mid new wrong wrong_now steps_now steps_then lent_now lent_then → Advances entries outcomes mid new now reached
-      → (needs → IsNeeded size now) → Reaches shown result reached after → ((lent_pages : List Content) → IfFailed result (TellsOf entries outcomes most size before lent_pages new causes)) → ReadsChunks shown entries outcomes most size result old new causes before after steps steps_then lent lent_then
+      → (needs → IsNeeded size now) → Reaches shown result reached after → ((lent_pages : List Content) → IfFailed result (IsCausedByPages entries outcomes most size before lent_pages new causes)) → ReadsChunks shown entries outcomes most size result old new causes before after steps steps_then lent lent_then
   reads-on {result = result} {after = after} needs reads (Stays same causes ticked counted) (Rests still stands) need reaches tells =
       let R : Standing → Type 0 = λ s. Reaches shown result s after in no-more reads same ticked counted (subst R stands reaches) (tells reads.lent_pages)
   reads-on {new = new} needs reads (Stays same causes ticked counted) (Passes page first stands) need reaches tells = absurd (not_behind page new (same ∙ first))
@@ -117,7 +117,7 @@ module _ {X : Type 0} (shown : X → List Cell) (entries : DictContent → Resul
 
   -- an error tells of the pages that were lent before it, too
   tells-all : {old mid : List Content} {causes : List Cause} {before now : Standing} {steps steps_now lent lent_now : ℕ} (new : List Content) (error : Error) (lent_pages : List Content) (reads : ReadsChunks shown entries outcomes most size None old mid causes before now steps steps_now lent lent_now)
-      → TellsOf entries outcomes most size now lent_pages new causes error → TellsOf entries outcomes most size before (reads.lent_pages ++ lent_pages) new causes error
+      → IsCausedByPages entries outcomes most size now lent_pages new causes error → IsCausedByPages entries outcomes most size before (reads.lent_pages ++ lent_pages) new causes error
   tells-all {causes = causes} {before = before} new error lent_pages reads told =
       let P : List Outcome → Type 0 = λ rows. IsCausedByChunks most size rows error in
       subst P (sym (ap (λ s. still_wanted entries outcomes s lent_pages (causes_behind new causes)) reads.reached) ∙ still-pages entries outcomes before reads.lent_pages lent_pages (causes_behind new causes)) told
@@ -126,21 +126,21 @@ module _ {X : Type 0} (shown : X → List Cell) (entries : DictContent → Resul
       → ReadsChunks shown entries outcomes most size None old mid causes before now steps steps_now lent lent_now → Moves needs mid new wrong wrong_now steps_now steps_then lent_now lent_then
       → (needs → IsNeeded size now) → FailsBy entries outcomes most size mid new causes now error → IsFinished after → ReadsChunks shown entries outcomes most size (Some (Err error)) old new causes before after steps steps_then lent lent_then
   reads-failed {new = new} {causes = causes} {before = before} {now = now} needs error reads (Stays same wrong ticked counted) need fails finished =
-      let T : List Content → Type 0 = λ pages. TellsOf entries outcomes most size now pages new causes error in
+      let T : List Content → Type 0 = λ pages. IsCausedByPages entries outcomes most size now pages new causes error in
       let none = lent-none fails.lent_pages new (same ∙ fails.split) in
       let all = tells-all new error [] reads (subst T none fails.tells) in
-      let A : List Content → Type 0 = λ pages. TellsOf entries outcomes most size before pages new causes error in
+      let A : List Content → Type 0 = λ pages. IsCausedByPages entries outcomes most size before pages new causes error in
       no-more reads same ticked counted finished (subst A (append-nil reads.lent_pages) all)
   reads-failed {new = new} {causes = causes} {before = before} {now = now} needs error reads (Opens own page lends ticked) need fails finished =
-      let T : List Content → Type 0 = λ pages. TellsOf entries outcomes most size now pages new causes error in
+      let T : List Content → Type 0 = λ pages. IsCausedByPages entries outcomes most size now pages new causes error in
       let one = lent-one page fails.lent_pages new (sym lends.first ∙ fails.split) in
       one-more page reads lends.first lends.data_alone (need own) ticked lends.one_more finished (tells-all new error (page ∷ []) reads (subst T one fails.tells))
   reads-failed {new = new} {causes = causes} {before = before} {now = now} needs error reads (Ends own none over ticked counted) need fails finished =
-      let T : List Content → Type 0 = λ pages. TellsOf entries outcomes most size now pages new causes error in
+      let T : List Content → Type 0 = λ pages. IsCausedByPages entries outcomes most size now pages new causes error in
       let same = over.none ∙ sym none in
       let ended = lent-none fails.lent_pages new (same ∙ fails.split) in
       let all = tells-all new error [] reads (subst T ended fails.tells) in
-      let A : List Content → Type 0 = λ pages. TellsOf entries outcomes most size before pages new causes error in
+      let A : List Content → Type 0 = λ pages. IsCausedByPages entries outcomes most size before pages new causes error in
       no-more reads same ticked counted finished (subst A (append-nil reads.lent_pages) all)
 
   -- where no rows came at first, none come now
@@ -152,9 +152,21 @@ module _ {X : Type 0} (shown : X → List Cell) (entries : DictContent → Resul
   none-still (page ∷ lent_pages) old mid causes before now split needed reached (inl none) = absurd (omega (arith, none, needed.0.0))
   none-still (page ∷ lent_pages) old mid causes before now split needed reached (inr over) = let e : [] ≡ page ∷ (lent_pages ++ mid) = sym over.none ∙ split in cc
 
+  none-awaited : (s : Standing) (pages : List Content) (causes : List Cause) → Awaits size s pages causes → NoneComes s.remaining pages causes → ⊥
+  none-awaited s pages causes awaits (inl none) = omega (arith, none, awaits.0.0)
+  none-awaited s pages causes awaits (inr over) = awaits.1 over
+
+  -- where an error may come now, one could come at first
+  pub awaited-first : (lent_pages old mid : List Content) (causes : List Cause) (before now : Standing) → old ≡ lent_pages ++ mid → AreNeeded entries outcomes size before lent_pages → after_pages entries outcomes before lent_pages ≡ now → Awaits size now mid causes → Awaits size before old causes
+  awaited-first [] old mid causes before now split needed reached awaits =
+      let P : Standing → Type 0 = λ s. Awaits size s mid causes in
+      let Q : List Content → Type 0 = λ pages. Awaits size before pages causes in
+      subst Q (sym split) (subst P (sym reached) awaits)
+  awaited-first (page ∷ lent_pages) old mid causes before now split needed reached awaits = (needed.0, λ over. let e : [] ≡ page ∷ (lent_pages ++ mid) = sym over.none ∙ split in cc)
+
   pub reads-no_error : {old mid new : List Content} {causes : List Cause} {before now : Standing} {steps steps_now lent lent_now : ℕ} (error : Error) → ReadsChunks shown entries outcomes most size None old mid causes before now steps steps_now lent lent_now
       → FailsBy entries outcomes most size mid new causes now error → NoneComes before.remaining old causes → ⊥
-  reads-no_error {old = old} {mid = mid} {causes = causes} {before = before} {now = now} error reads fails none = fails.awaited (none-still reads.lent_pages old mid causes before now reads.split reads.needed reads.reached none)
+  reads-no_error {old = old} {mid = mid} {causes = causes} {before = before} {now = now} error reads fails none = none-awaited now mid causes fails.awaited (none-still reads.lent_pages old mid causes before now reads.split reads.needed reads.reached none)
 
 -- the first item of a queue was given
 reaches-given : {Item Dict : Type 0} (shown : Item → List Cell) (dict_shown : Dict → List Cell) (item : Item) (items : List Item) (remaining : ℕ) (dict : Option Dict)
@@ -210,6 +222,12 @@ module _ {X Dict : Type 0} (shown : X → List Cell) (dict_shown : Dict → List
       → still_wanted entries outcomes before old causes ≡ [] → NoneComes before.remaining old causes → Some chunk ≡ None
   none-next {old = old} {causes = causes} {before = before} (Ok item) new others reads cause gives empty none = absurd (no-chunk shown size (still_wanted entries outcomes before old causes) others item empty gives)
   none-next (Err error) new others reads cause gives empty none = absurd (reads-no_error shown entries outcomes most size error reads cause none)
+
+  pub failed-awaited : {old mid : List Content} {causes : List Cause} {before now : Standing} {steps steps_now lent lent_now : ℕ} (chunk : Result X Error) (new : List Content)
+      → ReadsChunks shown entries outcomes most size None old mid causes before now steps steps_now lent lent_now → IfFault (next.Some chunk) (FailsBy entries outcomes most size mid new causes now) → IfFailed (Some chunk) (λ _. Awaits size before old causes)
+  failed-awaited (Ok item) new reads cause = tt
+  failed-awaited {old = old} {mid = mid} {causes = causes} {before = before} {now = now} (Err error) new reads cause =
+      awaited-first shown entries outcomes most size reads.lent_pages old mid causes before now reads.split reads.needed reads.reached cause.awaited
 
   pub cut-next : (chunk : Result X Error) (items items' : List X) → items' ≡ (if is_ok chunk then items else []) → OnNoError (next.Some chunk) (IsCut size (map shown items)) → IsCut size (map shown items')
   cut-next (Ok item) items items' is cut = rw is cut

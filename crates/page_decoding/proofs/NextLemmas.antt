@@ -8,11 +8,11 @@ use Rattle.columns_core.specs.declared.cell.Cell.{Cell}
 use Rattle.columns_core.specs.declared.error.Error.{Error}
 use Rattle.parquet_page.specs.declared.page.Page.{Page}
 use Rattle.parquet_page.specs.Content.{Content, DataContent, DictContent, content, is_shaped}
-use Rattle.parquet_page.specs.Lending.{Lends, LendsShaped, Leaves, ticks}
+use Rattle.parquet_page.specs.Lending.{HasEnded, Lends, LendsShaped, Leaves, ticks}
 use Rattle.page_decoding.specs.Outcome.{Outcome, Given, Refused, IsCausedBy, causes_in, refusal_of, refused}
 use Rattle.page_decoding.specs.Column.{entries_behind, followed_by, page_rows, rows}
 use Rattle.page_decoding.specs.NextChunk.{Ends, IsLent, Moves, Opens, Stays}
-use Rattle.page_decoding.specs.Standing.{Advances, FailsBy, NoneComes, Passes, Rests, Standing, TellsOf, after_page, after_pages, causes_behind, still_wanted}
+use Rattle.page_decoding.specs.Standing.{Advances, FailsBy, IsCausedByPages, IsNeeded, Passes, Rests, Standing, after_page, after_pages, causes_behind, still_wanted}
 use Rattle.page_decoding.specs.Bytes.{IsCausedByChunks}
 use Rattle.page_decoding.proofs.BytesLemmas.{chunks-left, chunks-right, take-append}
 use Rattle.page_decoding.proofs.RowLemmas.{causes_in-append}
@@ -139,38 +139,36 @@ module _ (entries : DictContent → Result (List Cell) (List Cause)) (outcomes :
 
   -- ---- an error
 
-  none_after : (remaining : ℕ) (page : Content) (new : List Content) (causes : List Cause) → 0 < remaining → NoneComes remaining (page ∷ new) causes → ⊥
-  none_after remaining page new causes some (inl none) = omega (arith, some, none)
-  none_after remaining page new causes some (inr over) = cc
+  none_after : (page : Content) (new : List Content) (causes : List Cause) → HasEnded (page ∷ new) causes → ⊥
+  none_after page new causes over = let e : page ∷ new ≡ [] = over.none in cc
 
   -- an error tells of the page that was lent
-  pub fails-page : (most size : Option ℕ) (page : Content) (old new : List Content) (causes : List Cause) (s : Standing) (error : Error) → 0 < s.remaining → old ≡ page ∷ new
+  pub fails-page : (most size : Option ℕ) (page : Content) (old new : List Content) (causes : List Cause) (s : Standing) (error : Error) → IsNeeded size s → old ≡ page ∷ new
       → IsCausedByChunks most size (s.waiting ++ take s.remaining (page_rows entries outcomes s.dictionary page)) error → FailsBy entries outcomes most size old new causes s error
-  fails-page most size page old new causes s error some first told =
+  fails-page most size page old new causes s error need first told =
       let own = page_rows entries outcomes s.dictionary page in
       let later = rows entries outcomes (entries_behind entries outcomes s.dictionary page) [] (causes_behind new causes) in
       let rest = take (if is_empty (causes_in own) then s.remaining - length own else 0) later in
       let P : List Outcome → Type 0 = λ xs. IsCausedByChunks most size xs error in
-      let N : List Content → Type 0 = λ pages. NoneComes s.remaining pages causes in
+      let N : List Content → Type 0 = λ pages. HasEnded pages causes in
       let whole : (s.waiting ++ take s.remaining own) ++ rest ≡ s.waiting ++ take s.remaining (followed_by own later) = append_assoc s.waiting (take s.remaining own) rest ∙ ap (λ xs. s.waiting ++ xs) (sym (take-followed s.remaining own later)) in
       record {
-        awaited = λ none. none_after s.remaining page new causes some (subst N first none);
+        awaited = (need, λ over. none_after page new causes (subst N first over));
         lent_pages = page ∷ [];
         split = first;
         tells = subst P whole (chunks-left most size (s.waiting ++ take s.remaining own) rest error told);
       }
 
-  none_wrong : (remaining : ℕ) (pages : List Content) (causes : List Cause) (error : Error) → 0 < remaining → IsOneOf causes (cause_of error) → NoneComes remaining pages causes → ⊥
-  none_wrong remaining pages causes error some wrong (inl none) = omega (arith, some, none)
-  none_wrong remaining pages causes error some wrong (inr over) = let P : List Cause → Type 0 = λ found. IsOneOf found (cause_of error) in nothing_wrong (cause_of error) (subst P over.ends wrong)
+  none_wrong : (pages : List Content) (causes : List Cause) (error : Error) → IsOneOf causes (cause_of error) → HasEnded pages causes → ⊥
+  none_wrong pages causes error wrong over = let P : List Cause → Type 0 = λ found. IsOneOf found (cause_of error) in nothing_wrong (cause_of error) (subst P over.ends wrong)
 
   -- an error tells of what is wrong behind the last page
-  pub fails-end : (most size : Option ℕ) (old new : List Content) (causes : List Cause) (s : Standing) (error : Error) → 0 < s.remaining → old ≡ [] → new ≡ [] → IsOneOf causes (cause_of error) → FailsBy entries outcomes most size old new causes s error
-  fails-end most size old new causes s error some none over wrong =
-      let P : List Content → Type 0 = λ left. TellsOf entries outcomes most size s [] left causes error in
-      let told : TellsOf entries outcomes most size s [] [] causes error = chunks-right most size s.waiting (take s.remaining (refused causes)) error (wrong_end s.remaining causes error some wrong) in
+  pub fails-end : (most size : Option ℕ) (old new : List Content) (causes : List Cause) (s : Standing) (error : Error) → IsNeeded size s → old ≡ [] → new ≡ [] → IsOneOf causes (cause_of error) → FailsBy entries outcomes most size old new causes s error
+  fails-end most size old new causes s error need none over wrong =
+      let P : List Content → Type 0 = λ left. IsCausedByPages entries outcomes most size s [] left causes error in
+      let told : IsCausedByPages entries outcomes most size s [] [] causes error = chunks-right most size s.waiting (take s.remaining (refused causes)) error (wrong_end s.remaining causes error need.0 wrong) in
       record {
-        awaited = none_wrong s.remaining old causes error some wrong;
+        awaited = (need, none_wrong old causes error wrong);
         lent_pages = [];
         split = none ∙ sym over;
         tells = subst P (sym over) told;

@@ -10,7 +10,7 @@ use Rattle.parquet_page.specs.Content.{Content, DataContent, DictContent, is_dat
 use Rattle.page_decoding.specs.Bytes.{IsCausedByChunks}
 use Rattle.page_decoding.specs.Outcome.{Outcome, Given}
 use Rattle.page_decoding.specs.NextChunk.{IsFirstChunk}
-use Rattle.page_decoding.specs.Standing.{AreNeeded, IsFinished, Standing, TellsOf, after_pages}
+use Rattle.page_decoding.specs.Standing.{AreNeeded, IsCausedByPages, IsFinished, Standing, after_pages}
 
 -- What is left of a column that is read by a decoder, in chunks of so many rows: its pages, the cells that wait, how many more rows
 -- are wanted, and the entries of the dictionary.
@@ -35,8 +35,8 @@ standing_of chunks = record { waiting = map Given chunks.waiting; remaining = ch
 abbrev pub ended : {I D : Type 0} → ChunksLeft I D → ChunksLeft I D
 ended chunks = record chunks { waiting = []; remaining = 0; dictionary = None }
 
--- The first chunk of all rows that are wanted, and the others are left; or an error that tells of what is wrong with them or of a chunk
--- of them whose bytes do not fit, and none is wanted any more; or none is wanted.
+-- The first chunk of all rows that are wanted, and the others are left; or an error, want of memory or one that tells of what is wrong with
+-- them or of a chunk of them whose bytes do not fit, and none is wanted any more; or none is wanted.
 abbrev pub GivesFirstChunk : {X : Type 0} → (X → List Cell) → Option ℕ → Option ℕ → List Outcome → List Outcome → Option (Result X Error) → Type 0
 GivesFirstChunk shown most size old new (Some (Ok chunk)) = IsFirstChunk shown size old new chunk
 GivesFirstChunk shown most size old new (Some (Err error)) = IsCausedByChunks most size old error × (new ≡ [])
@@ -65,8 +65,9 @@ Reaches shown (Some (Ok chunk)) reached now = reached ≡ record { waiting = map
 Reaches shown (Some (Err error)) reached now = IsFinished now
 Reaches shown None reached now = reached ≡ now
 
--- These pages were lent, each where one was needed and each in one step. Behind them there are data pages alone. An error tells of
--- them or, where none is left, of what is wrong behind them.
+-- These pages were lent, each where one was needed and each in one step. Behind them there are data pages alone. An error is want of
+-- memory, or tells of the rows that are wanted of them or, where no page is left, of what is wrong behind them; or of a chunk of these
+-- rows whose bytes do not fit.
 pub record ReadsChunks {X : Type 0} (shown : X → List Cell) (entries : DictContent → Result (List Cell) (List Cause)) (outcomes : Option (List Cell) → DataContent → List Outcome) (most size : Option ℕ)
     (result : Option (Result X Error)) (old new : List Content) (causes : List Cause) (before after : Standing) (steps steps_now lent lent_now : ℕ) : Type 0 where
   pub lent_pages : List Content
@@ -74,6 +75,6 @@ pub record ReadsChunks {X : Type 0} (shown : X → List Cell) (entries : DictCon
   pub data_alone : (lent_pages ≡ []) ⊎ (list_all is_data new ≡ true)
   pub needed : AreNeeded entries outcomes size before lent_pages
   pub reached : Reaches shown result (after_pages entries outcomes before lent_pages) after
-  pub tells : IfFailed result (TellsOf entries outcomes most size before lent_pages new causes)
+  pub tells : IfFailed result (IsCausedByPages entries outcomes most size before lent_pages new causes)
   pub ticked : steps_now ≡ steps + length lent_pages
   pub counted : lent_now ≡ lent_more lent (length lent_pages)

@@ -36,6 +36,10 @@ IsFinished s = (s.waiting ≡ []) × (s.remaining ≡ 0)
 abbrev pub NoneComes : ℕ → List Content → List Cause → Type 0
 NoneComes remaining pages causes = (remaining ≡ 0) ⊎ HasEnded pages causes
 
+-- A page is needed, and something is to come: a page, or what is wrong behind the last.
+abbrev pub Awaits : Option ℕ → Standing → List Content → List Cause → Type 0
+Awaits size s pages causes = IsNeeded size s × (HasEnded pages causes → ⊥)
+
 -- what is wrong behind the last page, where no page is left
 abbrev pub causes_behind : List Content → List Cause → List Cause
 causes_behind [] causes = causes
@@ -70,14 +74,14 @@ module _ (entries : DictContent → Result (List Cell) (List Cause)) (outcomes :
     Rests : new ≡ old → after ≡ before → Advances old new before after
     Passes : (page : Content) → old ≡ page ∷ new → after ≡ after_page before page → Advances old new before after
 
-  -- An error tells of what is wrong with the rows that are wanted of the pages that were lent or, where none is left, behind them; or of
-  -- a chunk of these rows whose bytes do not fit.
-  abbrev pub TellsOf : Option ℕ → Option ℕ → Standing → List Content → List Content → List Cause → Error → Type 0
-  TellsOf most size before lent_pages left causes error = IsCausedByChunks most size (still_wanted before lent_pages (causes_behind left causes)) error
+  -- An error is want of memory, or tells of what is wrong with the rows that are wanted of the pages that were lent or, where none is left,
+  -- behind them; or of a chunk of these rows whose bytes do not fit.
+  abbrev pub IsCausedByPages : Option ℕ → Option ℕ → Standing → List Content → List Content → List Cause → Error → Type 0
+  IsCausedByPages most size before lent_pages left causes error = IsCausedByChunks most size (still_wanted before lent_pages (causes_behind left causes)) error
 
-  -- An error comes only where rows may come, and tells of the pages that were lent.
+  -- An error comes only where a page is needed and something is to come, and is caused by the pages that were lent.
   pub record FailsBy (most size : Option ℕ) (old new : List Content) (causes : List Cause) (before : Standing) (error : Error) : Type 0 where
-    pub awaited : NoneComes before.remaining old causes → ⊥
+    pub awaited : Awaits size before old causes
     pub lent_pages : List Content
     pub split : old ≡ lent_pages ++ new
-    pub tells : TellsOf most size before lent_pages new causes error
+    pub tells : IsCausedByPages most size before lent_pages new causes error

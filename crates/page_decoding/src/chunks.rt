@@ -2,10 +2,10 @@
 ghost use Rattle.std.specs.Prelude.{◌≡◌, IsTrue, if◌then◌else◌, is_ok, All, [], map, None, IfOk, IfErr, IfNone, IfSome, option_map};
 ghost use Rattle.std.specs.Option.{option_copied};
 ghost use Rattle.columns_core.specs.Causes.{is_invalid_argument};
-ghost use Rattle.page_decoding.specs.Chunks.{GivesFirstChunk, IfGiven, ReadsChunks, ended, standing_of};
+ghost use Rattle.page_decoding.specs.Chunks.{GivesFirstChunk, IfFailed, IfGiven, ReadsChunks, ended, standing_of};
 ghost use Rattle.page_decoding.specs.Column.{DataPagesAre};
 ghost use Rattle.page_decoding.specs.Queue.{IsChunkSize, IsCut};
-ghost use Rattle.page_decoding.specs.Standing.{NoneComes, standing, still_wanted};
+ghost use Rattle.page_decoding.specs.Standing.{Awaits, NoneComes, standing, still_wanted};
 
 use crate::decoder::{DecodedState, Decoder};
 use crate::next_chunk::next;
@@ -70,6 +70,9 @@ fn read_chunk<I: Pages, D: Decoder, L: Ledger>(
         (standing D.DecodedState.shown (D.dict_shown decoder.now) items.old.items remaining.old dict.old)
         (I.to_come iter.old) (I.causes iter.old) ≡ []
         → NoneComes remaining.old (I.to_come iter.old) (I.causes iter.old) → result ≡ None }
+    ensures awaited { IfFailed result (λ _. Awaits chunk_size (standing D.DecodedState.shown
+        (D.dict_shown decoder.now) items.old.items remaining.old dict.old)
+        (I.to_come iter.old) (I.causes iter.old)) }
     ensures own_chunk { IfGiven result (D.is_own decoder.now) }
     ensures row_count { I.row_count iter.new ≡ I.row_count iter.old }
     ensures takes { DataPagesAre (D.takes decoder.now) (I.to_come iter.new) }
@@ -184,6 +187,8 @@ impl<I: Pages, D: Decoder + Drop> Chunks<I, D> {
             (standing_of self.old) (I.to_come self.old.pages) (I.causes self.old.pages) ≡ []
             → NoneComes self.old.remaining (I.to_come self.old.pages) (I.causes self.old.pages)
             → result ≡ None }
+        ensures awaited { IfFailed result (λ _. Awaits self.old.size (standing_of self.old)
+            (I.to_come self.old.pages) (I.causes self.old.pages)) }
         ensures own { IfGiven result (D.is_own self.old.decoder) }
         ensures row_count { I.row_count self.new.pages ≡ I.row_count self.old.pages }
         ensures decoder { self.new.decoder ≡ self.old.decoder }

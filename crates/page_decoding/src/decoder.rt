@@ -1,7 +1,7 @@
 //! Decoders of pages.
 ghost use Rattle.std.specs.Prelude.{◌≡◌, ℕ, true, List, [], ◌++◌, length, take, drop, map, sum_by, Option, None, Result, Ok, IfOk, IfErr, OnOk, IfSome, option_map};
 ghost use Rattle.std.specs.Option.{option_copied};
-ghost use Rattle.columns_core.specs.Causes.{Cause, ComesOf};
+ghost use Rattle.columns_core.specs.Causes.{Cause, ComesOf, TellsOf};
 ghost use Rattle.columns_core.specs.declared.cell.Cell.{Cell};
 ghost use Rattle.parquet_page.specs.Content.{DataContent, DataOf, DictContent, data_content, dict_content, is_shaped};
 ghost use Rattle.page_decoding.specs.Bytes.{IsCausedByChunks, cell_bytes, fits_most};
@@ -69,7 +69,7 @@ pub trait Decoder {
             left self.now (option_copied dict.entry) (data_content page.now) state
             ≡ outcomes self.now (option_map (dict_shown self.now) (option_copied dict.entry))
             (data_content page.now)) }
-        ensures cause { ComesOf result
+        ensures cause { TellsOf result
             (causes_in (take 1 (outcomes self.now
             (option_map (dict_shown self.now) (option_copied dict.entry)) (data_content page.now)))) };
 

@@ -1,6 +1,6 @@
 //! Which selected rows of a page have a value.
-ghost use Rattle.std.specs.Prelude.{◌≡◌, ◌+◌, ◌<◌, ◌≤◌, ◌^◌, true, [], length, take, drop, IfOk, IfErr, IfSome, IfNone, IsSome, option_map, unwrap_or};
-ghost use Rattle.columns_core.specs.Causes.{IsOneOf, cause_of};
+ghost use Rattle.std.specs.Prelude.{◌≡◌, ◌+◌, ◌<◌, ◌≤◌, ◌^◌, true, [], length, take, drop, IfOk, IfSome, IfNone, IsSome, option_map, unwrap_or};
+ghost use Rattle.columns_core.specs.Causes.{TellsOf};
 ghost use Rattle.parquet_base.specs.Intervals.{rows_of};
 ghost use Rattle.parquet_page.specs.Content.{DataContent, DataOf, data_content, fit_in, is_shaped};
 ghost use Rattle.parquet_page.specs.Levels.{present_count};
@@ -39,8 +39,7 @@ impl FilteredOptionalPageValidity {
             filtered_steps walk (data_content page.now)
             ≡ plan (data_content page.now).selected (unwrap_or (page_places (data_content page.now)) [])) }
         ensures ok { IfOk result (λ _. levels_causes (data_content page.now) ≡ []) }
-        ensures refusal { IfErr result
-            (λ error. IsOneOf (levels_causes (data_content page.now)) (cause_of error)) }
+        ensures refusal { TellsOf result (levels_causes (data_content page.now)) }
     {
         let places = OptionalPageValidity::try_new(page)?;
         let rows = before_all(page.selected_rows, places.len());

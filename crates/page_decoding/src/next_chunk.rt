@@ -101,7 +101,8 @@ fn read_page<I: Pages, D: Decoder, L: Ledger>(
     steps: &mut Steps<L>,
 ) -> Result<bool, Error>
     requires size { IsChunkSize chunk_size }
-    requires some { 0 < remaining.old }
+    requires needed { IsNeeded chunk_size
+        (standing D.DecodedState.shown (D.dict_shown decoder.now) items.old.items remaining.old dict.old) }
     requires takes { DataPagesAre (D.takes decoder.now) (I.to_come iter.old) }
     requires own_dict { IfSome dict.old (D.is_own_dict decoder.now) }
     requires cut { IsCut chunk_size (map D.DecodedState.shown items.old.items) }

@@ -1,6 +1,6 @@
 //! Which rows of a page have a value.
-ghost use Rattle.std.specs.Prelude.{◌≡◌, ◌<◌, [], length, take, drop, unwrap_or, IfOk, IfErr, IsSome, if◌then◌else◌};
-ghost use Rattle.columns_core.specs.Causes.{IsOneOf, cause_of};
+ghost use Rattle.std.specs.Prelude.{◌≡◌, ◌<◌, [], length, take, drop, unwrap_or, IfOk, IsSome, if◌then◌else◌};
+ghost use Rattle.columns_core.specs.Causes.{TellsOf};
 ghost use Rattle.parquet_page.specs.Content.{DataContent, data_content};
 ghost use Rattle.parquet_page.specs.Levels.{present_count};
 ghost use Rattle.parquet_page.specs.Runs.{GivesRun};
@@ -42,8 +42,7 @@ pub(crate) fn level_runs(page: &DataPage<'_>) -> Result<LevelRuns, Error>
     ensures places { IfOk result (λ runs.
         page_left runs (data_content page.now) ≡ page_places (data_content page.now)) }
     ensures ok { IfOk result (λ _. levels_causes (data_content page.now) ≡ []) }
-    ensures refusal { IfErr result
-        (λ error. IsOneOf (levels_causes (data_content page.now)) (cause_of error)) }
+    ensures refusal { TellsOf result (levels_causes (data_content page.now)) }
 {
     if !has_readable_levels(page) {
         return Err(Error::NotYetImplemented(Part::Levels));
@@ -67,8 +66,7 @@ impl OptionalPageValidity {
         ensures places { IfOk result (λ walk.
             optional_left walk (data_content page.now) ≡ page_places (data_content page.now)) }
         ensures ok { IfOk result (λ _. levels_causes (data_content page.now) ≡ []) }
-        ensures refusal { IfErr result
-            (λ error. IsOneOf (levels_causes (data_content page.now)) (cause_of error)) }
+        ensures refusal { TellsOf result (levels_causes (data_content page.now)) }
     {
         Ok(OptionalPageValidity {
             runs: level_runs(page)?,

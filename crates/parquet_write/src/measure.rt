@@ -1,7 +1,7 @@
 //! Places and lengths: numbers below 2^63, as the format stores them. No vector is longer, so one above them counts
 //! as want of memory.
 
-ghost use Rattle.std.specs.Prelude.{◌≡◌, ◌<◌, ◌≤◌, ◌+◌, ◌^◌, IfOk, OnOk};
+ghost use Rattle.std.specs.Prelude.{◌≡◌, ◌<◌, ◌≤◌, ◌+◌, ◌^◌, IfOk, OnErr, OnOk};
 ghost use Rattle.compact_write.specs.Calls.{Writes};
 ghost use Rattle.compact_write.specs.Written.{count_field_bytes, i64_kind, most_step};
 
@@ -23,9 +23,10 @@ pub fn write_measure(out: &mut Vec<u8>, previous: u8, id: u8, number: u64) -> Re
     write_large_field(out, previous, id, number)
 }
 
-/// The sum of two.
+/// The sum of two. One of more than 64 bits counts as want of memory.
 pub fn sum(first: u64, second: u64) -> Result<u64, AllocError>
-    ensures { IfOk result (λ n. n ≡ first + second) }
+    ensures ok { IfOk result (λ n. n ≡ first + second) }
+    ensures err { OnErr result (2 ^ 64 ≤ first + second) }
 {
     first.checked_add(second).ok_or(AllocError)
 }
@@ -34,6 +35,7 @@ pub fn sum(first: u64, second: u64) -> Result<u64, AllocError>
 pub fn to_measure(length: usize) -> Result<u32, AllocError>
     ensures same { IfOk result (λ n. n ≡ length) }
     ensures few { OnOk result (length < 2 ^ 31) }
+    ensures err { OnErr result (2 ^ 31 ≤ length) }
 {
     if length > i32::MAX as usize {
         return Err(AllocError);

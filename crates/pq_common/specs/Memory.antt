@@ -2,7 +2,7 @@
 use Rattle.std.specs.Prelude.{ℕ, ◌+◌, ◌-◌, ◌^◌, min, Bool, ◌&&◌, ◌||◌, ◌==◌, nat_lt, List, [], ◌++◌, length, take}
 use Rattle.std.specs.List.{list_any}
 
--- what it was given, how much it can take in all, and how often it could take nothing
+-- what it was given, how much it can take in all, and how often a call failed
 pub record Memory : Type 0 where
   pub bytes : List ℕ
   pub capacity : ℕ

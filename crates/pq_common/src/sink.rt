@@ -1,5 +1,5 @@
 //! Where a tool's text goes.
-ghost use Rattle.std.specs.Prelude.{◌≡◌, ◌+◌, ◌-◌, ◌<◌, ◌≤◌, ℕ, List, Option, Some, None, length, take, IsTrue, IsFalse, IfOk, IfErr, OnOk, OnErr, MatchResult};
+ghost use Rattle.std.specs.Prelude.{◌≡◌, ◌+◌, ◌-◌, ◌^◌, ◌<◌, ◌≤◌, ℕ, List, Option, Some, None, length, take, IsTrue, IsFalse, IfOk, IfErr, OnOk, OnErr, MatchResult};
 ghost use Rattle.parquet_base.specs.Failures.{CountsFailures};
 ghost use Rattle.parquet_meta.specs.Source.{counted as counted_by};
 ghost use Rattle.pq_common.specs.Memory.{after_call, empty_memory, is_full_for, refuses_next, with_fault, with_piece};
@@ -15,7 +15,7 @@ pub trait Sink {
     /// What it was given, where it tells.
     ghost written: { Self → Option (List ℕ) };
 
-    /// How often a call has failed. It never falls, and a call that takes a piece leaves it as it was.
+    /// How often a call has failed, up to the last number that is shown. It never falls, and a call that takes a piece leaves it as it was.
     ghost faults: { Self → ℕ };
 
     /// Takes a front of the piece, and says how long.
@@ -26,6 +26,8 @@ pub trait Sink {
             IsAppended (written self.old) (written self.new) (take n piece.now)) }
         ensures refused { OnErr result (written self.new ≡ written self.old) }
         ensures counted { CountsFailures (faults self.old) (faults self.new) result }
+        ensures raised { faults self.new ≡ counted_by (faults self.old) result }
+        ensures bounded { faults self.new < 2 ^ 64 }
         ensures quiet { OnOk result (faults self.new ≡ faults self.old) };
 }
 
@@ -52,7 +54,7 @@ pub struct MemorySink {
 }
 
 impl Model for MemorySink {
-    ghost use Rattle.std.specs.Prelude.{◌≤◌, take, vec_len};
+    ghost use Rattle.std.specs.Prelude.{◌<◌, ◌≤◌, ◌^◌, take, vec_len};
     ghost use Rattle.pq_common.specs.Memory.{Memory};
 
     ghost Value = { Memory };
@@ -63,7 +65,7 @@ impl Model for MemorySink {
       faults = sink.faults;
     } };
 
-    ghost invariant = { λ sink. sink.length ≤ vec_len sink.buffer };
+    ghost invariant = { λ sink. (sink.length ≤ vec_len sink.buffer) × (sink.faults < 2 ^ 64) };
 }
 
 impl MemorySink {
@@ -94,6 +96,7 @@ impl MemorySink {
     fn count_fault(&mut self)
         ensures counted { self.new ≡ with_fault self.old }
         ensures later { self.old.faults ≤ self.new.faults }
+        ensures bounded { self.new.faults < 2 ^ 64 }
     {
         self.faults = self.faults.saturating_add(1);
     }
@@ -111,9 +114,11 @@ impl Sink for MemorySink {
             IsAppended (Some self.old.bytes) (Some self.new.bytes) (take n piece.now)) }
         ensures refused { OnErr result (Some self.new.bytes ≡ Some self.old.bytes) }
         ensures counted { CountsFailures self.old.faults self.new.faults result }
+        ensures raised { self.new.faults ≡ counted_by self.old.faults result }
+        ensures bounded { self.new.faults < 2 ^ 64 }
         ensures quiet { OnOk result (self.new.faults ≡ self.old.faults) }
 
-        // It takes as much as there is room for, and fails exactly where there is none.
+        // It takes as much as there is room for, and fails exactly where there is none for a piece that is not empty.
         ensures exact { MatchResult result
             (λ n. self.new ≡ with_piece self.old piece.now)
             (λ _. self.new ≡ with_fault self.old) }
@@ -189,9 +194,11 @@ impl Sink for FailingSink {
             IsAppended (Some self.old.memory.bytes) (Some self.new.memory.bytes) (take n piece.now)) }
         ensures refused { OnErr result (Some self.new.memory.bytes ≡ Some self.old.memory.bytes) }
         ensures counted { CountsFailures self.old.memory.faults self.new.memory.faults result }
+        ensures raised { self.new.memory.faults ≡ counted_by self.old.memory.faults result }
+        ensures bounded { self.new.memory.faults < 2 ^ 64 }
         ensures quiet { OnOk result (self.new.memory.faults ≡ self.old.memory.faults) }
 
-        // A call fails exactly where its number is listed or there is no room. Else it takes as much as there is
+        // A call fails exactly where its number is listed, or there is no room for a piece that is not empty. Else it takes as much as there is
         // room for.
         ensures exact { MatchResult result
             (λ n. self.new ≡ after_call self.old (with_piece self.old.memory piece.now))
@@ -233,15 +240,15 @@ impl<R: Print + Drop> Sink for StdSink<R> {
         ensures at_most { IfOk result (λ n. n ≤ length piece.now) }
         ensures some { IfOk result (λ n. 0 < length piece.now → 0 < n) }
         ensures counted { CountsFailures self.old.faults self.new.faults result }
+        ensures raised { self.new.faults ≡ counted_by self.old.faults result }
+        ensures bounded { self.new.faults < 2 ^ 64 }
         ensures quiet { OnOk result (self.new.faults ≡ self.old.faults) }
-
-        // A failure is counted once.
-        ensures exact { self.new.faults ≡ counted_by self.old.faults result }
     {
+        let faults = self.faults;
         match self.rt.write_some(piece) {
             Ok(count) if count > 0 || piece.is_empty() => Ok(count),
             _ => {
-                self.faults = self.faults.saturating_add(1);
+                self.faults = faults.saturating_add(1);
                 Err(Failed)
             }
         }

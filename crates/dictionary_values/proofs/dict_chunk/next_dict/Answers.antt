@@ -1,4 +1,4 @@
-use Rattle.std.proofs.Common.{◌≡◌, ◌∙◌, List, [], Option, Some, All, ap, map, subst, sym}
+use Rattle.std.proofs.Common.{◌≡◌, ◌∙◌, List, [], Option, Some, All, ap, map, refl, subst, sym}
 use Rattle.std.specs.Prelude.{IfOk, option_map, unwrap_or}
 use Rattle.columns_core.specs.Array.{cells}
 use Rattle.columns_core.specs.Keyed.{named_cells}
@@ -201,3 +201,23 @@ returns-in-Some-clause-dictionary g c =
     let advances = one-advances shown cells c.in-Some-Ok.field-0 keys c.in-Some-Ok.field-0-is entries most old new before c.next.new.items.items c.next.new.remaining c.next.new.dict c.in-Some-Ok.ensures.standing in
     let first = one-first shown cells c.in-Some-Ok.field-0 keys c.in-Some-Ok.field-0-is c.args.chunk_size _ _ c.in-Some-Ok.ensures.chunk in
     on-array _ c.array_of.result (next-names-stay entries most old new causes causes_now before c.requires.keyed shown cells c.args.chunk_size c.next.new.items.items c.next.new.remaining c.next.new.dict keys advances first)
+
+pub returns-in-More-clause-standing : goal.returns-in-More-clause-standing
+returns-in-More-clause-standing g c = (_, c.in-More.ensures.standing, refl)
+
+pub returns-in-None-clause-standing : goal.returns-in-None-clause-standing
+returns-in-None-clause-standing g c = (_, c.in-None.ensures.standing, refl)
+
+pub returns-in-Some-clause-standing : goal.returns-in-Some-clause-standing
+returns-in-Some-clause-standing g c =
+    let shown = λ (d : DecodedKeys g.row.K.Denot). key_cells g.K.DictionaryKey.number d.keys.items d.validity in
+    let entries = g.R.ReadDict.entries c.args.read_dict.now in
+    let most = g.K.StoredKey.key_count in
+    let old = g.I.Pages.to_come c.args.iter.now in
+    let new = g.I.Pages.to_come c.next.new.iter in
+    let causes = g.I.Pages.causes c.args.iter.now in
+    let causes_now = g.I.Pages.causes c.next.new.iter in
+    let before = standing shown cells c.args.items.now.items c.args.remaining.now c.args.dict.now in
+    let keys = c.in-Some-Ok.keys in
+    let advances = one-advances shown cells c.in-Some-Ok.field-0 keys c.in-Some-Ok.field-0-is entries most old new before c.next.new.items.items c.next.new.remaining c.next.new.dict c.in-Some-Ok.ensures.standing in
+    on-array _ c.array_of.result (_, advances, refl)

@@ -3,7 +3,7 @@ use Rattle.columns_core.specs.Causes.{Cause}
 use Rattle.page_decoding.specs.NextChunk.{IfFault}
 use Rattle.page_decoding.specs.Standing.{FailsBy, IsNeeded, standing}
 use Rattle.page_decoding.specs.declared.queue.MaybeNext.TheVariants as next
-use Rattle.page_decoding.proofs.ChunkLemmas.{cut-next, gives-next, moves-same, none-next, own-next, own_chunk-next, own_dict-next, reads-next, reads-on}
+use Rattle.page_decoding.proofs.ChunkLemmas.{cut-next, failed-awaited, gives-next, moves-same, none-next, own-next, own_chunk-next, own_dict-next, reads-next, reads-on}
 use Rattle.page_decoding.proofs.chunks.read_chunk.Goals as goal
 
 pub loop-chunk-preserved : goal.loop-chunk-preserved
@@ -61,6 +61,19 @@ returns-in-Some-clause-ended g c empty none =
     let gives = gives-next shown dict_shown entries outcomes (g.D.Decoder.most_bytes c.args.decoder.now) c.args.chunk_size c.in-Some.chunk _ _ _ _ _ _ now (g.I.Pages.to_come c.loop-chunk.iter) (g.I.Pages.to_come c.next.new.iter) (g.I.Pages.causes c.loop-chunk.iter) (g.I.Pages.causes c.next.new.iter) _
     c.end_after_error.ensures.items c.end_after_error.ensures.remaining c.end_after_error.ensures.dict before.rows c.in-Some.ensures.chunk c.in-Some.ensures.cause in
     none-next shown dict_shown entries outcomes (g.D.Decoder.most_bytes c.args.decoder.now) c.args.chunk_size c.in-Some.chunk (g.I.Pages.to_come c.next.new.iter) _ before.pages (subst F before.causes c.in-Some.ensures.cause) gives empty none
+
+pub returns-in-Some-clause-awaited : goal.returns-in-Some-clause-awaited
+returns-in-Some-clause-awaited g c =
+    let shown = g.D.DecodedState.DecodedState.shown in
+    let dict_shown = g.D.Decoder.dict_shown c.args.decoder.now in
+    let entries = g.D.Decoder.entries c.args.decoder.now in
+    let outcomes = g.D.Decoder.outcomes c.args.decoder.now in
+    let most = g.D.Decoder.most_bytes c.args.decoder.now in
+    let before = c.loop-chunk.invariant in
+    let now = standing shown dict_shown c.loop-chunk.items.items c.loop-chunk.remaining c.loop-chunk.dict in
+    let new = g.I.Pages.to_come c.next.new.iter in
+    let F : List Cause → Type 0 = λ causes. IfFault (next.Some c.in-Some.chunk) (FailsBy entries outcomes most c.args.chunk_size (g.I.Pages.to_come c.loop-chunk.iter) new causes now) in
+    failed-awaited shown dict_shown entries outcomes most c.args.chunk_size c.in-Some.chunk new before.pages (subst F before.causes c.in-Some.ensures.cause)
 
 pub returns-in-Some-clause-own_chunk : goal.returns-in-Some-clause-own_chunk
 returns-in-Some-clause-own_chunk g c = own_chunk-next (g.D.Decoder.is_own c.args.decoder.now) c.in-Some.chunk c.in-Some.ensures.own_chunk

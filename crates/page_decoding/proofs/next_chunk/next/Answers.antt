@@ -228,6 +228,11 @@ returns-in-Ok-false-clause-waits g c =
     let front : GivesFront shown c.args.chunk_size old new c.give_front-in-Ok-false.result = c.give_front-in-Ok-false.ensures.chunk (take c.read_page.new.remaining coming) (inr (ended ∙ take-nil c.read_page.new.remaining)) in
     front-more _ shown c.args.chunk_size old new c.give_front-in-Ok-false.result front
 
+pub read_page-requires-clause-needed : goal.read_page-requires-clause-needed
+read_page-requires-clause-needed g c =
+    let some : 0 < c.args.remaining.now = omega (arith, c.if-remaining-eq0.false) in
+    needed-from g.D.DecodedState.DecodedState.shown (g.D.Decoder.dict_shown c.args.decoder.now) c.args.chunk_size c.args.items.now.items c.args.remaining.now c.args.dict.now c.requires.size c.requires.cut some (c.begins_full.ensures.not_full c.if-begins_full.false)
+
 pub returns-in-Err-clause-pages : goal.returns-in-Err-clause-pages
 returns-in-Err-clause-pages g c =
     let some : 0 < c.args.remaining.now = omega (arith, c.if-remaining-eq0.false) in

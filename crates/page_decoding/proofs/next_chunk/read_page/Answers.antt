@@ -16,25 +16,25 @@ pub returns-in_err-deserialize_dict-in-Some-Dict-clause-pages : goal.returns-in_
 returns-in_err-deserialize_dict-in-Some-Dict-clause-pages g c =
     let is = c.in_ok-next.was ∙ ap Ok (c.in-Some-Dict.is ∙ ap Some c.in-Some-Dict.field-0-is) in
     let own = is-lent (Dict c.in-Some-Dict.page) is c.next.follows.holds-at-none c.next.ensures.page in
-    opens (0 < c.args.remaining.now) c.args.steps.now c.next.new.steps c.next.result (Dict c.in-Some-Dict.page) c.requires.some own is c.next.ensures.steps
+    opens (0 < c.args.remaining.now) c.args.steps.now c.next.new.steps c.next.result (Dict c.in-Some-Dict.page) c.requires.needed.0 own is c.next.ensures.steps
 
 pub returns-in_ok-deserialize_dict-in-Some-Dict-clause-pages : goal.returns-in_ok-deserialize_dict-in-Some-Dict-clause-pages
 returns-in_ok-deserialize_dict-in-Some-Dict-clause-pages g c =
     let is = c.in_ok-next.was ∙ ap Ok (c.in-Some-Dict.is ∙ ap Some c.in-Some-Dict.field-0-is) in
     let own = is-lent (Dict c.in-Some-Dict.page) is c.next.follows.holds-at-none c.next.ensures.page in
-    opens (0 < c.args.remaining.now) c.args.steps.now c.next.new.steps c.next.result (Dict c.in-Some-Dict.page) c.requires.some own is c.next.ensures.steps
+    opens (0 < c.args.remaining.now) c.args.steps.now c.next.new.steps c.next.result (Dict c.in-Some-Dict.page) c.requires.needed.0 own is c.next.ensures.steps
 
 pub returns-in_err-add_page-in-Some-Data-clause-pages : goal.returns-in_err-add_page-in-Some-Data-clause-pages
 returns-in_err-add_page-in-Some-Data-clause-pages g c =
     let is = c.in_ok-next.was ∙ ap Ok (c.in-Some-Data.is ∙ ap Some c.in-Some-Data.field-0-is) in
     let own = is-lent (Data c.in-Some-Data.page) is c.next.follows.holds-at-none c.next.ensures.page in
-    opens (0 < c.args.remaining.now) c.args.steps.now c.next.new.steps c.next.result (Data c.in-Some-Data.page) c.requires.some own is c.next.ensures.steps
+    opens (0 < c.args.remaining.now) c.args.steps.now c.next.new.steps c.next.result (Data c.in-Some-Data.page) c.requires.needed.0 own is c.next.ensures.steps
 
 pub returns-in_ok-add_page-in-Some-Data-clause-pages : goal.returns-in_ok-add_page-in-Some-Data-clause-pages
 returns-in_ok-add_page-in-Some-Data-clause-pages g c =
     let is = c.in_ok-next.was ∙ ap Ok (c.in-Some-Data.is ∙ ap Some c.in-Some-Data.field-0-is) in
     let own = is-lent (Data c.in-Some-Data.page) is c.next.follows.holds-at-none c.next.ensures.page in
-    opens (0 < c.args.remaining.now) c.args.steps.now c.next.new.steps c.next.result (Data c.in-Some-Data.page) c.requires.some own is c.next.ensures.steps
+    opens (0 < c.args.remaining.now) c.args.steps.now c.next.new.steps c.next.result (Data c.in-Some-Data.page) c.requires.needed.0 own is c.next.ensures.steps
 
 pub returns-in_err-deserialize_dict-in-Some-Dict-clause-cause : goal.returns-in_err-deserialize_dict-in-Some-Dict-clause-cause
 returns-in_err-deserialize_dict-in-Some-Dict-clause-cause g c =
@@ -49,7 +49,7 @@ returns-in_err-deserialize_dict-in-Some-Dict-clause-cause g c =
     let page = dict_content c.in-Some-Dict.page in
     let error = c.in_err-deserialize_dict-in-Some-Dict.field-0.0 in
     let fails : FailsBy entries outcomes (g.D.Decoder.most_bytes c.args.decoder.now) c.args.chunk_size old new causes before error =
-    fails-page entries outcomes (g.D.Decoder.most_bytes c.args.decoder.now) c.args.chunk_size (DictOf page) old new causes before error c.requires.some own.first (chunks-right (g.D.Decoder.most_bytes c.args.decoder.now) c.args.chunk_size before.waiting (take c.args.remaining.now (refusal_of (entries page))) error (wrong_entries c.args.remaining.now (entries page) error c.requires.some c.in_err-deserialize_dict-in-Some-Dict.ensures.cause)) in
+    fails-page entries outcomes (g.D.Decoder.most_bytes c.args.decoder.now) c.args.chunk_size (DictOf page) old new causes before error c.requires.needed own.first (chunks-right (g.D.Decoder.most_bytes c.args.decoder.now) c.args.chunk_size before.waiting (take c.args.remaining.now (refusal_of (entries page))) error (wrong_entries c.args.remaining.now (entries page) error c.requires.needed.0 c.in_err-deserialize_dict-in-Some-Dict.ensures.cause)) in
     search rules
 
 pub returns-in_err-add_page-in-Some-Data-clause-cause : goal.returns-in_err-add_page-in-Some-Data-clause-cause
@@ -67,7 +67,7 @@ returns-in_err-add_page-in-Some-Data-clause-cause g c =
     let same : outcomes (option_map shown (option_copied c.as_ref.result)) page ≡ outcomes before.dictionary page = ap (λ d. outcomes (option_map shown d) page) c.as_ref.ensures.value in
     let error = c.in_err-add_page-in-Some-Data.field-0.0 in
     let P : List Outcome → Type 0 = λ rows. IsCausedByChunks (g.D.Decoder.most_bytes c.args.decoder.now) c.args.chunk_size (before.waiting ++ take c.args.remaining.now rows) error in
-    let fails : FailsBy entries outcomes (g.D.Decoder.most_bytes c.args.decoder.now) c.args.chunk_size old new causes before error = fails-page entries outcomes (g.D.Decoder.most_bytes c.args.decoder.now) c.args.chunk_size (DataOf page) old new causes before error c.requires.some own.first (subst P same c.in_err-add_page-in-Some-Data.ensures.cause) in
+    let fails : FailsBy entries outcomes (g.D.Decoder.most_bytes c.args.decoder.now) c.args.chunk_size old new causes before error = fails-page entries outcomes (g.D.Decoder.most_bytes c.args.decoder.now) c.args.chunk_size (DataOf page) old new causes before error c.requires.needed own.first (subst P same c.in_err-add_page-in-Some-Data.ensures.cause) in
     search rules
 
 pub returns-in_err-next-clause-cause : goal.returns-in_err-next-clause-cause
@@ -80,7 +80,7 @@ returns-in_err-next-clause-cause g c =
     let before = standing g.D.DecodedState.DecodedState.shown (g.D.Decoder.dict_shown c.args.decoder.now) c.args.items.now.items c.args.remaining.now c.args.dict.now in
     let error = c.in_err-next.field-0.0 in
     let over = lends-error old causes error c.in_err-next.ensures.page in
-    let fails : FailsBy entries outcomes (g.D.Decoder.most_bytes c.args.decoder.now) c.args.chunk_size old new causes before error = fails-end entries outcomes (g.D.Decoder.most_bytes c.args.decoder.now) c.args.chunk_size old new causes before error c.requires.some over.0 (is-over error c.in_err-next.was c.next.follows.holds-at-none) over.1 in
+    let fails : FailsBy entries outcomes (g.D.Decoder.most_bytes c.args.decoder.now) c.args.chunk_size old new causes before error = fails-end entries outcomes (g.D.Decoder.most_bytes c.args.decoder.now) c.args.chunk_size old new causes before error c.requires.needed over.0 (is-over error c.in_err-next.was c.next.follows.holds-at-none) over.1 in
     search rules
 
 pub returns-in_ok-deserialize_dict-in-Some-Dict-clause-rows : goal.returns-in_ok-deserialize_dict-in-Some-Dict-clause-rows

@@ -16,8 +16,8 @@ returns-clause-cells c =
     IfOk-weaker c.try_new.result _ (λ array. map (cell_of Bytes) array.items ≡ map Bytes c.args.dict.items)
     (λ array e. ap (λ a. map (cell_of Bytes) a.items) e ∙ all-there Bytes (fixed_pieces (fixed_size c.args.data_type) bytes) ∙ ap (map Bytes) items) c.try_new.ensures.array
 
-pub returns-clause-memory : goal.returns-clause-memory
-returns-clause-memory c =
+pub returns-clause-granted : goal.returns-clause-granted
+returns-clause-granted c =
     let bytes = c.into_values.result.items in
     let size : fixed_size c.args.data_type ≡ c.args.dict.size = c.requires.fits ∙ sym c.requires.own in
     let P : ℕ → Type 0 = λ n. ArePieces n bytes None in

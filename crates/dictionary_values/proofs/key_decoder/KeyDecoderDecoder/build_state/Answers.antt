@@ -1,4 +1,4 @@
-use Rattle.std.proofs.Common.{◌≡◌, ◌∙◌, ap, inr}
+use Rattle.std.proofs.Common.{◌≡◌, ◌∙◌, ap}
 use Rattle.std.specs.Option.{option_copied}
 use Rattle.parquet_meta.specs.declared.metadata.PhysicalType.TheVariants.{ByteArray}
 use Rattle.parquet_page.specs.Content.{data_content}
@@ -7,11 +7,11 @@ use Rattle.dictionary_values.proofs.BuildLemmas.{none-carried, opened-cause, ope
 use Rattle.dictionary_values.proofs.key_decoder.KeyDecoderDecoder.build_state.Goals as goal
 
 pub returns-in_default-clause-cause : goal.returns-in_default-clause-cause
-returns-in_default-clause-cause g c = inr (none-carried g.K.StoredKey.key_count (option_copied c.args.dict) (data_content c.args.page.now) (ap option_copied c.in_default.is))
+returns-in_default-clause-cause g c = none-carried g.K.StoredKey.key_count (option_copied c.args.dict) (data_content c.args.page.now) (ap option_copied c.in_default.is)
 
 pub returns-then-not-has_keys-clause-cause : goal.returns-then-not-has_keys-clause-cause
 returns-then-not-has_keys-clause-cause g c =
-    inr (other-carried g.K.StoredKey.key_count (option_copied c.args.dict) (data_content c.args.page.now) c.in-Some.entries.now (ap option_copied c.in-Some.is) c.if-not-has_keys.ensures)
+    other-carried g.K.StoredKey.key_count (option_copied c.args.dict) (data_content c.args.page.now) c.in-Some.entries.now (ap option_copied c.in-Some.is) c.if-not-has_keys.ensures
 
 pub returns-clause-state : goal.returns-clause-state
 returns-clause-state g c =

@@ -1,15 +1,15 @@
 use Rattle.std.proofs.Common.{rules, ◌∙◌, ap, sym, subst, ℕ, List, length}
 use Rattle.std.specs.Prelude.{option_map}
 use Rattle.std.specs.Option.{option_copied}
-use Rattle.columns_core.specs.Causes.{cause_of}
+use Rattle.columns_core.specs.Causes.{IsOneOf, cause_of}
 use Rattle.parquet_page.specs.Content.{data_content}
 use Rattle.parquet_page.specs.Levels.{body_of}
 use Rattle.page_decoding.specs.FilteredLeft.{filtered_steps}
-use Rattle.page_decoding.specs.Outcome.{IsCausedBy}
+use Rattle.page_decoding.specs.Outcome.{causes_in}
 use Rattle.flat_values.specs.Encodings.{as_encoding}
 use Rattle.flat_values.specs.FlatLeft.{IsStateOf, given_along, values_left}
 use Rattle.flat_values.specs.Outcomes.{selected_outcomes}
-use Rattle.std.proofs.Common.{take, inr}
+use Rattle.std.proofs.Common.{take}
 use Rattle.flat_values.proofs.FlatLemmas.{GivesAll, built, bytes-are, counted-entries, no-encoding, no-levels, no-values, told-entries}
 use Rattle.flat_values.proofs.flat_decoder.FlatDecoderDecoder.build_state.Given.{Over}
 use Rattle.flat_values.proofs.flat_decoder.FlatDecoderDecoder.build_state.Goals as goal
@@ -18,7 +18,7 @@ pub returns-in_default-clause-cause : goal.returns-in_default-clause-cause
 returns-in_default-clause-cause g c =
     let self = c.args.self.now.values in
     let shown = g.V.ValueDecoder.dict_shown self in
-    inr (no-encoding (g.V.ValueDecoder.rule self) c.is_some.result (option_map shown (option_copied c.args.dict)) (data_content c.args.page.now) (told-entries shown c.args.dict ∙ sym c.is_some.ensures) c.in_default.ensures)
+    no-encoding (g.V.ValueDecoder.rule self) c.is_some.result (option_map shown (option_copied c.args.dict)) (data_content c.args.page.now) (told-entries shown c.args.dict ∙ sym c.is_some.ensures) c.in_default.ensures
 
 pub returns-in_err-walk-clause-cause : goal.returns-in_err-walk-clause-cause
 returns-in_err-walk-clause-cause g c =
@@ -27,8 +27,8 @@ returns-in_err-walk-clause-cause g c =
     let page = data_content c.args.page.now in
     let entries = option_map shown (option_copied c.args.dict) in
     let error = c.in_err-walk.field-0.0 in
-    let cause : IsCausedBy (take 1 (selected_outcomes (g.V.ValueDecoder.rule self) entries page)) error =
-    inr (no-levels (g.V.ValueDecoder.rule self) c.is_some.result entries page (as_encoding c.in-Some.encoding) (cause_of error) (told-entries shown c.args.dict ∙ sym c.is_some.ensures) c.in-Some.ensures c.in_err-walk.ensures.refusal) in
+    let cause : IsOneOf (causes_in (take 1 (selected_outcomes (g.V.ValueDecoder.rule self) entries page))) (cause_of error) =
+    no-levels (g.V.ValueDecoder.rule self) c.is_some.result entries page (as_encoding c.in-Some.encoding) (cause_of error) (told-entries shown c.args.dict ∙ sym c.is_some.ensures) c.in-Some.ensures c.in_err-walk.ensures.refusal in
     search rules
 
 pub returns-in_err-values-clause-cause : goal.returns-in_err-values-clause-cause
@@ -39,10 +39,10 @@ returns-in_err-values-clause-cause g c =
     let entries = option_map shown (option_copied c.args.dict) in
     let body = body_of c.in_ok-bytes.field-0-0.now c.in_ok-bytes.field-0-1.now c.in_ok-bytes.bytes.now in
     let error = c.in_err-values.field-0.0 in
-    let cause : IsCausedBy (take 1 (selected_outcomes (g.V.ValueDecoder.rule self) entries page)) error =
-    inr (no-values (g.V.ValueDecoder.rule self) c.is_some.result entries page (as_encoding c.in-Some.encoding) body c.stored_count-count.result (filtered_steps c.in_ok-walk.walk page)
+    let cause : IsOneOf (causes_in (take 1 (selected_outcomes (g.V.ValueDecoder.rule self) entries page))) (cause_of error) =
+    no-values (g.V.ValueDecoder.rule self) c.is_some.result entries page (as_encoding c.in-Some.encoding) body c.stored_count-count.result (filtered_steps c.in_ok-walk.walk page)
     (told-entries shown c.args.dict ∙ sym c.is_some.ensures) c.in-Some.ensures c.in_ok-walk.ensures.ok c.in_ok-bytes.ensures.parts c.in_ok-walk.ensures.steps c.stored_count-count.ensures
-    (g.V.ValueDecoder.physical self) (option_map (λ dict. length (shown dict)) (option_copied c.args.dict)) (cause_of error) c.requires.takes (counted-entries shown (option_copied c.args.dict)) c.in_err-values.ensures.cause) in
+    (g.V.ValueDecoder.physical self) (option_map (λ dict. length (shown dict)) (option_copied c.args.dict)) (cause_of error) c.requires.takes (counted-entries shown (option_copied c.args.dict)) c.in_err-values.ensures.cause in
     search rules
 
 -- what the state gives
