@@ -6,8 +6,8 @@ use Rattle.columns_core.specs.declared.error.Error.{Error}
 use Rattle.page_decoding.proofs.RowLemmas.{one_of-left, one_of-right}
 
 module _ (e : Error) where
-  abbrev pub TellsOf : List Cause → Type 0
-  TellsOf told = IsWantOfMemory e ⊎ IsOneOf told (cause_of e)
+  abbrev pub ComesFrom : List Cause → Type 0
+  ComesFrom told = IsWantOfMemory e ⊎ IsOneOf told (cause_of e)
 
 pub first_of : (cause : Cause) (rest : List Cause) → Contains (cause ∷ rest) cause
 first_of cause rest = (0, omega arith, refl)
@@ -18,6 +18,6 @@ one_of_any f [] i d cause h told = absurd (omega arith)
 one_of_any f (x ∷ xs) zero d cause h told = one_of-left (f x) (flat_map f xs) cause told
 one_of_any f (x ∷ xs) (suc i) d cause h told = one_of-right (f x) (flat_map f xs) cause (one_of_any f xs i d cause (omega arith) told)
 
-pub told_any : {X : Type 0} (e : Error) (f : X → List Cause) (xs : List X) (i : ℕ) (d : X) → i < length xs → TellsOf e (f (get_or xs i d)) → TellsOf e (flat_map f xs)
+pub told_any : {X : Type 0} (e : Error) (f : X → List Cause) (xs : List X) (i : ℕ) (d : X) → i < length xs → ComesFrom e (f (get_or xs i d)) → ComesFrom e (flat_map f xs)
 told_any e f xs i d h (inl memory) = inl memory
 told_any e f xs i d h (inr told) = inr (one_of_any f xs i d (cause_of e) h told)

@@ -1,8 +1,8 @@
 -- The columns of a field, with their types, as references show them.
 use Rattle.std.proofs.Common.{◌≡◌, refl, sym, ◌∙◌, ap, subst, ℕ, ◌+◌, ◌≤◌, Bool, true, false, Bor, List, [], ◌∷◌, length, map, Option, Some, None, arith, sum_by}
-use Rattle.std.specs.Prelude.{◌==◌, IfSome, flat_map, zip}
-use Rattle.std.specs.List.{AllZip}
-use Rattle.std.proofs.lemmas.Bool.{eq-eqb, eqb-true}
+use Rattle.std.specs.Prelude.{◌&&◌, ◌==◌, IfSome, flat_map, zip}
+use Rattle.std.specs.List.{AllZip, list_all}
+use Rattle.std.proofs.lemmas.Bool.{eq-eqb, eqb-true, false_from_ne_true}
 use Rattle.std.proofs.lemmas.List.{length-map}
 use Rattle.columns_core.specs.Causes.{Cause, IsOneOf, NotYetImplemented, and_then, unless}
 use Rattle.columns_core.specs.declared.data_type.DataType.{DataType}
@@ -13,7 +13,7 @@ use Rattle.columns_core.specs.declared.error.Part.{Part}
 use Rattle.parquet_meta.specs.Indexes.{column_index_length, field_columns}
 use Rattle.parquet_meta.specs.declared.metadata.ColumnChunkMetaData.{ColumnChunkMetaData}
 use Rattle.parquet_meta.specs.Source.{IsReadFailure}
-use Rattle.parquet_indexes.specs.FieldStatistics.{IsOfColumn, IsOfField, causes_of_field, causes_of_typed, column_indexes_length, typed_columns}
+use Rattle.parquet_indexes.specs.FieldStatistics.{IsOfColumn, IsOfField, causes_of_field, causes_of_typed, column_indexes_length, is_carried_column, is_carried_field, typed_columns}
 use Rattle.parquet_statistics.specs.LeafTypes.{leaf_types}
 use Rattle.parquet_indexes.specs.FieldTypes.{arranged}
 use Rattle.parquet_indexes.specs.declared.page_statistics.ColumnPageStatistics.{ColumnPageStatistics}
@@ -40,6 +40,11 @@ module _ (chunks : List ColumnChunkMetaData) (field : Field) where
     by true not_so = absurd (not_so refl)
     by false not_so = first_of NotYetImplemented []
 
+  pub uneven_uncarried : (length Inside ≡ length Own → ⊥) → is_carried_field chunks field ≡ false
+  uneven_uncarried differ =
+      ap (λ test. test && list_all is_carried_column (typed_columns chunks field))
+      (false_from_ne_true (length Inside == length Own) (λ same. differ (eqb-true (length Inside) (length Own) same)))
+
   even_causes : (file : List ℕ) → length Inside ≡ length Own → causes_of_field file chunks field ≡ flat_map (causes_of_typed file) (typed_columns chunks field)
   even_causes file same = ap (by_test file) (eq-eqb (length Inside) (length Own) same)
 
@@ -58,6 +63,12 @@ module _ (chunks : List ColumnChunkMetaData) (field : Field) where
 
     causes_are : (file : List ℕ) → length types ≡ length columns → causes_of_field file chunks field ≡ flat_map (causes_of_typed file) Typed
     causes_are file same = even_causes file (even_lists same) ∙ ap (flat_map (causes_of_typed file)) (sym typed_are)
+
+    -- As many columns as types are carried where each is.
+    pub field_carried : length types ≡ length columns → is_carried_field chunks field ≡ list_all is_carried_column Typed
+    field_carried same =
+        ap (λ test. test && list_all is_carried_column (typed_columns chunks field)) (eq-eqb (length Inside) (length Own) (even_lists same))
+        ∙ ap (list_all is_carried_column) (sym typed_are)
 
     pub columns_fail : (told : Option (List ℕ)) (before now : ℕ) (e : Error) → length types ≡ length columns → IsReadFailure told before now (λ file. flat_map (causes_of_typed file) Typed) e
         → IsReadFailure told before now (λ file. causes_of_field file chunks field) e

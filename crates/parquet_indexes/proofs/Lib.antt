@@ -1,4 +1,5 @@
 mod AnswerLemmas
+mod CarriedLemmas
 mod CountLemmas
 mod DecimalLemmas
 mod ErrorLemmas

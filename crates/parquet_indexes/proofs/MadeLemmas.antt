@@ -1,13 +1,16 @@
 -- What is made of each of a list that vectors show, and what is made next of what was found.
-use Rattle.std.proofs.Common.{◌≡◌, ◌∙◌, ap, refl, inl, inr, ℕ, ◌+◌, ◌<◌, List, [], ◌∷◌, ◌++◌, length, map, drop, get_or, Option, Some, None, Ok, Err}
+use Rattle.std.proofs.Common.{◌≡◌, ◌∙◌, ap, sym, refl, inl, inr, ℕ, suc, ◌+◌, ◌<◌, List, [], ◌∷◌, ◌++◌, length, map, drop, get_or, Option, Some, None, Ok, Err, Vec, Global}
 use Rattle.std.specs.Prelude.{IfOk, IfErr, IfSome, Result}
+use Rattle.std.proofs.lemmas.List.{length-map}
 use Rattle.columns_core.specs.Refusals.{IsDamaged}
 use Rattle.columns_core.specs.declared.error.Error.{Error}
 use Rattle.columns_core.specs.declared.error.Error.TheVariants as error
 use Rattle.parquet_base.specs.Reading.{◌>>=◌}
 use Rattle.parquet_meta.specs.Lists.{all_of}
 use Rattle.parquet_meta.specs.Source.{Finds}
-use Rattle.parquet_meta.proofs.ListLemmas.{IsMaking, item_and_others, making-ends, making-fails, making-goes_on}
+use Rattle.parquet_encoding.proofs.StepLemmas.{some_is}
+use Rattle.parquet_indexes.specs.PageMaps.{in_fields}
+use Rattle.parquet_meta.proofs.ListLemmas.{IsMaking, item_and_others, one_and, making-ends, making-fails, making-goes_on}
 
 -- ---- of each of a list
 
@@ -28,6 +31,25 @@ module _ {X A B : Type 0} (value : A → Option B) (view : X → A) (xs : List X
 
 pub made_all : {X A B : Type 0} (value : A → Option B) (view : X → A) (xs : List X) (items : List B) → IsMaking value (map view xs) (map view []) items → all_of value (map view xs) ≡ Some items
 made_all value view xs items making = making-ends value (map view xs) [] items making refl
+
+-- as many as there are
+as_many : {A B : Type 0} (value : A → Option B) (xs : List A) (ys : List B) → all_of value xs ≡ Some ys → length ys ≡ length xs
+unfolding all_of
+as_many value [] [] e = refl
+as_many value [] (y ∷ ys) e = absurd cc
+as_many {A} {B} value (x ∷ xs) ys e = by (value x) (all_of value xs) (as_many value xs) e where
+  by : (first : Option B) (others : Option (List B)) → ((behind : List B) → others ≡ Some behind → length behind ≡ length xs) → one_and first others ≡ Some ys → length ys ≡ suc (length xs)
+  by None others one e = absurd cc
+  by (Some y) None one e = absurd cc
+  by (Some y) (Some behind) one e = ap length (sym (some_is (y ∷ behind) ys e)) ∙ ap suc (one behind refl)
+
+-- of fields that vectors show
+pub as_many_fields : {A B : Type 0} (value : List (List A) → Option (List (List B))) (fields : List (Vec (Vec A Global) Global)) (made : List (Vec (Vec B Global) Global))
+    → all_of value (in_fields fields) ≡ Some (in_fields made) → length made ≡ length fields
+as_many_fields {A} {B} value fields made e =
+    sym (length-map made (λ (columns : Vec (Vec B Global) Global). map {A = Vec B Global} {B = List B} (λ pages. pages.items) columns.items))
+    ∙ as_many value (in_fields fields) (in_fields made) e
+    ∙ length-map fields (λ (columns : Vec (Vec A Global) Global). map {A = Vec A Global} {B = List A} (λ pages. pages.items) columns.items)
 
 -- ---- of what was found
 

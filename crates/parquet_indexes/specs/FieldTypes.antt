@@ -25,7 +25,7 @@ arranged_in_turn (field ∷ fields) columns = do
 abbrev pub of_fields : List FieldPageStatistics × List ColumnPageStatistics → FieldPageStatistics × List ColumnPageStatistics
 of_fields found = (Multiple found.0, found.1)
 
--- A struct has statistics for each of its fields, all else those of one column.
+-- A struct has statistics for each of its fields, a dictionary, a list and a map those of what is inside, all else those of one column.
 abbrev pub arranged_in : Inside Arranged → Arranged
 arranged_in Values columns = one_column columns
 arranged_in (Entries entries) columns = entries columns

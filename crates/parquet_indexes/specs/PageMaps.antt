@@ -19,7 +19,7 @@ use Rattle.parquet_statistics.specs.LeafTypes.{has_column}
 abbrev pub has_column_indexes : RowGroupMetaData → Bool
 has_column_indexes group = list_all (λ (column : ColumnChunkMetaData). is_some column.column_index_offset) group.columns
 
--- The intervals are sorted and apart and lie in the group, and each field has a column.
+-- The intervals are sorted, disjoint, filled and within the group, and each field has a column.
 abbrev pub can_be_asked : RowGroupMetaData → List Field → List Interval → Bool
 can_be_asked group fields intervals = is_well_shaped intervals group.num_rows && list_all (has_column group.columns) fields
 

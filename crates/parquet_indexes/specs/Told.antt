@@ -1,5 +1,5 @@
 -- What the index of a column tells of its pages in a type, as arrays, and what is wrong with it.
-use Rattle.std.specs.Prelude.{ℕ, List, [], ◌∷◌, ◌++◌, length, flat_map, map, is_some, IsSomeAnd, Option, Some, None, if◌then◌else◌}
+use Rattle.std.specs.Prelude.{ℕ, ◌&&◌, Bool, List, [], ◌∷◌, ◌++◌, length, flat_map, map, is_some, is_none, IsSomeAnd, Option, Some, None, if◌then◌else◌}
 use Rattle.std.specs.Option.{option_map_or}
 use Rattle.columns_core.specs.Causes.{Cause, ExternalFormat, NotYetImplemented, unless}
 use Rattle.columns_core.specs.DictionaryType.{entry_type}
@@ -18,7 +18,7 @@ use Rattle.parquet_meta.specs.declared.metadata.PrimitiveType.{PrimitiveType}
 use Rattle.parquet_meta.specs.declared.metadata.Repetition.TheVariants.{Required}
 use Rattle.parquet_page.specs.Stored.{Octets}
 use Rattle.flat_values.specs.Conversion.{BigEndian}
-use Rattle.column_ends.specs.Converted.{causes_of_index, cell_page, index_cells}
+use Rattle.column_ends.specs.Converted.{causes_of_index, cell_page, index_cells, index_rule}
 use Rattle.column_ends.specs.Rules.{takes_size}
 use Rattle.column_ends.specs.Told.{stored_page}
 use Rattle.column_ends.specs.declared.rules.FixedRule.TheVariants.{Decimal}
@@ -32,6 +32,10 @@ AreTold stored data_type index statistics = IsSomeAnd (index_cells stored data_t
 -- Ends are values of no dictionary type; it is the type of its entries that is asked for.
 abbrev pub statistics_causes : PrimitiveType → DataType → Index → List Cause
 statistics_causes stored data_type index = if is_some (entry_type data_type) then NotYetImplemented ∷ [] else causes_of_index stored data_type index
+
+-- Such a pair of types is carried, whatever an index tells. No pair with floating point numbers is.
+abbrev pub is_carried_pair : PrimitiveType → DataType → Bool
+is_carried_pair stored data_type = is_none (entry_type data_type) && is_some (index_rule stored data_type)
 
 -- columns of a stored type; whether they are repeated is not asked
 abbrev pub required_type : PhysicalType → Option PrimitiveLogicalType → PrimitiveType

@@ -19,8 +19,8 @@ use std::alloc::Global;
 use std::collections::VecDeque;
 use std::slice;
 
-/// The statistics of the pages of each field, in the shape of its type: a struct has those of its fields, all else those of one column. Only
-/// the column indexes of the fields' columns are read.
+/// The statistics of the pages of each field, in the shape of its type: a struct has those of its fields, a dictionary, a list and a map those of
+/// what is inside, all else those of one column. Only the column indexes of the fields' columns are read.
 ///
 /// `InvalidArgumentError` where a field has no column; `NotYetImplemented` where it has not as many columns as its type, or the type of one is not
 /// carried; `ExternalFormat` where an index is missing or damaged, a count is negative or an end has not the width of its type; `OutOfSpec`
@@ -35,6 +35,7 @@ pub fn read_columns_indexes<S: Source>(
     ensures quiet { OnOk result (S.faults source.new ≡ S.faults source.old) }
     ensures argument { list_all (has_column chunks.now) fields.now ≡ false
         → IsErrAnd result (λ e. is_invalid_argument e ≡ true) × (source.new ≡ source.old) }
+    ensures each { IfOk result (λ statistics. length statistics.items ≡ length fields.now) }
     ensures told { IfOk result (λ statistics. IfSome (S.told source.old) (λ file.
         spec.AreOfFields file chunks.now fields.now statistics.items)) }
     ensures ok { OnOk result (IfSome (S.told source.old) (λ file.
@@ -42,6 +43,7 @@ pub fn read_columns_indexes<S: Source>(
     ensures fails { list_all (has_column chunks.now) fields.now ≡ true
         → IfErr result (IsReadFailure (S.told source.old) (S.faults source.old) (S.faults source.new)
         (spec.causes_of_fields chunks.now fields.now)) }
+    ensures carried { spec.TellsCarried (list_all (spec.is_carried_field chunks.now) fields.now) result }
     ensures taken { S.taken source.new ≤ S.taken source.old
         + sum_by (spec.column_indexes_length chunks.now) fields.now }
 {
@@ -59,6 +61,7 @@ fn read_fields<S: Source>(
 ) -> Result<Vec<FieldPageStatistics>, Error>
     ensures keeps { Keeps S.Source source.old source.new }
     ensures quiet { OnOk result (S.faults source.new ≡ S.faults source.old) }
+    ensures each { IfOk result (λ statistics. length statistics.items ≡ length fields.now) }
     ensures told { IfOk result (λ statistics. IfSome (S.told source.old) (λ file.
         spec.AreOfFields file chunks.now fields.now statistics.items)) }
     ensures ok { OnOk result (IfSome (S.told source.old) (λ file.
@@ -66,6 +69,7 @@ fn read_fields<S: Source>(
     ensures fails { IfErr result (
         IsReadFailure (S.told source.old) (S.faults source.old) (S.faults source.new)
         (spec.causes_of_fields chunks.now fields.now)) }
+    ensures carried { spec.TellsCarried (list_all (spec.is_carried_field chunks.now) fields.now) result }
     ensures taken { S.taken source.new ≤ S.taken source.old
         + sum_by (spec.column_indexes_length chunks.now) fields.now }
 {
@@ -91,6 +95,7 @@ fn read_field<S: Source>(
     ensures fails { IfErr result (
         IsReadFailure (S.told source.old) (S.faults source.old) (S.faults source.new) (λ file.
         spec.causes_of_field file chunks.now field.now)) }
+    ensures carried { spec.TellsCarried (spec.is_carried_field chunks.now field.now) result }
     ensures taken { S.taken source.new ≤ S.taken source.old
         + spec.column_indexes_length chunks.now field.now }
 {
@@ -125,6 +130,9 @@ fn read_columns<S: Source>(
     ensures fails { let typed = zip (map (λ t. t.now) types.now) (map (λ column. column.now) columns.now) in
         IfErr result (IsReadFailure (S.told source.old) (S.faults source.old) (S.faults source.new) (λ file.
         flat_map (spec.causes_of_typed file) typed)) }
+    ensures carried { let typed = zip (map (λ t. t.now) types.now)
+        (map (λ column. column.now) columns.now) in
+        spec.TellsCarried (list_all spec.is_carried_column typed) result }
     ensures taken { let typed = zip (map (λ t. t.now) types.now) (map (λ column. column.now) columns.now) in
         S.taken source.new ≤ S.taken source.old + sum_by (λ t. column_index_length t.1) typed }
 {
@@ -153,6 +161,7 @@ fn read_column<S: Source>(
     ensures fails { IfErr result (
         IsReadFailure (S.told source.old) (S.faults source.old) (S.faults source.new) (λ file.
         spec.causes_of_typed file (data_type.now, column.now))) }
+    ensures carried { spec.TellsCarried (spec.is_carried_column (data_type.now, column.now)) result }
     ensures taken { S.taken source.new ≤ S.taken source.old + column_index_length column.now }
 {
     let mut indexes = read_raw_indexes(alloc, source, slice::from_ref(column), name.as_str())?;

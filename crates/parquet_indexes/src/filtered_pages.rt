@@ -1,10 +1,10 @@
 //! Pages that a closure chooses by what the indexes tell.
-ghost use Rattle.std.specs.Prelude.{◌≡◌, ◌≤◌, ◌+◌, [], true, false, sum_by, IfOk, IfErr, IfSome, IsErrAnd, OnOk};
+ghost use Rattle.std.specs.Prelude.{◌≡◌, ◌≤◌, ◌+◌, ◌⊎◌, [], true, false, length, sum_by, Err, IfOk, IfErr, IfSome, IsErrAnd, OnOk};
 ghost use Rattle.std.specs.List.{list_all};
 ghost use Rattle.columns_core.specs.Causes.{is_invalid_argument};
 ghost use Rattle.parquet_meta.specs.Keeps.{Keeps};
 ghost use Rattle.parquet_indexes.specs.Answered as spec;
-ghost use Rattle.parquet_indexes.specs.FieldStatistics.{column_indexes_length};
+ghost use Rattle.parquet_indexes.specs.FieldStatistics.{TellsCarried, column_indexes_length, is_carried_field};
 ghost use Rattle.parquet_statistics.specs.LeafTypes.{has_column};
 ghost use Rattle.parquet_indexes.specs.PageMaps.{in_fields, offset_indexes_length};
 
@@ -23,8 +23,8 @@ use std::alloc::Global;
 /// answers intervals of the group's rows. Only the column indexes and the offset indexes of the fields' columns are read.
 ///
 /// `InvalidArgumentError` where a field has no column, or the closure's intervals are not sorted, disjoint, filled and within the group; what
-/// `read_columns_indexes` refuses; `ExternalFormat` where an offset index is damaged, its rows or places are, or it begins behind the
-/// first interval; and any error that the closure answers.
+/// `read_columns_indexes` refuses; `ExternalFormat` where an offset index is damaged, its rows or places are, it begins behind the first interval, or
+/// there is none where rows are wanted; and any error that the closure answers.
 pub fn read_filtered_pages<
     S: Source,
     F: Fn(&[FieldPageStatistics], &[Vec<Vec<Interval>>]) -> Result<Vec<Interval>, Error> + Drop,
@@ -40,6 +40,7 @@ pub fn read_filtered_pages<
     ensures quiet { OnOk result (S.faults source.new ≡ S.faults source.old) }
     ensures argument { list_all (has_column row_group.now.columns) fields.now ≡ false
         → IsErrAnd result (λ e. is_invalid_argument e ≡ true) × (source.new ≡ source.old) }
+    ensures each { IfOk result (λ maps. length maps.items ≡ length fields.now) }
     ensures ok { OnOk result (IfSome (S.told source.old) (λ file.
         spec.causes_of_question row_group.now fields.now file ≡ [])) }
     ensures chosen { IfOk result (λ maps.
@@ -48,6 +49,9 @@ pub fn read_filtered_pages<
     ensures fails { list_all (has_column row_group.now.columns) fields.now ≡ true
         → IfErr result (spec.RefusesToChoose F.Fn predicate row_group.now fields.now
         (S.told source.old) (S.faults source.old) (S.faults source.new)) }
+    ensures carried { TellsCarried (list_all (is_carried_field row_group.now.columns) fields.now) result
+        ⊎ IsErrAnd result (λ e. spec.IsAnswer F.Fn predicate row_group.now fields.now
+        (S.told source.old) (Err e)) }
     ensures taken { S.taken source.new ≤ S.taken source.old
         + (sum_by (column_indexes_length row_group.now.columns) fields.now
         + sum_by (offset_indexes_length row_group.now.columns) fields.now) }

@@ -22,8 +22,8 @@ const MOST_DECIMAL_BYTES: usize = 16;
 
 /// The statistics of pages of a FIXED_LEN_BYTE_ARRAY column, in a type: bytes as they are, or decimals with their sign.
 ///
-/// `NotYetImplemented` where the type is another; `ExternalFormat` where a count is negative, an end has another number of bytes than the type, or a
-/// decimal none or more than 16.
+/// `NotYetImplemented` where the type is another, or that of bytes of size 0; `ExternalFormat` where a count is negative, an end has another number
+/// of bytes than the type, or a decimal none or more than 16.
 pub fn deserialize(
     alloc: Global,
     indexes: &[PageIndex<Seq<u8>>],

@@ -1,5 +1,5 @@
 //! Where the pages of fields stand.
-ghost use Rattle.std.specs.Prelude.{◌≡◌, ◌≤◌, ◌+◌, map, sum_by, OnOk};
+ghost use Rattle.std.specs.Prelude.{◌≡◌, ◌≤◌, ◌+◌, length, map, sum_by, IfOk, OnOk};
 ghost use Rattle.parquet_meta.specs.Indexes.{locations_of, offset_index_length};
 ghost use Rattle.parquet_meta.specs.Keeps.{Keeps};
 ghost use Rattle.parquet_meta.specs.Source.{Finds};
@@ -19,6 +19,7 @@ pub(crate) fn read_locations<S: Source>(
 ) -> Result<Vec<Vec<Vec<PageLocation>>>, Error>
     ensures keeps { Keeps S.Source source.old source.new }
     ensures quiet { OnOk result (S.faults source.new ≡ S.faults source.old) }
+    ensures each { IfOk result (λ lists. length lists.items ≡ length fields.now) }
     ensures found { Finds (λ lists. spec.in_fields lists.items)
         (spec.locations_of_fields columns.now fields.now)
         (S.told source.old) (S.faults source.old) (S.faults source.new) result }

@@ -1,5 +1,5 @@
 //! Which pages of a group's columns hold rows that are wanted.
-ghost use Rattle.std.specs.Prelude.{◌≡◌, ◌≤◌, ◌+◌, true, false, map, sum_by, IfOk, IfErr, IsErrAnd, OnOk};
+ghost use Rattle.std.specs.Prelude.{◌≡◌, ◌≤◌, ◌+◌, true, false, length, map, sum_by, IfOk, IfErr, IsErrAnd, OnOk};
 ghost use Rattle.columns_core.specs.Causes.{is_invalid_argument};
 ghost use Rattle.columns_core.specs.Refusals.{IsDamaged};
 ghost use Rattle.parquet_base.specs.Intervals.{is_well_shaped as is_well_shaped_by};
@@ -32,7 +32,8 @@ pub fn has_indexes(row_group: &RowGroupMetaData) -> bool
 /// these columns are read.
 ///
 /// `InvalidArgumentError` where the intervals are not sorted, disjoint, filled and within the group, or a field has no column;
-/// `ExternalFormat` where an offset index is damaged, its rows or places are, or it begins behind the first interval.
+/// `ExternalFormat` where an offset index is damaged, its rows or places are, it begins behind the first interval, or there is none where rows are
+/// wanted.
 pub fn pages_of<S: Source>(
     alloc: Global,
     source: &mut S,
@@ -44,6 +45,7 @@ pub fn pages_of<S: Source>(
     ensures quiet { OnOk result (S.faults source.new ≡ S.faults source.old) }
     ensures argument { spec.can_be_asked row_group.now fields.now intervals.now ≡ false
         → IsErrAnd result (λ e. is_invalid_argument e ≡ true) × (source.new ≡ source.old) }
+    ensures each { IfOk result (λ maps. length maps.items ≡ length fields.now) }
     ensures found { spec.can_be_asked row_group.now fields.now intervals.now ≡ true
         → Finds (λ maps. spec.in_fields maps.items)
         (spec.field_maps row_group.now intervals.now fields.now)

@@ -1,82 +1,27 @@
 -- Groups of a file that are opened one after another, and their chunks.
 use Rattle.std.proofs.Common.{◌≡◌, ◌∙◌, ℕ, ◌+◌, ◌-◌, ◌<◌, ◌≤◌, Bool, true, false, List, [], ◌∷◌, refl, sym, ap, subst, inl, inr, arith}
-use Rattle.std.specs.Prelude.{min, sum_by, if◌then◌else◌, ◌==◌, Option, Some, None, IfNone, IfSome, Result, Ok, Err, OnOk, option_and_then, option_map}
+use Rattle.std.specs.Prelude.{sum_by, if◌then◌else◌, ◌==◌, Option, Some, None, IfNone, IfSome, Result, Ok, Err, OnOk}
 use Rattle.std.specs.Iterator.{MakesProgress}
 use Rattle.std.proofs.lemmas.List.Sums.{sum_by-cons}
 use Rattle.columns_core.specs.declared.array.Array.{Array}
-use Rattle.columns_core.specs.declared.data_type.DataType.{DataType}
 use Rattle.columns_core.specs.declared.data_type.Field.{Field}
 use Rattle.columns_core.specs.declared.error.Error.{Error}
-use Rattle.parquet_meta.specs.Chunks.{chunk_range}
 use Rattle.parquet_meta.specs.Keeps.{Keeps}
-use Rattle.parquet_meta.specs.Places.{part_at}
 use Rattle.parquet_meta.specs.Source.{raised}
-use Rattle.parquet_meta.specs.declared.metadata.ColumnChunkMetaData.{ColumnChunkMetaData}
 use Rattle.parquet_meta.specs.declared.metadata.RowGroupMetaData.{RowGroupMetaData}
 use Rattle.parquet_meta.specs.declared.source.Source.{Ghosts}
-use Rattle.parquet_page.specs.declared.page.FilteredPage.{FilteredPage}
-use Rattle.flat_values.specs.Conversion.{Conversion}
-use Rattle.flat_values.specs.NullChunks.{nulls_left}
-use Rattle.flat_values.specs.Pairs.{conversion}
-use Rattle.flat_binary.specs.Left.{Supply, converted_left}
-use Rattle.flat_binary.specs.NullType.{is_null_type}
-use Rattle.flat_binary.specs.Begun.{column_left}
-use Rattle.parquet_read.specs.Asked.{AskedField, GroupReading, PageLists, asked_column, asked_fields, asked_left, left_in_file, rows_asked}
+use Rattle.parquet_read.specs.Asked.{GroupReading, PageLists}
 use Rattle.parquet_read.specs.FileReader.{AnswersHere, GivesFileRows, GivesRowsAtHand, OpensInTurn, ReplacesGroup, answers_left, answers_to_come, file_lent, is_group_over, length_of_next, most_answers, opened_group, pages_at_hand, rows_at_hand}
 use Rattle.parquet_read.specs.GroupReader.{groups_left}
 use Rattle.parquet_read.specs.Groups.{GroupsLeft, OpensGroup, front_lists, front_reading, length_of_front, rows_of_group}
-use Rattle.parquet_read.specs.Opening.{ChunkBytes, chunk_supply, opened_left, size_within}
 use Rattle.parquet_read.specs.RowGroup.{group_left, group_lent}
 use Rattle.parquet_read.specs.Rows.{GivesNextRows, limited}
 use Rattle.parquet_read.specs.declared.file_reader.FileReader.{FileReader}
 use Rattle.parquet_read.specs.declared.row_group.RowGroupDeserializer.{RowGroupDeserializer}
 use Rattle.parquet_read.proofs.GroupLemmas.{nearer}
-use Rattle.parquet_read.proofs.LentLemmas.{IsFresh, chunk_steps, none_lent}
-
--- ---- columns that are opened
-
-fresh_supply_lent : (chunk : ChunkBytes) (entries : Option (List FilteredPage)) → (chunk_supply chunk entries).lent ≡ 0
-fresh_supply_lent chunk None = refl
-fresh_supply_lent chunk (Some entries) = refl
-
-fresh_column : (data_type : DataType) (size : Option ℕ) (rows : ℕ) (entries : Option (List FilteredPage)) (chunk : ChunkBytes) → IsFresh (opened_left data_type size rows entries chunk)
-fresh_column data_type size rows entries chunk = by (conversion chunk.0.descriptor.primitive_type data_type) where
-  supply : Supply
-  supply = chunk_supply chunk entries
-
-  by_null : (rule : Conversion) (b : Bool)
-      → (if b then nulls_left (record { size = size_within rows size; rows = min rows supply.row_count }) else converted_left chunk.0.descriptor.primitive_type.physical_type data_type (size_within rows size) rows supply rule).lent ≡ 0
-  by_null rule true = refl
-  by_null rule false = fresh_supply_lent chunk entries
-
-  by : (o : Option Conversion) → IsFresh (option_map (column_left chunk.0.descriptor.primitive_type.physical_type data_type (size_within rows size) rows supply) o)
-  by None = tt
-  by (Some rule) = by_null rule (is_null_type data_type)
-
-fresh_in_file : (data_type : DataType) (size : Option ℕ) (rows : ℕ) (entries : Option (List FilteredPage)) (column : ColumnChunkMetaData) (o : Option (List ℕ))
-    → IsFresh (option_and_then (λ bytes. opened_left data_type size rows entries (column, bytes)) o)
-fresh_in_file data_type size rows entries column None = tt
-fresh_in_file data_type size rows entries column (Some bytes) = fresh_column data_type size rows entries (column, bytes)
-
-fresh_asked : (reading : GroupReading) (file : List ℕ) (asked : AskedField) → IsFresh (asked_left reading file asked)
-fresh_asked reading file asked = by (asked_column reading asked) where
-  by : (o : Option ColumnChunkMetaData) → IsFresh (option_and_then (λ column. left_in_file asked.0.data_type reading.size (rows_asked reading asked) asked.1 column file) o)
-  by None = tt
-  by (Some column) = fresh_in_file asked.0.data_type reading.size (rows_asked reading asked) asked.1 column (part_at file (chunk_range column))
-
--- of a group that is opened no page was lent
-fresh_group : (told : Option (List ℕ)) (before now : ℕ) (reading : GroupReading) (fields : List Field) (lists : Option PageLists) (group : RowGroupDeserializer)
-    → OpensGroup group_left told before now reading fields lists (Ok group) → IfSome told (λ file. group_lent group ≡ 0)
-fresh_group None before now reading fields lists group opens = tt
-fresh_group (Some file) before now reading fields lists group opens =
-    let none = none_lent (asked_left reading file) (fresh_asked reading file) (asked_fields reading.limit fields lists) (group_left group).columns opens.columns in
-    omega (arith, none)
+use Rattle.parquet_read.proofs.LentLemmas.{all_lent, chunk_steps}
 
 -- ---- one group after another
-
-over_own : {A : Type 0} (o : Option A) (P Q R : Type 0) → (P → Q → R) → IfSome o (λ x. P) → IfSome o (λ x. Q) → IfSome o (λ x. R)
-over_own None P Q R f p q = tt
-over_own (Some x) P Q R f p q = f p q
 
 chosen : (b : Bool) (x y : ℕ) → b ≡ true → (if b then x else y) ≡ x
 chosen true x y is = refl
@@ -117,23 +62,15 @@ module _ {S : Type 0} (g : Ghosts S) where
       let here : pages_at_hand new.group ≡ 0 = ap pages_at_hand opens.group ∙ none in
       ap (λ (n : ℕ). raised new.lent n) here ∙ ap (λ (n : ℕ). raised n 0) opens.lent ∙ omega arith
 
-  fresh_next : (old : FileReader S) (group : RowGroupDeserializer) (new : FileReader S) → ReplacesGroup g old (Some (Ok group)) new → IfSome (g.told old.groups.source) (λ file. group_lent group ≡ 0)
+  -- of a group that is opened no page was lent
+  fresh_next : (old : FileReader S) (group : RowGroupDeserializer) (new : FileReader S) → ReplacesGroup g old (Some (Ok group)) new → group_lent group ≡ 0
   fresh_next old group new opens =
-      let gives = opens.next.gives in
-      let left = groups_left old.groups in
-      fresh_group (g.told old.groups.source) (g.faults old.groups.source) (g.faults new.groups.source) (front_reading left gives.group) left.fields (front_lists left.lists) group gives.opens
+      let none : all_lent (group_left group).columns ≡ 0 = opens.next.gives.opens.fresh in
+      omega (arith, none)
 
-  opened_lent : (passed : List (FileReader S)) (old last : FileReader S) → OpensInTurn g passed old last → IfSome (g.told old.groups.source) (λ file. file_lent last ≡ file_lent old)
-  opened_lent [] old last is = all (g.told old.groups.source) where
-    all : (o : Option (List ℕ)) → IfSome o (λ file. file_lent last ≡ file_lent old)
-    all None = tt
-    all (Some file) = ap file_lent is
-  opened_lent (mid ∷ mids) old last opens =
-      let group = opens.1.0 in
-      let same = (opened_keeps mids old mid opens.0).same in
-      let fresh = subst (λ (o : Option (List ℕ)). IfSome o (λ file. group_lent group ≡ 0)) same (fresh_next mid group last opens.1.1) in
-      over_own (g.told old.groups.source) (group_lent group ≡ 0) (file_lent mid ≡ file_lent old) (file_lent last ≡ file_lent old)
-      (λ none before. replaced_lent mid (Some (Ok group)) last opens.1.1 none ∙ before) fresh (opened_lent mids old mid opens.0)
+  opened_lent : (passed : List (FileReader S)) (old last : FileReader S) → OpensInTurn g passed old last → file_lent last ≡ file_lent old
+  opened_lent [] old last is = ap file_lent is
+  opened_lent (mid ∷ mids) old last opens = replaced_lent mid (Some (Ok opens.1.0)) last opens.1.1 (fresh_next mid opens.1.0 last opens.1.1) ∙ opened_lent mids old mid opens.0
 
   -- ---- an answer behind them
 
@@ -156,8 +93,7 @@ module _ {S : Type 0} (g : Ghosts S) where
     quiet = subst (λ (n : ℕ). IfSome result (λ given. OnOk given (g.faults new.groups.source ≡ n))) (opened_quiet passed old last opens) call.quiet;
     quiet_end = subst (λ (n : ℕ). IfNone result (g.faults new.groups.source ≡ n)) (opened_quiet passed old last opens) call.quiet_end;
     taken = omega (arith, call.taken, opened_taken passed old last opens, sum_by-cons length_of_next last passed);
-    lent = over_own (g.told old.groups.source) (file_lent last ≡ file_lent old) (file_lent last ≡ file_lent old) (file_lent new ≡ raised (file_lent old) (steps_now - steps))
-        (λ same again. call.lent ∙ ap (λ (n : ℕ). raised n (steps_now - steps)) same) (opened_lent passed old last opens) (opened_lent passed old last opens);
+    lent = call.lent ∙ ap (λ (n : ℕ). raised n (steps_now - steps)) (opened_lent passed old last opens);
   }
 
   -- no group is opened

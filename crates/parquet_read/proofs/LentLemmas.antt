@@ -1,11 +1,9 @@
 -- Pages that are lent for the chunks of a group.
-use Rattle.std.proofs.Common.{◌≡◌, ◌∙◌, ℕ, zero, suc, ◌+◌, ◌-◌, ◌^◌, ◌≤◌, List, [], ◌∷◌, length, refl, sym, ap, arith}
-use Rattle.std.specs.Prelude.{min, sum_by, Option, Some, None, Result}
+use Rattle.std.proofs.Common.{◌≡◌, ◌∙◌, ℕ, zero, suc, ◌+◌, ◌-◌, ◌^◌, ◌≤◌, List, [], ◌∷◌, length, ap, arith}
+use Rattle.std.specs.Prelude.{min, sum_by, Some, Result}
 use Rattle.std.proofs.lemmas.List.Sums.{sum_by-append, sum_by-cons}
 use Rattle.columns_core.specs.declared.array.Array.{Array}
 use Rattle.columns_core.specs.declared.error.Error.{Error}
-use Rattle.parquet_base.specs.Reading.{◌>>=◌}
-use Rattle.parquet_meta.specs.Lists.{all_of}
 use Rattle.parquet_meta.specs.Source.{raised}
 use Rattle.page_decoding.specs.Chunks.{lent_more}
 use Rattle.flat_values.specs.ColumnLeft.{ColumnLeft}
@@ -14,11 +12,6 @@ use Rattle.parquet_read.specs.Rows.{Answer, AnswerInTurn, AreAsked, GivesNextRow
 -- how many pages were lent for some columns
 abbrev pub all_lent : List ColumnLeft → ℕ
 all_lent columns = sum_by (λ (left : ColumnLeft). left.lent) columns
-
--- no page was lent for a column that is opened
-abbrev pub IsFresh : Option ColumnLeft → Type 0
-IsFresh None = Unit {0}
-IsFresh (Some left) = left.lent ≡ 0
 
 within : (lent more : ℕ) → min (lent_more lent more) (2 ^ 64 - 1) ≡ min (lent + more) (2 ^ 64 - 1)
 within lent zero = omega arith
@@ -59,19 +52,3 @@ pub chunk_steps : (old : GroupLeft) (given : Result (List Array) Error) (new : G
 chunk_steps old given new steps steps_now gives =
     let are = asked_steps old.columns gives.1.answers new.columns steps steps_now gives.1.asked in
     omega (arith, are.lent)
-
--- ---- columns that are opened
-
-pub none_lent : {A : Type 0} (value : A → Option ColumnLeft) → ((x : A) → IsFresh (value x)) → (xs : List A) (columns : List ColumnLeft) → all_of value xs ≡ Some columns → all_lent columns ≡ 0
-unfolding all_of
-none_lent {A} value fresh [] columns is = let e : Some [] ≡ Some columns = is in let same : [] ≡ columns = cc in sym (ap all_lent same)
-none_lent {A} value fresh (x ∷ xs) columns is = first (value x) (fresh x) (λ others all. none_lent value fresh xs others all) is where
-  rest : (left : ColumnLeft) → left.lent ≡ 0 → (o : Option (List ColumnLeft)) → ((others : List ColumnLeft) → o ≡ Some others → all_lent others ≡ 0) → (o >>= λ others. Some (left ∷ others)) ≡ Some columns → all_lent columns ≡ 0
-  rest left none None all e = absurd (let bad : None ≡ Some columns = e in cc)
-  rest left none (Some others) all e =
-      let same : left ∷ others ≡ columns = (let own : Some (left ∷ others) ≡ Some columns = e in cc) in
-      omega (arith, ap all_lent (sym same), sum_by-cons (λ (l : ColumnLeft). l.lent) left others, none, all others refl)
-
-  first : (o : Option ColumnLeft) → IsFresh o → ((others : List ColumnLeft) → all_of value xs ≡ Some others → all_lent others ≡ 0) → (o >>= λ left. all_of value xs >>= λ others. Some (left ∷ others)) ≡ Some columns → all_lent columns ≡ 0
-  first None own all e = absurd (let bad : None ≡ Some columns = e in cc)
-  first (Some left) own all e = rest left own (all_of value xs) all e

@@ -14,6 +14,7 @@ pub mod LentLemmas
 pub mod ListLemmas
 pub mod OpenLemmas
 pub mod OpenedGroupLemmas
+pub mod OutlineLemmas
 pub mod PartLemmas
 pub mod PlaceLemmas
 pub mod ReadableLemmas

@@ -19,7 +19,7 @@ use Rattle.parquet_page.specs.declared.page.FilteredPage.{FilteredPage}
 use Rattle.flat_values.specs.ColumnLeft.{ColumnLeft}
 use Rattle.flat_binary.specs.NullType.{is_null_type}
 use Rattle.parquet_read.specs.Columns.{is_here, range_length}
-use Rattle.parquet_read.specs.Opening.{column_causes_of, lone, opened_left, placed_in, start_behind, type_causes}
+use Rattle.parquet_read.specs.Opening.{Outline, column_causes_of, lone, opened_left, opened_outline, placed_in, size_within, start_behind, type_causes}
 use Rattle.parquet_read.specs.Rows.{limited}
 
 -- ---- which rows
@@ -96,6 +96,14 @@ selected_rows_of group entries = option_map_or selected_count entries group.num_
 -- the first of them
 abbrev pub rows_asked : GroupReading → AskedField → ℕ
 rows_asked reading asked = limited reading.limit (selected_rows_of reading.group asked.1)
+
+-- where there is a chunk size, how many rows an array has at most: no more than it says, nor than are asked for, and one at least
+abbrev pub size_asked : GroupReading → AskedField → Option ℕ
+size_asked reading asked = size_within (rows_asked reading asked) reading.size
+
+-- what is said of a field that is opened, whatever a source gives
+abbrev pub asked_outline : GroupReading → AskedField → Outline
+asked_outline reading asked = opened_outline asked.0.data_type reading.size (rows_asked reading asked)
 
 -- ---- what the metadata refuses
 

@@ -92,7 +92,7 @@ pub record GivesFileRows {S : Type 0} (g : Ghosts S) (old : FileReader S) (resul
   pub quiet : IfSome result (λ given. OnOk given (g.faults new.groups.source ≡ g.faults old.groups.source))
   pub quiet_end : IfNone result (g.faults new.groups.source ≡ g.faults old.groups.source)
   pub taken : g.taken new.groups.source ≤ g.taken old.groups.source + sum_by length_of_next (last ∷ passed)
-  pub lent : IfSome (g.told old.groups.source) (λ file. file_lent new ≡ raised (file_lent old) (steps_now - steps))
+  pub lent : file_lent new ≡ raised (file_lent old) (steps_now - steps)
 
 -- over steps of its own
 abbrev pub GivesFileAlone : {S : Type 0} → Ghosts S → FileReader S → Option (Result (List Array) Error) → FileReader S → Type 0

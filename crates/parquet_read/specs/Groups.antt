@@ -1,5 +1,5 @@
 -- Groups of a file that are still to be read, one after another, and what the reading of the next one gives.
-use Rattle.std.specs.Prelude.{◌≡◌, ◌⊎◌, ℕ, ◌-◌, ◌==◌, ◌||◌, ◌&&◌, Bool, true, false, if◌then◌else◌, List, [], ◌∷◌, drop, length, Option, Some, None, IfSome, IfOk, IfErr, OnOk, option_and_then, option_map, Result, Ok, Err}
+use Rattle.std.specs.Prelude.{◌≡◌, ◌⊎◌, ℕ, ◌-◌, ◌==◌, ◌||◌, ◌&&◌, Bool, true, false, if◌then◌else◌, List, [], ◌∷◌, drop, length, map, sum_by, Option, Some, None, IfSome, IfOk, IfErr, OnOk, option_and_then, option_map, Result, Ok, Err}
 use Rattle.std.specs.List.{list_all}
 use Rattle.std.specs.Option.{option_map_or}
 use Rattle.columns_core.specs.declared.data_type.Field.{Field}
@@ -8,8 +8,9 @@ use Rattle.parquet_meta.specs.Source.{Finds}
 use Rattle.parquet_meta.specs.declared.metadata.RowGroupMetaData.{RowGroupMetaData}
 use Rattle.parquet_page.specs.Lent.{selected_count}
 use Rattle.parquet_page.specs.declared.page.FilteredPage.{FilteredPage}
-use Rattle.parquet_read.specs.Asked.{GroupReading, PageLists, asked_fields, fields_causes, fields_left, fields_length, group_reading, have_one_list, is_chunk_size, is_legal_reading, is_readable}
-use Rattle.parquet_read.specs.Opening.{IsRefusal}
+use Rattle.flat_values.specs.ColumnLeft.{ColumnLeft}
+use Rattle.parquet_read.specs.Asked.{GroupReading, PageLists, asked_fields, fields_causes, fields_left, fields_length, group_reading, have_one_list, is_chunk_size, is_legal_reading, is_readable, rows_asked, size_asked}
+use Rattle.parquet_read.specs.Opening.{IsRefusal, rows_wanted}
 use Rattle.parquet_read.specs.Rows.{GroupLeft, limited}
 
 -- ---- one group
@@ -32,7 +33,12 @@ rows_of_group group lists = option_map_or rows_of_lists lists group.num_rows
 pub record OpensGroup {X : Type 0} (group_of : X → GroupLeft) (told : Option (List ℕ)) (before now : ℕ) (reading : GroupReading) (fields : List Field) (lists : Option PageLists) (result : Result X Error) : Type 0 where
   pub readable : OnOk result (is_readable reading fields lists ≡ true)
   pub columns : IfOk result (λ found. IfSome told (λ file. fields_left reading (asked_fields reading.limit fields lists) file ≡ Some (group_of found).columns))
+  -- Of any source: a column for each field, of its type, with arrays of at most so many rows, of which so many are wanted; no page was lent.
   pub each : IfOk result (λ found. length (group_of found).columns ≡ length fields)
+  pub typed : IfOk result (λ found. map (λ (left : ColumnLeft). left.data_type) (group_of found).columns ≡ map (λ (field : Field). field.data_type) fields)
+  pub sized : IfOk result (λ found. map (λ (left : ColumnLeft). left.size) (group_of found).columns ≡ map (size_asked reading) (asked_fields reading.limit fields lists))
+  pub counted : IfOk result (λ found. map rows_wanted (group_of found).columns ≡ map (rows_asked reading) (asked_fields reading.limit fields lists))
+  pub fresh : IfOk result (λ found. sum_by (λ (left : ColumnLeft). left.lent) (group_of found).columns ≡ 0)
   pub rows : IfOk result (λ found. (group_of found).num_rows ≡ rows_of_group reading.group lists)
   pub wanted : IfOk result (λ found. (group_of found).wanted ≡ limited reading.limit (rows_of_group reading.group lists))
   pub refused : IfErr result (λ e. is_readable reading fields lists ≡ false
@@ -93,6 +99,11 @@ abbrev pub length_of_front : GroupsLeft → List RowGroupMetaData → ℕ
 length_of_front left [] = 0
 length_of_front left (group ∷ others) =
     if wants_none left then 0 else fields_length (front_reading left group) (asked_fields left.wanted left.fields (front_lists left.lists))
+
+-- the first of some groups, if there is one, is readable
+abbrev pub is_front_readable : GroupsLeft → List RowGroupMetaData → Bool
+is_front_readable left [] = true
+is_front_readable left (group ∷ others) = is_readable (front_reading left group) left.fields (front_lists left.lists)
 
 -- ---- what is legal
 

@@ -1,5 +1,5 @@
 -- The column of a field, as it is opened to be read in arrays.
-use Rattle.std.specs.Prelude.{◌≡◌, ◌⊎◌, ℕ, ℤ, zero, pos, ◌-◌, ◌&&◌, ◌++◌, Bool, true, false, nat_le, min, max, List, [], ◌∷◌, All, filter, if◌then◌else◌, length, map, Option, None, Some, IfSome, is_some, option_map, option_and_then, Result, IfOk, IfErr, OnOk}
+use Rattle.std.specs.Prelude.{◌≡◌, ◌⊎◌, ℕ, ℤ, zero, pos, ◌+◌, ◌-◌, ◌&&◌, ◌++◌, Bool, true, false, nat_le, min, max, List, [], ◌∷◌, All, filter, if◌then◌else◌, length, map, Option, None, Some, IfSome, is_some, option_map, option_and_then, Result, IfOk, IfErr, OnOk}
 use Rattle.std.specs.List.{list_all}
 use Rattle.std.specs.Option.{option_map_or}
 use Rattle.columns_core.specs.Causes.{Cause, ExternalFormat, IsMisfit, IsOneOf, IsWantOfMemory, NotYetImplemented, cause_of, unless}
@@ -50,7 +50,8 @@ placed_in column entries = map (counted_from (chunk_start column)) entries
 abbrev pub are_in_chunk : ChunkBytes → List FilteredPage → Bool
 are_in_chunk chunk entries = start_behind (chunk_start chunk.0) entries && lie_within (length chunk.1) (placed_in chunk.0 entries)
 
--- The pages with selected rows lie in the chunk. Of a column that is read as nulls no place is looked at.
+-- The pages with selected rows and, where there is one, the part before the first page lie in the chunk. Of a column that is read as nulls
+-- no place is looked at.
 abbrev pub location_causes : Bool → ChunkBytes → Option (List FilteredPage) → List Cause
 location_causes is_null chunk None = []
 location_causes is_null chunk (Some entries) = if is_null then [] else unless (are_in_chunk chunk entries) ExternalFormat
@@ -100,6 +101,31 @@ opened_left data_type size num_rows entries chunk =
 abbrev pub field_left : DataType → Option ℕ → ℕ → Option (List (List FilteredPage)) → List ChunkBytes → Option ColumnLeft
 field_left data_type size num_rows lists chunks =
     option_and_then (opened_left data_type size num_rows (option_and_then lone lists)) (lone chunks)
+
+-- ---- what does not hang on the pages
+
+-- the rows that are still wanted
+abbrev pub rows_wanted : ColumnLeft → ℕ
+rows_wanted left = left.standing.remaining + length left.standing.waiting
+
+-- What is said of a column that is opened, whatever its pages are: the type of its arrays, how many rows one has at most, how many are still
+-- wanted, and how many pages were lent.
+pub record Outline : Type 0 where
+  pub data_type : DataType
+  pub size : Option ℕ
+  pub rows : ℕ
+  pub lent : ℕ
+
+abbrev pub outline_of : ColumnLeft → Outline
+outline_of left = record { data_type = left.data_type; size = left.size; rows = rows_wanted left; lent = left.lent }
+
+-- of a column of which so many rows are asked for, and no page was lent
+abbrev pub opened_outline : DataType → Option ℕ → ℕ → Outline
+opened_outline data_type size num_rows = record { data_type = data_type; size = size_within num_rows size; rows = num_rows; lent = 0 }
+
+-- how many rows there are by the metadata: all of the column, or those that are selected
+abbrev pub rows_there : ColumnChunkMetaData → Option (List FilteredPage) → ℕ
+rows_there column entries = option_map_or selected_count entries column.num_values
 
 -- ---- calls
 

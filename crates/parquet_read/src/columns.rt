@@ -1,5 +1,5 @@
 //! The bytes of a field's columns.
-ghost use Rattle.std.specs.Prelude.{◌≡◌, ◌⊎◌, ◌≤◌, ◌+◌, Some, true, false, map, OnOk};
+ghost use Rattle.std.specs.Prelude.{◌≡◌, ◌⊎◌, ◌≤◌, ◌+◌, Some, true, false, map, IfOk, OnOk};
 ghost use Rattle.std.specs.List.{list_all};
 ghost use Rattle.std.specs.Result.{IsErrAnd};
 ghost use Rattle.columns_core.specs.Causes.{IsWantOfMemory, NotYetImplemented, cause_of};
@@ -32,6 +32,8 @@ pub fn read_columns<'a, S: Source>(
         → Finds (λ chunks. map (λ chunk. (chunk.0.now, chunk.1.items)) chunks.items)
         (spec.chunks_of_field field_name.now columns.now)
         (S.told source.old) (S.faults source.old) (S.faults source.new) result }
+    ensures each { IfOk result (λ chunks.
+        map (λ chunk. chunk.0.now) chunks.items ≡ field_columns field_name.now columns.now) }
     ensures taken { S.taken source.new ≤ S.taken source.old
         + spec.chunks_length (field_columns field_name.now columns.now) }
 {
@@ -66,6 +68,8 @@ fn read_each<'a, S: Source>(
         Finds (λ chunks. map (λ chunk. (chunk.0.now, chunk.1.items)) chunks.items)
         (λ file. all_of (spec.chunk_of_column file) all)
         (S.told source.old) (S.faults source.old) (S.faults source.new) result }
+    ensures each { IfOk result (λ chunks.
+        map (λ chunk. chunk.0.now) chunks.items ≡ map (λ column. column.now) columns.now) }
     ensures taken { S.taken source.new ≤ S.taken source.old
         + spec.chunks_length (map (λ column. column.now) columns.now) }
 {
@@ -87,6 +91,7 @@ fn read_chunk<'a, S: Source>(
     ensures found { Finds (λ chunk. (chunk.0.now, chunk.1.items)) (λ file.
         spec.chunk_of_column file column.now)
         (S.told source.old) (S.faults source.old) (S.faults source.new) result }
+    ensures column { IfOk result (λ chunk. chunk.0.now ≡ column.now) }
     ensures taken { S.taken source.new ≤ S.taken source.old + spec.range_length column.now }
 {
     let (offset, length) = column.byte_range();

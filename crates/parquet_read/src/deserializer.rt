@@ -19,7 +19,8 @@ use std::alloc::Global;
 ///
 /// `InvalidArgumentError` for a chunk size of 0, for lists of pages that are not one for each column, and for rows that are not
 /// well shaped; `NotYetImplemented` where there is not one column, or it is not flat, is compressed or is not read as the
-/// field's type; `ExternalFormat` where a page with selected rows does not lie in the chunk.
+/// field's type; `ExternalFormat` where there are pages with selected rows, and one of them or the part before the first page
+/// does not lie in the chunk. Of a field that is read as nulls no place is looked at.
 pub fn to_deserializer(
     alloc: Global,
     columns: Vec<(&ColumnChunkMetaData, Vec<u8>)>,

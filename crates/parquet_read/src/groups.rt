@@ -1,5 +1,5 @@
 //! The rows of a row group of a file.
-ghost use Rattle.std.specs.Prelude.{◌≡◌, ◌+◌, ◌≤◌, ◌<◌, true, length, map, OnOk};
+ghost use Rattle.std.specs.Prelude.{◌≡◌, ◌+◌, ◌≤◌, ◌<◌, true, false, length, map, OnOk};
 ghost use Rattle.std.specs.List.{list_all};
 ghost use Rattle.parquet_meta.specs.Keeps.{Keeps};
 ghost use Rattle.parquet_page.specs.Lent.{are_well_shaped};
@@ -30,6 +30,8 @@ pub(crate) fn open_group<S: Source>(
     ensures opens { let reading = spec.group_reading group.now chunk_size limit in
         OpensGroup group_left (S.told source.old) (S.faults source.old) (S.faults source.new)
         reading fields.items (spec.lists_of pages) result }
+    ensures unread { let reading = spec.group_reading group.now chunk_size limit in
+        spec.is_readable reading fields.items (spec.lists_of pages) ≡ false → source.new ≡ source.old }
     ensures taken { let reading = spec.group_reading group.now chunk_size limit in
         S.taken source.new ≤ S.taken source.old
         + spec.fields_length reading (spec.asked_fields limit fields.items (spec.lists_of pages)) }

@@ -1,10 +1,10 @@
 //! The arrays of fields in a group, of whose columns no more than the needed parts are read.
-ghost use Rattle.std.specs.Prelude.{◌≡◌, ◌+◌, ◌≤◌, true, false, map, length, IfOk, OnOk};
+ghost use Rattle.std.specs.Prelude.{◌≡◌, ◌+◌, ◌≤◌, true, false, map, length, sum_by, IfOk, OnOk};
 ghost use Rattle.std.specs.Result.{IsErrAnd};
 ghost use Rattle.parquet_meta.specs.Keeps.{Keeps};
 ghost use Rattle.parquet_meta.specs.Source.{Finds};
 ghost use Rattle.parquet_read.specs.Asked as spec;
-ghost use Rattle.parquet_read.specs.Opening.{IsRefusal};
+ghost use Rattle.parquet_read.specs.Opening.{IsRefusal, rows_wanted};
 ghost use Rattle.parquet_read.specs.RowGroup.{iter_left};
 
 use crate::ColumnPages;
@@ -22,8 +22,8 @@ use std::alloc::Global;
 ///
 /// Before anything is read: `InvalidArgumentError` for a chunk size of 0, for lists of pages that are not one for each field and its one column, and for selected rows that
 /// are not well shaped; `NotYetImplemented` where a field has not one column, or it is not flat, stands in another file, is compressed, encrypted or not read as the
-/// field's type; `ExternalFormat` where it has not a value for each row of the group, or a part that is to be read does not lie in its chunk. Then `ExternalFormat` where
-/// a chunk does not lie in the file, and `Io` where a call of the source failed.
+/// field's type; `ExternalFormat` where it has not a value for each row of the group, or has more values than its bytes can stand for, or a part that is to be read
+/// does not lie in its chunk. Then `ExternalFormat` where a chunk does not lie in the file, and `Io` where a call of the source failed.
 pub fn read_columns_many<S: Source>(
     alloc: Global,
     source: &mut S,
@@ -48,6 +48,17 @@ pub fn read_columns_many<S: Source>(
         (spec.fields_left reading (spec.asked_fields limit fields.items lists))
         (S.told source.old) (S.faults source.old) (S.faults source.new) result }
     ensures each { IfOk result (λ arrays. length arrays.items ≡ length fields.items) }
+    ensures typed { IfOk result (λ arrays. map (λ own. (iter_left own).data_type) arrays.items
+        ≡ map (λ field. field.data_type) fields.items) }
+    ensures sized { let reading = spec.group_reading row_group.now chunk_size limit in
+        let asked = spec.asked_fields limit fields.items (spec.lists_of pages) in
+        IfOk result (λ arrays.
+        map (λ own. (iter_left own).size) arrays.items ≡ map (spec.size_asked reading) asked) }
+    ensures counted { let reading = spec.group_reading row_group.now chunk_size limit in
+        let asked = spec.asked_fields limit fields.items (spec.lists_of pages) in
+        IfOk result (λ arrays.
+        map (λ own. rows_wanted (iter_left own)) arrays.items ≡ map (spec.rows_asked reading) asked) }
+    ensures fresh { IfOk result (λ arrays. sum_by (λ own. (iter_left own).lent) arrays.items ≡ 0) }
     ensures taken { let reading = spec.group_reading row_group.now chunk_size limit in
         let lists = spec.lists_of pages in
         S.taken source.new ≤ S.taken source.old

@@ -11,7 +11,7 @@ ghost use Rattle.parquet_page.specs.Lent.{are_well_shaped};
 ghost use Rattle.page_decoding.specs.Queue.{IsChunkSize};
 ghost use Rattle.flat_binary.specs.NullType.{is_null_type};
 ghost use Rattle.parquet_read.specs.Asked as spec;
-ghost use Rattle.parquet_read.specs.Opening.{AreShaped, opened_left};
+ghost use Rattle.parquet_read.specs.Opening.{AreShaped, opened_left, opened_outline, outline_of, rows_there};
 ghost use Rattle.parquet_read.specs.RowGroup.{iter_left};
 ghost use Rattle.parquet_read.specs.Rows.{limited};
 
@@ -45,6 +45,9 @@ pub(crate) fn open_fields<S: Source>(
         Finds (λ arrays. map iter_left arrays.items) (spec.fields_left reading asked.items)
         (S.told source.old) (S.faults source.old) (S.faults source.new) result }
     ensures each { IfOk result (λ arrays. length arrays.items ≡ length asked.items) }
+    ensures outlines { let reading = spec.group_reading group.now chunk_size limit in
+        IfOk result (λ arrays. map (λ own. outline_of (iter_left own)) arrays.items
+        ≡ map (spec.asked_outline reading) asked.items) }
     ensures taken { let reading = spec.group_reading group.now chunk_size limit in
         S.taken source.new ≤ S.taken source.old + spec.fields_length reading asked.items }
 {
@@ -73,6 +76,8 @@ fn open_field<S: Source>(
     ensures found { let reading = spec.group_reading group.now chunk_size limit in
         Finds iter_left (λ file. spec.asked_left reading file asked)
         (S.told source.old) (S.faults source.old) (S.faults source.new) result }
+    ensures outline { let reading = spec.group_reading group.now chunk_size limit in
+        IfOk result (λ arrays. outline_of (iter_left arrays) ≡ spec.asked_outline reading asked) }
     ensures taken { let reading = spec.group_reading group.now chunk_size limit in
         S.taken source.new ≤ S.taken source.old + spec.asked_length reading asked }
 {
@@ -119,6 +124,8 @@ fn open_column<S: Source>(
     ensures found { Finds iter_left
         (spec.left_in_file field.data_type chunk_size rows pages column.now)
         (S.told source.old) (S.faults source.old) (S.faults source.new) result }
+    ensures outline { rows ≤ rows_there column.now pages → IfOk result (λ arrays.
+        outline_of (iter_left arrays) ≡ opened_outline field.data_type chunk_size rows) }
     ensures taken { S.taken source.new ≤ S.taken source.old
         + spec.column_asked_length field.data_type pages column.now }
 {

@@ -7,12 +7,12 @@ ghost use Rattle.parquet_meta.specs.Lists.{all_of};
 ghost use Rattle.parquet_meta.specs.Places.{place_end};
 ghost use Rattle.parquet_meta.specs.Source.{Finds};
 ghost use Rattle.parquet_page.specs.Lending.{AreOfType, has_data_behind};
-ghost use Rattle.parquet_page.specs.Lent.{are_well_shaped, is_wanted as is_wanted_by};
+ghost use Rattle.parquet_page.specs.Lent.{are_well_shaped, is_wanted as is_wanted_by, selected_count};
 ghost use Rattle.parquet_page.specs.declared.page.FilteredPage.{FilteredPage as PageValue};
 ghost use Rattle.page_decoding.specs.Queue.{IsChunkSize};
 ghost use Rattle.parquet_read.specs.Asked as spec;
-ghost use Rattle.parquet_read.specs.ColumnPages.{column_pages};
-ghost use Rattle.parquet_read.specs.Opening.{chunk_supply, opened_left, opened_supply, placed_in as placed_in_by, type_causes};
+ghost use Rattle.parquet_read.specs.ColumnPages.{column_count, column_pages, rows_to_lend};
+ghost use Rattle.parquet_read.specs.Opening.{chunk_supply, opened_left, opened_outline, opened_supply, outline_of, placed_in as placed_in_by, type_causes};
 ghost use Rattle.parquet_read.specs.RowGroup.{iter_left};
 
 use crate::ColumnPages;
@@ -46,6 +46,8 @@ pub(crate) fn open_parts<S: Source>(
     ensures found { Finds iter_left
         (spec.left_in_file data_type chunk_size rows (Some pages.items) column.now)
         (S.told source.old) (S.faults source.old) (S.faults source.new) result }
+    ensures outline { rows ≤ selected_count pages.items → IfOk result (λ arrays.
+        outline_of (iter_left arrays) ≡ opened_outline data_type chunk_size rows) }
     ensures taken { S.taken source.new ≤ S.taken source.old
         + spec.parts_length (placed_in_by column.now pages.items) }
 {
@@ -147,6 +149,8 @@ fn open_pages(
         → opened_supply pages ≡ chunk_supply (column.now, bytes) entries
         → IfOk result (λ arrays. Some (iter_left arrays)
         ≡ opened_left data_type chunk_size rows entries (column.now, bytes)) }
+    ensures outline { rows ≤ rows_to_lend pages → column_count pages ≡ 0 → IfOk result (λ arrays.
+        outline_of (iter_left arrays) ≡ opened_outline data_type chunk_size rows) }
     ensures memory { IfErr result IsWantOfMemory }
 {
     page_iter_to_arrays(

@@ -1,11 +1,13 @@
-use Rattle.std.proofs.Common.{◌∙◌, ◌+◌, Bor, List, [], ◌∷◌, drop, length, length-append, map, rules, ap, arith, ℕ}
+use Rattle.std.proofs.Common.{◌∙◌, ◌+◌, Bor, List, [], ◌∷◌, drop, length, length-append, map, refl, rules, ap, arith, ℕ}
 use Rattle.std.specs.Prelude.{zip}
+use Rattle.std.specs.List.{list_all}
 use Rattle.std.proofs.lemmas.List.{drop_all}
 use Rattle.std.proofs.lemmas.Result.{err_from_is_err_and}
 use Rattle.columns_core.specs.declared.data_type.DataType.{DataType}
 use Rattle.parquet_meta.specs.Indexes.{begins_with, column_index_length}
 use Rattle.parquet_meta.specs.declared.metadata.ColumnChunkMetaData.{ColumnChunkMetaData}
-use Rattle.parquet_indexes.specs.FieldStatistics.{IsOfColumn, causes_of_typed}
+use Rattle.parquet_indexes.specs.FieldStatistics.{IsOfColumn, causes_of_typed, is_carried_column}
+use Rattle.parquet_indexes.proofs.CarriedLemmas.{carried_next, uncarried_one}
 use Rattle.parquet_indexes.proofs.TellingLemmas.{telling_begins, telling_ends, telling_goes_on, telling_refused}
 use Rattle.parquet_indexes.proofs.TypedLemmas.{all_at, zip_next, zip_none}
 use Rattle.parquet_indexes.proofs.columns_indexes.read_columns.Goals as goal
@@ -27,6 +29,7 @@ loop-i-init g c = record {
   keeps = search rules;
   quiet = search rules;
   telling = telling_begins IsOfColumn causes_of_typed cost (g.S.Source.told c.args.source.now) (typed c.args.types.now c.args.columns.now) c.new-told.result.items (g.S.Source.taken c.args.source.now) c.new-told.ensures.items;
+  carried = refl;
   count = search rules;
 }
 
@@ -49,6 +52,17 @@ returns-in_err-read_column-clause-fails g c =
     (telling_refused IsOfColumn causes_of_typed cost (g.S.Source.told c.args.source.now) (g.S.Source.told c.loop-i.source) (typed types columns) (typed (drop (i + 1) types) (drop (i + 1) columns))
     (c.index-types-i.result.now, c.index-columns-i.result.now) _ _ _ _ _ _ _ telling c.loop-i.invariant.keeps.later c.loop-i.invariant.keeps.same c.in_err-read_column.ensures.fails)
 
+pub returns-in_err-read_column-clause-carried : goal.returns-in_err-read_column-clause-carried
+returns-in_err-read_column-clause-carried g c =
+    let types = c.args.types.now in
+    let columns = c.args.columns.now in
+    let i = c.loop-i.i in
+    let others = zip_next own_type own types columns i c.index-types-i.result c.index-columns-i.result (omega (arith, c.requires.even)) (omega arith) c.index-types-i.is c.index-columns-i.is in
+    let p = err_from_is_err_and c.from_residual.result c.from_residual.ensures.1 in
+    rw (p.1, p.2)
+    (uncarried_one is_carried_column (typed types columns) (typed (drop (i + 1) types) (drop (i + 1) columns)) (c.index-types-i.result.now, c.index-columns-i.result.now)
+    (c.loop-i.invariant.carried ∙ ap (list_all is_carried_column) others) c.in_err-read_column.field-0.0 c.in_err-read_column.ensures.carried)
+
 pub loop-i-preserved : goal.loop-i-preserved
 loop-i-preserved g c =
     let types = c.args.types.now in
@@ -63,6 +77,8 @@ loop-i-preserved g c =
       telling = rw c.in_ok-push_back.ensures.items
           (telling_goes_on IsOfColumn causes_of_typed cost (g.S.Source.told c.args.source.now) (typed types columns) (typed (drop (i + 1) types) (drop (i + 1) columns))
           (c.index-types-i.result.now, c.index-columns-i.result.now) _ c.in_ok-read_column.field-0 _ _ _ telling (rw same at c.in_ok-read_column.ensures.told) (rw same at c.in_ok-read_column.ensures.ok) c.in_ok-read_column.ensures.taken);
+      carried = carried_next is_carried_column (typed types columns) (typed (drop (i + 1) types) (drop (i + 1) columns)) (c.index-types-i.result.now, c.index-columns-i.result.now)
+          (c.loop-i.invariant.carried ∙ ap (list_all is_carried_column) others) c.in_ok-read_column.ensures.carried;
       count = omega (arith, c.loop-i.invariant.count, ap length c.in_ok-push_back.ensures.items, length-append c.loop-i.told.items (c.in_ok-read_column.field-0 ∷ []));
     }
 
@@ -77,3 +93,8 @@ returns-clause-ok g c =
     let types = c.args.types.now in
     let telling = rw (drop_all c.loop-i.i c.args.columns.now c.loop-i-test.false, zip_none own_type own (drop c.loop-i.i types)) at c.loop-i.invariant.telling in
     (telling_ends IsOfColumn causes_of_typed cost (g.S.Source.told c.args.source.now) (typed types c.args.columns.now) _ _ _ telling).1
+
+pub returns-clause-carried : goal.returns-clause-carried
+returns-clause-carried g c =
+    let types = c.args.types.now in
+    rw (drop_all c.loop-i.i c.args.columns.now c.loop-i-test.false, zip_none own_type own (drop c.loop-i.i types)) at c.loop-i.invariant.carried

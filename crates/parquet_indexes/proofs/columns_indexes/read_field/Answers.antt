@@ -7,8 +7,9 @@ use Rattle.columns_core.specs.declared.error.Part.TheVariants as part
 use Rattle.parquet_meta.specs.Indexes.{begins_with, field_columns}
 use Rattle.parquet_meta.specs.declared.metadata.ColumnChunkMetaData.{ColumnChunkMetaData}
 use Rattle.parquet_meta.specs.Source.{IsReadFailure}
-use Rattle.parquet_indexes.specs.FieldStatistics.{causes_of_field}
-use Rattle.parquet_indexes.proofs.FieldLemmas.{at_most, both_lengths, columns_fail, no_causes, of_field, uneven}
+use Rattle.parquet_indexes.specs.FieldStatistics.{TellsUncarried, causes_of_field, is_carried_field}
+use Rattle.parquet_indexes.proofs.CarriedLemmas.{memory_carried}
+use Rattle.parquet_indexes.proofs.FieldLemmas.{at_most, both_lengths, columns_fail, field_carried, no_causes, of_field, uneven, uneven_uncarried}
 use Rattle.parquet_indexes.proofs.TypedLemmas.{all_named}
 use Rattle.parquet_indexes.proofs.columns_indexes.read_field.Goals as goal
 
@@ -111,4 +112,40 @@ returns-clause-fails g c =
     let now = g.S.Source.faults c.read_columns.new.source in
     let lengths = both_lengths chunks field types columns c.in_ok-types.ensures.types columns_are in
     IfErr-weaker c.arrange.result _ _ (λ e memory. subst (IsReadFailure told before now (λ file. causes_of_field file chunks field)) (sym memory) tt)
+    (c.arrange.ensures.memory (omega (arith, c.in_ok-told.ensures.length, ap length c.deref-2.ensures.value, lengths.0)))
+
+pub returns-then-len-clause-carried : goal.returns-then-len-clause-carried
+returns-then-len-clause-carried g c =
+    let chunks = c.args.chunks.now in
+    let field = c.args.field.now in
+    let types = c.in_ok-types.types.items in
+    let columns = c.in_ok-columns.columns.items in
+    let columns_are : map own columns ≡ field_columns field.name chunks = c.in_ok-columns.ensures.found ∙ ap (λ name. field_columns name chunks) c.as_str.ensures in
+    let lengths = both_lengths chunks field types columns c.in_ok-types.ensures.types columns_are in
+    uneven_uncarried chunks field (λ same. c.if-len.true (omega (arith, same, lengths.0, lengths.1, c.len.ensures, c.len-2.ensures, c.in_ok-types.types.ok.0, c.in_ok-columns.columns.ok.0)))
+
+pub returns-in_err-told-clause-carried : goal.returns-in_err-told-clause-carried
+returns-in_err-told-clause-carried g c =
+    let p = err_from_is_err_and c.from_residual-in_err-told.result c.from_residual-in_err-told.ensures.1 in
+    let chunks = c.args.chunks.now in
+    let field = c.args.field.now in
+    let types = c.in_ok-types.types.items in
+    let columns = c.in_ok-columns.columns.items in
+    let columns_are : map own columns ≡ field_columns field.name chunks = c.in_ok-columns.ensures.found ∙ ap (λ name. field_columns name chunks) c.as_str.ensures in
+    let same : length types ≡ length columns = omega (arith, c.if-len.false, c.len.ensures, c.len-2.ensures, c.in_ok-types.types.ok.0, c.in_ok-columns.columns.ok.0) in
+    let e = c.in_err-told.field-0.0 in
+    rw (p.1, p.2) (subst (λ carried. TellsUncarried carried e) (sym (field_carried chunks field types columns c.in_ok-types.ensures.types columns_are same))
+    (rw (c.deref-2.ensures.value, c.deref.ensures.value) at c.in_err-told.ensures.carried))
+
+pub returns-clause-carried : goal.returns-clause-carried
+returns-clause-carried g c =
+    let chunks = c.args.chunks.now in
+    let field = c.args.field.now in
+    let types = c.in_ok-types.types.items in
+    let columns = c.in_ok-columns.columns.items in
+    let columns_are : map own columns ≡ field_columns field.name chunks = c.in_ok-columns.ensures.found ∙ ap (λ name. field_columns name chunks) c.as_str.ensures in
+    let same : length types ≡ length columns = omega (arith, c.if-len.false, c.len.ensures, c.len-2.ensures, c.in_ok-types.types.ok.0, c.in_ok-columns.columns.ok.0) in
+    let lengths = both_lengths chunks field types columns c.in_ok-types.ensures.types columns_are in
+    memory_carried (is_carried_field chunks field) c.arrange.result
+    (field_carried chunks field types columns c.in_ok-types.ensures.types columns_are same ∙ (rw (c.deref-2.ensures.value, c.deref.ensures.value) at c.in_ok-told.ensures.carried))
     (c.arrange.ensures.memory (omega (arith, c.in_ok-told.ensures.length, ap length c.deref-2.ensures.value, lengths.0)))

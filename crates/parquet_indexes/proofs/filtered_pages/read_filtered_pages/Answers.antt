@@ -1,18 +1,22 @@
-use Rattle.std.proofs.Common.{◌≡◌, ◌∙◌, refl, true, inl, ℕ, List, [], Option, Some, Vec, Global, subst, sym, ap}
+use Rattle.std.proofs.Common.{◌≡◌, ◌∙◌, refl, true, inl, inr, ℕ, List, [], Option, Some, Vec, Global, subst, sym, ap}
 use Rattle.std.specs.Prelude.{IfSome, Ok, Err}
 use Rattle.std.specs.List.{list_all}
 use Rattle.std.proofs.lemmas.Result.{IfErr-weaker, IfOk-weaker, err_from_is_err_and}
 use Rattle.columns_core.specs.Refusals.{IsDamaged}
 use Rattle.parquet_base.specs.Intervals.{is_well_shaped}
 use Rattle.parquet_base.specs.declared.interval.Interval.{Interval}
+use Rattle.parquet_meta.specs.Lists.{all_of}
 use Rattle.parquet_meta.specs.Source.{Finds, IsReadFailure}
 use Rattle.parquet_meta.specs.declared.metadata.PageLocation.{PageLocation}
+use Rattle.parquet_page.specs.Locations.{selected_pages}
 use Rattle.parquet_indexes.specs.Answered.{AnswersAt, RowsOfPages}
-use Rattle.parquet_indexes.specs.FieldStatistics.{AreOfFields, causes_of_fields}
+use Rattle.parquet_indexes.specs.FieldStatistics.{AreOfFields, TellsUncarried, causes_of_fields, is_carried_field}
 use Rattle.parquet_statistics.specs.LeafTypes.{has_column}
 use Rattle.parquet_indexes.specs.PageMaps.{InFields, in_fields, locations_of_fields, pages_at_places, rows_at_places}
 use Rattle.parquet_indexes.specs.declared.page_statistics.FieldPageStatistics.{FieldPageStatistics}
-use Rattle.parquet_indexes.proofs.AnswerLemmas.{chosen, ill_shaped, locations_fail, none_wrong, not_selected, passed_on, rows_fail, statistics_fail}
+use Rattle.parquet_indexes.proofs.AnswerLemmas.{answered, chosen, ill_shaped, locations_fail, none_wrong, not_selected, passed_on, rows_fail, statistics_fail}
+use Rattle.parquet_indexes.proofs.CarriedLemmas.{damaged_carried, damaged_uncarried, not_found_uncarried}
+use Rattle.parquet_indexes.proofs.MadeLemmas.{as_many_fields}
 use Rattle.parquet_indexes.proofs.filtered_pages.read_filtered_pages.Goals as goal
 
 abbrev view : Vec (Vec (Vec PageLocation Global) Global) Global → InFields PageLocation
@@ -175,3 +179,72 @@ returns-clause-ok g c =
     (subst (λ columns. IfSome here (λ file. locations_of_fields columns fields file ≡ Some places)) slice c.in_ok-locations.ensures.found) in
     let are : rows_at_places group.num_rows places ≡ Some (in_fields c.in_ok-rows.rows.items) = subst (λ (lists : List (Vec (Vec PageLocation Global) Global)). rows_at_places group.num_rows (in_fields lists) ≡ Some (in_fields c.in_ok-rows.rows.items)) c.deref.ensures.value c.in_ok-rows.ensures.rows in
     IfOk-weaker c.select_of_fields.result (λ _. Unit {0}) _ (λ maps done. none_wrong group fields told places (in_fields c.in_ok-rows.rows.items) none is are) (IfOk-weaker c.select_of_fields.result _ _ (λ maps selected. tt) c.select_of_fields.ensures.maps)
+
+-- ---- what is carried
+
+pub returns-in_err-statistics-clause-carried : goal.returns-in_err-statistics-clause-carried
+returns-in_err-statistics-clause-carried g c =
+    let p = err_from_is_err_and c.from_residual.result c.from_residual.ensures.1 in
+    let fields = c.args.fields.now in
+    let e = c.in_err-statistics.field-0.0 in
+    rw (p.1, p.2) (inl (subst (λ columns. TellsUncarried (list_all (is_carried_field columns) fields) e) c.as_slice-columns.ensures c.in_err-statistics.ensures.carried))
+
+pub returns-in_err-locations-clause-carried : goal.returns-in_err-locations-clause-carried
+returns-in_err-locations-clause-carried g c =
+    let p = err_from_is_err_and c.from_residual-in_err-locations.result c.from_residual-in_err-locations.ensures.1 in
+    let here = g.S.Source.told c.read_columns_indexes.new.source in
+    let mid = g.S.Source.faults c.read_columns_indexes.new.source in
+    let now = g.S.Source.faults c.read_locations.new.source in
+    let group = c.args.row_group.now in
+    let fields = c.args.fields.now in
+    let e = c.in_err-locations.field-0.0 in
+    rw (p.1, p.2) (inl (not_found_uncarried (list_all (is_carried_field group.columns) fields) view (locations_of_fields group.columns fields) here mid now e
+    (subst (λ columns. Finds view (locations_of_fields columns fields) here mid now (Err e)) c.as_slice-columns.ensures c.in_err-locations.ensures.found)))
+
+pub returns-in_err-rows-clause-carried : goal.returns-in_err-rows-clause-carried
+returns-in_err-rows-clause-carried g c =
+    let p = err_from_is_err_and c.from_residual-in_err-rows.result c.from_residual-in_err-rows.ensures.1 in
+    let group = c.args.row_group.now in
+    rw (p.1, p.2) (inl (damaged_uncarried (list_all (is_carried_field group.columns) c.args.fields.now) (rows_at_places group.num_rows (in_fields c.deref.result.now)) c.in_err-rows.field-0.0 c.in_err-rows.ensures.refusal))
+
+pub returns-in_err-answer-clause-carried : goal.returns-in_err-answer-clause-carried
+returns-in_err-answer-clause-carried g c =
+    let p = err_from_is_err_and c.from_residual-in_err-answer.result c.from_residual-in_err-answer.ensures.1 in
+    let told = g.S.Source.told c.args.source.now in
+    let here = g.S.Source.told c.read_columns_indexes.new.source in
+    let group = c.args.row_group.now in
+    let fields = c.args.fields.now in
+    let statistics = c.in_ok-statistics.statistics.items in
+    let places = view c.in_ok-locations.locations in
+    let slice = c.as_slice-columns.ensures in
+    let of : IfSome told (λ file. AreOfFields file group.columns fields statistics) = subst (λ columns. IfSome told (λ file. AreOfFields file columns fields statistics)) slice c.in_ok-statistics.ensures.told in
+    let none : IfSome told (λ file. causes_of_fields group.columns fields file ≡ []) = subst (λ columns. IfSome told (λ file. causes_of_fields columns fields file ≡ [])) slice c.in_ok-statistics.ensures.ok in
+    let is : IfSome told (λ file. locations_of_fields group.columns fields file ≡ Some places) = subst (λ (o : Option (List ℕ)). IfSome o (λ file. locations_of_fields group.columns fields file ≡ Some places)) c.in_ok-statistics.ensures.keeps.same
+    (subst (λ columns. IfSome here (λ file. locations_of_fields columns fields file ≡ Some places)) slice c.in_ok-locations.ensures.found) in
+    let are : rows_at_places group.num_rows places ≡ Some (in_fields c.in_ok-rows.rows.items) = subst (λ (lists : List (Vec (Vec PageLocation Global) Global)). rows_at_places group.num_rows (in_fields lists) ≡ Some (in_fields c.in_ok-rows.rows.items)) c.deref.ensures.value c.in_ok-rows.ensures.rows in
+    let e = c.in_err-answer.field-0.0 in
+    let at : AnswersAt g.F.Fn c.args.predicate statistics c.in_ok-rows.rows.items (Err e) = subst (λ (list : List FieldPageStatistics). AnswersAt g.F.Fn c.args.predicate list c.in_ok-rows.rows.items (Err e)) c.deref-2.ensures.value
+    (subst (λ (rows : RowsOfPages). AnswersAt g.F.Fn c.args.predicate c.deref-2.result.now rows (Err e)) c.deref-3.ensures.value
+    (subst (λ answer. AnswersAt g.F.Fn c.args.predicate c.deref-2.result.now c.deref-3.result.now answer) c.in_err-answer.was c.ask.ensures)) in
+    rw (p.1, p.2) (inr (answered group fields g.F.Fn c.args.predicate told statistics places of none is c.in_ok-rows.rows.items are (Err e) at))
+
+pub returns-then-not-is_well_shaped-clause-carried : goal.returns-then-not-is_well_shaped-clause-carried
+returns-then-not-is_well_shaped-clause-carried g c = inl tt
+
+pub returns-clause-carried : goal.returns-clause-carried
+returns-clause-carried g c =
+    let group = c.args.row_group.now in
+    let fields = c.args.fields.now in
+    inl (damaged_carried (list_all (is_carried_field group.columns) fields) (pages_at_places c.deref-5.result.now group.num_rows (in_fields c.deref-6.result.now)) c.select_of_fields.result
+    (subst (λ columns. list_all (is_carried_field columns) fields ≡ true) c.as_slice-columns.ensures c.in_ok-statistics.ensures.carried) c.select_of_fields.ensures.refusal)
+
+-- ---- how many
+
+pub returns-clause-each : goal.returns-clause-each
+returns-clause-each g c =
+    let group = c.args.row_group.now in
+    IfOk-weaker c.select_of_fields.result _ _
+    (λ maps selected. as_many_fields (all_of (λ (locations : List PageLocation). selected_pages c.deref-5.result.now locations group.num_rows)) c.in_ok-locations.locations.items maps.items
+    (subst (λ (lists : List (Vec (Vec PageLocation Global) Global)). pages_at_places c.deref-5.result.now group.num_rows (in_fields lists) ≡ Some (in_fields maps.items)) c.deref-6.ensures.value selected)
+    ∙ c.in_ok-locations.ensures.each)
+    c.select_of_fields.ensures.maps

@@ -1,4 +1,4 @@
-use Rattle.std.proofs.Common.{◌∙◌, ◌+◌, List, Vec, Global, drop, map, rules}
+use Rattle.std.proofs.Common.{◌∙◌, ◌+◌, List, [], ◌∷◌, Vec, Global, ap, arith, drop, length, length-append, map, rules}
 use Rattle.std.proofs.lemmas.List.{drop_all, map_push}
 use Rattle.std.proofs.lemmas.Result.{err_from_is_err_and}
 use Rattle.parquet_meta.proofs.EachLemmas.{each_ends, each_goes_on, each_refused}
@@ -32,6 +32,7 @@ loop-field-preserved g c =
       reading = rw (c.in_ok-push.ensures.items, map_push)
           (each_goes_on (locations_of_field columns) (offset_indexes_length columns) (g.S.Source.told c.args.source.now) c.args.fields.now
           (drop (c.loop-field.field-index + 1) c.args.fields.now) c.field-item.result _ (map (λ list. list.items) c.in_ok-locations_of_field.field-0.items) _ _ _ reading found c.in_ok-locations_of_field.ensures.taken);
+      count = omega (arith, c.loop-field.invariant.count, ap length c.in_ok-push.ensures.items, length-append c.loop-field.locations.items (c.in_ok-locations_of_field.field-0 ∷ []));
     }
 
 pub returns-clause-found : goal.returns-clause-found

@@ -1,4 +1,4 @@
-use Rattle.std.proofs.Common.{◌≡◌, drop}
+use Rattle.std.proofs.Common.{◌≡◌, drop, length}
 use Rattle.parquet_meta.specs.Keeps.{Keeps}
 use Rattle.parquet_meta.proofs.EachLemmas.{IsReadingEach}
 use Rattle.parquet_indexes.specs.PageMaps.{in_fields, locations_of_field, offset_indexes_length}
@@ -12,4 +12,5 @@ invariant-loop-field g l = record {
   reading : IsReadingEach (locations_of_field l.columns) (offset_indexes_length l.columns) (g.S.Source.told l.fn.source)
       l.fields (drop l.field-index l.fields) (in_fields l.locations.items)
       (g.S.Source.taken l.fn.source) (g.S.Source.taken l.source);
+  count : length l.locations.items ≡ l.field-index;
 }

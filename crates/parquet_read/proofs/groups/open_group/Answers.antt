@@ -1,6 +1,5 @@
-use Rattle.std.proofs.Common.{◌∙◌, Vec, Global, List, length, map, arith}
+use Rattle.std.proofs.Common.{Vec, Global, List, length, map, arith}
 use Rattle.std.proofs.lemmas.Bool.{and_parts}
-use Rattle.std.proofs.lemmas.List.{length-map}
 use Rattle.std.proofs.lemmas.Result.{err_from_is_err_and}
 use Rattle.flat_binary.specs.declared.array_iter.ArrayIter.{ArrayIter}
 use Rattle.flat_values.specs.ColumnLeft.{ColumnLeft}
@@ -9,7 +8,7 @@ use Rattle.parquet_read.specs.RowGroup.{group_left, iter_left}
 use Rattle.parquet_read.specs.declared.column_pages.ColumnPages.{ColumnPages}
 use Rattle.parquet_read.specs.declared.row_group.RowGroupDeserializer.{RowGroupDeserializer}
 use Rattle.parquet_read.proofs.FoundLemmas.{finds_err, told_all}
-use Rattle.parquet_read.proofs.OpenedGroupLemmas.{group_opens, none_made, surely}
+use Rattle.parquet_read.proofs.OpenedGroupLemmas.{columns_opened, group_opens, none_made, surely}
 use Rattle.parquet_read.proofs.groups.open_group.Goals as goal
 
 abbrev lefts : Vec (ArrayIter ColumnPages) Global → List ColumnLeft
@@ -30,6 +29,10 @@ returns-in_err-columns-clause-opens g c =
       readable = tt;
       columns = tt;
       each = tt;
+      typed = tt;
+      sized = tt;
+      counted = tt;
+      fresh = tt;
       rows = tt;
       wanted = tt;
       refused = λ not. (c.in_err-columns.ensures.refused not).1;
@@ -48,5 +51,7 @@ returns-clause-opens g c =
     let readable = surely (is_readable reading fields lists) (λ not. (c.in_ok-columns.ensures.refused not).1) in
     let legal = (and_parts (is_legal_reading c.args.chunk_size (length fields) lists) _ readable).0 in
     let shaped = (and_parts (have_one_list (length fields) lists) (are_shaped_pages lists) (and_parts (is_chunk_size c.args.chunk_size) _ legal).1).1 in
+    let all = c.in_ok-columns.ensures in
+    let opened = columns_opened iter_left reading fields lists columns.items all.each all.typed all.sized all.counted all.fresh in
     group_opens group_left told before now reading fields lists (lefts columns) c.rows_of_group-rows.result c.new.result readable (c.in_ok-columns.ensures.found readable)
-    (length-map columns.items iter_left ∙ c.in_ok-columns.ensures.each) c.requires (c.rows_of_group-rows.ensures shaped) c.new.ensures.group (none_made iter_left columns.items c.new.result c.new.ensures.err)
+    opened c.requires (c.rows_of_group-rows.ensures shaped) c.new.ensures.group (none_made iter_left columns.items c.new.result c.new.ensures.err)

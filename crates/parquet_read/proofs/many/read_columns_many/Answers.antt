@@ -2,22 +2,31 @@ use Rattle.std.proofs.Common.{◌≡◌, ◌∙◌, ◌⊎◌, ℕ, Vec, Global,
 use Rattle.std.specs.Prelude.{◌&&◌, IfOk}
 use Rattle.std.specs.List.{list_all}
 use Rattle.std.proofs.lemmas.Bool.{and_parts}
-use Rattle.std.proofs.lemmas.Result.{err_from_is_err_and}
+use Rattle.std.proofs.lemmas.Result.{IfOk-weaker, err_from_is_err_and}
 use Rattle.columns_core.specs.Causes.{IsOneOf, IsWantOfMemory, cause_of, is_empty}
 use Rattle.flat_binary.specs.declared.array_iter.ArrayIter.{ArrayIter}
 use Rattle.flat_values.specs.ColumnLeft.{ColumnLeft}
 use Rattle.parquet_meta.specs.Source.{Finds}
-use Rattle.parquet_read.specs.Asked.{AskedField, are_shaped_pages, asked_fields, fields_causes, fields_left, group_reading, have_one_list, is_chunk_size, is_legal_reading, is_shaped_field}
+use Rattle.parquet_read.specs.Asked.{AskedField, GroupReading, are_shaped_pages, asked_fields, asked_outline, fields_causes, fields_left, group_reading, have_one_list, is_chunk_size, is_legal_reading, is_shaped_field}
+use Rattle.parquet_read.specs.Opening.{outline_of}
 use Rattle.parquet_read.specs.RowGroup.{iter_left}
 use Rattle.parquet_read.specs.declared.column_pages.ColumnPages.{ColumnPages}
 use Rattle.parquet_read.proofs.FoundLemmas.{finds_memory}
 use Rattle.parquet_read.proofs.ListLemmas.{lists_shown}
+use Rattle.parquet_read.proofs.OutlineLemmas.{asked_types, none_lent_known, rows_known, sizes_known, types_known}
 use Rattle.parquet_read.proofs.PlaceLemmas.{asked_shaped}
 use Rattle.parquet_read.proofs.ReadableLemmas.{asked_count, causes_refused, illegal_refused, illegal_unread, is_sized, memory_left, not_unreadable, readable_none}
 use Rattle.parquet_read.proofs.many.read_columns_many.Goals as goal
 
-abbrev lefts : Vec (ArrayIter ColumnPages) Global → List ColumnLeft
+abbrev Arrays : Type 0
+Arrays = Vec (ArrayIter ColumnPages) Global
+
+abbrev lefts : Arrays → List ColumnLeft
 lefts arrays = map iter_left arrays.items
+
+-- what is known of the columns, whatever the source gives
+abbrev AreAsked : GroupReading → List AskedField → Arrays → Type 0
+AreAsked reading asked arrays = map (λ own. outline_of (iter_left own)) arrays.items ≡ map (asked_outline reading) asked
 
 pub returns-in_err-check_reading-clause-refused : goal.returns-in_err-check_reading-clause-refused
 returns-in_err-check_reading-clause-refused g c =
@@ -118,6 +127,38 @@ returns-clause-each g c =
     let legal = subst (λ (n : ℕ). is_legal_reading c.args.chunk_size n lists ≡ true) count c.in_ok-check_reading.ensures.ok in
     let one = (and_parts (have_one_list (length fields) lists) (are_shaped_pages lists) (and_parts (is_chunk_size c.args.chunk_size) _ legal).1).0 in
     subst (λ (n : ℕ). IfOk c.open_fields.result (λ arrays. length arrays.items ≡ n)) (ap length c.in_ok-asked.ensures.asked ∙ asked_count c.args.limit fields lists one) c.open_fields.ensures.each
+
+pub returns-clause-typed : goal.returns-clause-typed
+returns-clause-typed g c =
+    let lists = lists_shown c.args.pages in
+    let fields = c.args.fields.items in
+    let reading = group_reading c.args.row_group.now c.args.chunk_size c.args.limit in
+    let asked = asked_fields c.args.limit fields lists in
+    let count : c.len.result ≡ length fields = omega (arith, c.len.ensures) in
+    let legal = subst (λ (n : ℕ). is_legal_reading c.args.chunk_size n lists ≡ true) count c.in_ok-check_reading.ensures.ok in
+    let one = (and_parts (have_one_list (length fields) lists) (are_shaped_pages lists) (and_parts (is_chunk_size c.args.chunk_size) _ legal).1).0 in
+    let known = subst (λ (l : List AskedField). IfOk c.open_fields.result (AreAsked reading l)) c.in_ok-asked.ensures.asked c.open_fields.ensures.outlines in
+    IfOk-weaker c.open_fields.result (AreAsked reading asked) _ (λ arrays known. types_known iter_left reading asked arrays.items fields (asked_types c.args.limit fields lists one) known) known
+
+pub returns-clause-sized : goal.returns-clause-sized
+returns-clause-sized g c =
+    let reading = group_reading c.args.row_group.now c.args.chunk_size c.args.limit in
+    let asked = asked_fields c.args.limit c.args.fields.items (lists_shown c.args.pages) in
+    let known = subst (λ (l : List AskedField). IfOk c.open_fields.result (AreAsked reading l)) c.in_ok-asked.ensures.asked c.open_fields.ensures.outlines in
+    IfOk-weaker c.open_fields.result (AreAsked reading asked) _ (λ arrays known. sizes_known iter_left reading asked arrays.items known) known
+
+pub returns-clause-counted : goal.returns-clause-counted
+returns-clause-counted g c =
+    let reading = group_reading c.args.row_group.now c.args.chunk_size c.args.limit in
+    let asked = asked_fields c.args.limit c.args.fields.items (lists_shown c.args.pages) in
+    let known = subst (λ (l : List AskedField). IfOk c.open_fields.result (AreAsked reading l)) c.in_ok-asked.ensures.asked c.open_fields.ensures.outlines in
+    IfOk-weaker c.open_fields.result (AreAsked reading asked) _ (λ arrays known. rows_known iter_left reading asked arrays.items known) known
+
+pub returns-clause-fresh : goal.returns-clause-fresh
+returns-clause-fresh g c =
+    let reading = group_reading c.args.row_group.now c.args.chunk_size c.args.limit in
+    let asked = c.in_ok-asked.asked.items in
+    IfOk-weaker c.open_fields.result (AreAsked reading asked) _ (λ arrays known. none_lent_known iter_left reading asked arrays.items known) c.open_fields.ensures.outlines
 
 pub returns-clause-taken : goal.returns-clause-taken
 returns-clause-taken g c = rw c.in_ok-asked.ensures.asked at c.open_fields.ensures.taken

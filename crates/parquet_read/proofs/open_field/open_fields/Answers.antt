@@ -4,16 +4,21 @@ use Rattle.std.proofs.lemmas.List.{length_push, map_push}
 use Rattle.std.proofs.lemmas.Result.{err_from_is_err_and}
 use Rattle.flat_binary.specs.declared.array_iter.ArrayIter.{ArrayIter}
 use Rattle.parquet_meta.proofs.EachLemmas.{each_ends, each_goes_on, each_refused}
-use Rattle.parquet_read.specs.Asked.{GroupReading, asked_causes, asked_left, asked_length, fields_causes}
+use Rattle.parquet_read.specs.Asked.{GroupReading, asked_causes, asked_left, asked_length, asked_outline, fields_causes}
+use Rattle.parquet_read.specs.Opening.{Outline, outline_of}
 use Rattle.parquet_read.specs.RowGroup.{iter_left}
 use Rattle.parquet_read.specs.declared.column_pages.ColumnPages.{ColumnPages}
 use Rattle.parquet_read.proofs.AskedLemmas.{causes_on, no_items}
 use Rattle.parquet_read.proofs.FoundLemmas.{nil_parts}
+use Rattle.parquet_read.proofs.OutlineLemmas.{all_made, one_more}
 use Rattle.parquet_read.proofs.PlaceLemmas.{shaped_pages}
 use Rattle.parquet_read.proofs.open_field.open_fields.Goals as goal
 
 abbrev Arrays : Type 0
 Arrays = Vec (ArrayIter ColumnPages) Global
+
+abbrev known : ArrayIter ColumnPages → Outline
+known own = outline_of (iter_left own)
 
 pub open_field-requires : goal.open_field-requires
 open_field-requires g c =
@@ -42,6 +47,7 @@ fields-preserved g c =
     let opening = rw steps.0 at c.fields.invariant.opening in
     let shaped = rw steps.0 at c.fields.invariant.shaped in
     let each = rw steps.0 at c.fields.invariant.each in
+    let outlines = rw steps.0 at c.fields.invariant.outlines in
     let causes = sym (causes_on reading c.fields.field-iterator.rest.items others c.in-Some.field steps.0) ∙ c.fields.invariant.readable in
     let found = rw c.fields.invariant.keeps.same at c.in_ok-open_field.ensures.found in
     record {
@@ -50,6 +56,9 @@ fields-preserved g c =
       shaped = (and_parts _ _ shaped).1;
       readable = (nil_parts (asked_causes reading c.in-Some.field) (fields_causes reading others) causes).1;
       each = omega (arith, each, ap length c.in_ok-push.ensures.items, length_push c.fields.arrays.items c.in_ok-open_field.field-0);
+      outlines = rw (c.in_ok-push.ensures.items, map_push)
+          (one_more (map known c.fields.arrays.items) (map (asked_outline reading) others) (map (asked_outline reading) c.args.asked.items) (asked_outline reading c.in-Some.field)
+          (known c.in_ok-open_field.field-0) outlines c.in_ok-open_field.ensures.outline);
       opening = rw (c.in_ok-push.ensures.items, map_push)
           (each_goes_on (asked_left reading) (asked_length reading) (g.S.Source.told c.args.source.now) c.args.asked.items others c.in-Some.field _ (iter_left c.in_ok-open_field.field-0) _ _ _
           opening found c.in_ok-open_field.ensures.taken);
@@ -65,3 +74,9 @@ returns-clause-found g c =
 pub returns-clause-each : goal.returns-clause-each
 returns-clause-each g c =
     omega (arith, c.fields.invariant.each, sym c.fields.field-iterator.rest.ok.0 ∙ c.in-None.ensures.steps.0)
+
+pub returns-clause-outlines : goal.returns-clause-outlines
+returns-clause-outlines g c =
+    let none = no_items c.fields.field-iterator.rest.items (sym c.fields.field-iterator.rest.ok.0 ∙ c.in-None.ensures.steps.0) in
+    let reading : GroupReading = record { group = c.args.group.now; size = c.args.chunk_size; limit = c.args.limit } in
+    all_made (map known c.fields.arrays.items) (map (asked_outline reading) c.fields.field-iterator.rest.items) (map (asked_outline reading) c.args.asked.items) (ap (map (asked_outline reading)) none) c.fields.invariant.outlines

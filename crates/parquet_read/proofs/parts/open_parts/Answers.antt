@@ -3,17 +3,19 @@ use Rattle.std.specs.Prelude.{Err, IfOk, IfSome, filter, nat_le}
 use Rattle.std.proofs.lemmas.Bool.{le-leb}
 use Rattle.std.proofs.lemmas.List.{length-map}
 use Rattle.std.proofs.lemmas.Result.{err_from_is_err_and}
-use Rattle.parquet_meta.specs.Chunks.{chunk_range}
+use Rattle.parquet_meta.specs.Chunks.{chunk_range, chunk_start}
 use Rattle.parquet_meta.specs.Lists.{all_of}
 use Rattle.parquet_meta.specs.Places.{place_end, bytes_at}
 use Rattle.parquet_meta.specs.Source.{Finds}
-use Rattle.parquet_page.specs.Lent.{is_wanted}
+use Rattle.parquet_page.specs.Indexed.{indexed_rows}
+use Rattle.parquet_page.specs.Lent.{is_wanted, selected_count}
 use Rattle.parquet_page.specs.declared.page.FilteredPage.{FilteredPage}
 use Rattle.flat_values.specs.ColumnLeft.{ColumnLeft}
 use Rattle.parquet_read.specs.Asked.{left_in_file, page_part, part_in_front}
 use Rattle.parquet_read.specs.RowGroup.{iter_left}
 use Rattle.parquet_read.proofs.ColumnLemmas.{left_there, located_supply, parts_refused}
 use Rattle.parquet_read.proofs.FoundLemmas.{finds_err, finds_err_later, finds_memory, finds_opened, none_told, told_result, told_with}
+use Rattle.parquet_read.proofs.OpenLemmas.{counts_same}
 use Rattle.parquet_read.proofs.PartLemmas.{before_missing, bodies_missing, bodies_taken, parts_chunk, parts_taken}
 use Rattle.parquet_read.proofs.parts.open_parts.Goals as goal
 
@@ -117,6 +119,14 @@ returns-clause-found g c =
     subst (λ (o : Option ColumnLeft). IfOk result (λ arrays. Some (iter_left arrays) ≡ o)) (sym (left_there data_type size rows (Some pages) column file fits))
     (c.open_pages.ensures.begins (Some pages) (bytes_at file (chunk_range column)) supply)) c.requires.there each own))
     c.open_pages.ensures.memory
+
+pub returns-clause-outline : goal.returns-clause-outline
+returns-clause-outline g c = λ there.
+    let column = c.args.column.now in
+    let pages = c.args.pages.items in
+    let counted : indexed_rows c.in_ok-reader.reader ≡ selected_count pages =
+    c.in_ok-reader.ensures.rows ∙ ap selected_count c.placed_in-placed.ensures ∙ counts_same (chunk_start column) pages in
+    c.open_pages.ensures.outline (omega (arith, there, counted)) c.in_ok-reader.ensures.lent
 
 pub returns-clause-taken : goal.returns-clause-taken
 returns-clause-taken g c =
