@@ -20,7 +20,7 @@ use Rattle.parquet_scan.specs.Request.{Request, are_distinct, bounded_name, is_l
 use Rattle.parquet_scan.specs.Rows.{file_with, given_row_count}
 use Rattle.parquet_scan.specs.Scan.{Answers, IsApart, IsSound, OnFile, RefusesScan, chunk_shapes, kept_groups, kept_of, rows_in, shape_of}
 use Rattle.parquet_scan.specs.declared.scanning.Scan.{Scan}
-use Rattle.parquet_scan.proofs.CauseLemmas.{TellsOf}
+use Rattle.parquet_scan.proofs.CauseLemmas.{ComesFrom}
 use Rattle.parquet_scan.proofs.GivenCells.{own_chunks}
 use Rattle.parquet_scan.proofs.LegalLemmas.{AsksLegally}
 use Rattle.page_decoding.proofs.NextLemmas.{nothing_wrong}
@@ -158,10 +158,10 @@ refused_by_footer request told before now e finds legal = refused request told b
   caused told error.OutOfMemory finds = tt
 
 -- of causes that are known
-pub refused_by_causes : (request : Request) (told : Option (List ℕ)) (before now : ℕ) (e : Error) (found : List Cause) → TellsOf found e
+pub refused_by_causes : (request : Request) (told : Option (List ℕ)) (before now : ℕ) (e : Error) (found : List Cause) → ComesFrom found e
     → IfSome (cause_of e) (λ _. AsksLegally request told) → Caused request told e → RefusesScan request told before now e
 refused_by_causes request told before now e found tells legal cause = refused request told before now e (argument e tells) (io e tells) legal cause where
-  argument : (e : Error) → TellsOf found e → IsTrue (is_invalid_argument e) → ⊥
+  argument : (e : Error) → ComesFrom found e → IsTrue (is_invalid_argument e) → ⊥
   argument e (inl h) k = false≢true (subst (λ x. IsTrue (is_invalid_argument x)) h k)
   argument (error.InvalidArgumentError p) (inr h) k = h
   argument (error.NotYetImplemented p) (inr h) k = false≢true k
@@ -171,7 +171,7 @@ refused_by_causes request told before now e found tells legal cause = refused re
   argument error.Io (inr h) k = false≢true k
   argument error.OutOfMemory (inr h) k = false≢true k
 
-  io : (e : Error) → TellsOf found e → e ≡ error.Io → MayFail before now
+  io : (e : Error) → ComesFrom found e → e ≡ error.Io → MayFail before now
   io e (inl h) k = absurd cc
   io e (inr h) k = absurd (subst (λ x. IsOneOf found (cause_of x)) k h)
 

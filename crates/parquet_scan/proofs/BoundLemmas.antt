@@ -22,7 +22,7 @@ use Rattle.parquet_scan.specs.Causes.{array_causes_of_bound, bounded_cells, boun
 use Rattle.parquet_scan.specs.Counting.{causes_of_bytes, counts_by, with_ends}
 use Rattle.parquet_scan.specs.Request.{bound_type, bounded_field}
 use Rattle.parquet_scan.specs.Rows.{group_keeps}
-use Rattle.parquet_scan.proofs.CauseLemmas.{TellsOf, tells_left, tells_right}
+use Rattle.parquet_scan.proofs.CauseLemmas.{ComesFrom, tells_left, tells_right}
 use Rattle.parquet_scan.proofs.PairLemmas.{map_behind}
 
 -- ---- the groups that count
@@ -124,13 +124,13 @@ module _ (fields : List Field) (bound : Bound) (cells : List (Ends Cell)) where
     by None none = refl
     by (Some field) none = fit-ok (bound_type field) (map low_of cells) (map high_of cells) (none_of _ Overflow none)
 
-  pub bytes_tell : (e : Error) → TellsOf (causes_of_bytes (bytes_of cells) fields bound) e → TellsOf (side_causes (bounded_field fields bound)) e
+  pub bytes_tell : (e : Error) → ComesFrom (causes_of_bytes (bytes_of cells) fields bound) e → ComesFrom (side_causes (bounded_field fields bound)) e
   bytes_tell e = by (bounded_field fields bound) where
-    by : (field : Option Field) → TellsOf (counted_causes field) e → TellsOf (side_causes field) e
+    by : (field : Option Field) → ComesFrom (counted_causes field) e → ComesFrom (side_causes field) e
     by None tells = tells
     by (Some field) (inl memory) = inl memory
     by (Some field) (inr one) = told (fit (bound_type field) (bytes_of cells)) refl one where
-      told : (b : Bool) → fit (bound_type field) (bytes_of cells) ≡ b → IsOneOf (unless b Overflow) (cause_of e) → TellsOf (side_causes (Some field)) e
+      told : (b : Bool) → fit (bound_type field) (bytes_of cells) ≡ b → IsOneOf (unless b Overflow) (cause_of e) → ComesFrom (side_causes (Some field)) e
       told true fits one = absurd (nothing_wrong (cause_of e) one)
       told false fits one = inr (too_many (side_causes (Some field)) (cause_of e) (unfit-told (bound_type field) (map low_of cells) (map high_of cells) fits) one)
 
@@ -142,11 +142,11 @@ pub nothing_of_bound : (fields : List Field) (bound : Bound) (groups : List RowG
 nothing_of_bound fields bound groups bytes none are fine =
     λ i. none i ++ bytes_fit fields bound (filter_map (bounded_cells fields bound) groups) (ap (λ bytes. causes_of_bytes bytes fields bound) (sym are) ∙ fine) i
 
-pub group_tells : (fields : List Field) (bound : Bound) (groups : List RowGroupMetaData) (e : Error) → TellsOf (flat_map (bounded_causes_of_group fields bound) groups) e → TellsOf (causes_of_bound fields groups bound) e
+pub group_tells : (fields : List Field) (bound : Bound) (groups : List RowGroupMetaData) (e : Error) → ComesFrom (flat_map (bounded_causes_of_group fields bound) groups) e → ComesFrom (causes_of_bound fields groups bound) e
 group_tells fields bound groups e tells = tells_left (flat_map (bounded_causes_of_group fields bound) groups) (array_causes_of_bound fields groups bound) e tells
 
 pub bytes_tell_of_bound : (fields : List Field) (bound : Bound) (groups : List RowGroupMetaData) (bytes : ℕ × ℕ) (e : Error) → bytes ≡ bytes_of (filter_map (bounded_cells fields bound) groups)
-    → TellsOf (causes_of_bytes bytes fields bound) e → TellsOf (causes_of_bound fields groups bound) e
+    → ComesFrom (causes_of_bytes bytes fields bound) e → ComesFrom (causes_of_bound fields groups bound) e
 bytes_tell_of_bound fields bound groups bytes e are tells =
     tells_right (flat_map (bounded_causes_of_group fields bound) groups) (array_causes_of_bound fields groups bound) e
-    (bytes_tell fields bound (filter_map (bounded_cells fields bound) groups) e (subst (λ bytes. TellsOf (causes_of_bytes bytes fields bound) e) are tells))
+    (bytes_tell fields bound (filter_map (bounded_cells fields bound) groups) e (subst (λ bytes. ComesFrom (causes_of_bytes bytes fields bound) e) are tells))

@@ -9,8 +9,8 @@ use Rattle.page_decoding.proofs.NextLemmas.{nothing_wrong}
 use Rattle.page_decoding.proofs.RowLemmas.{one_of-left, one_of-right}
 
 -- what an error tells of
-abbrev pub TellsOf : List Cause → Error → Type 0
-TellsOf causes e = IsWantOfMemory e ⊎ IsOneOf causes (cause_of e)
+abbrev pub ComesFrom : List Cause → Error → Type 0
+ComesFrom causes e = IsWantOfMemory e ⊎ IsOneOf causes (cause_of e)
 
 -- one of several parts is one of the first of them or of the rest
 pub one_cases : (first rest : List Cause) (o : Option Cause) → IsOneOf (first ++ rest) o → IsOneOf first o ⊎ IsOneOf rest o
@@ -21,14 +21,14 @@ weaker : {A B C : Type 0} → (B → C) → A ⊎ B → A ⊎ C
 weaker f (inl a) = inl a
 weaker f (inr b) = inr (f b)
 
-pub tells_left : (first rest : List Cause) (e : Error) → TellsOf first e → TellsOf (first ++ rest) e
+pub tells_left : (first rest : List Cause) (e : Error) → ComesFrom first e → ComesFrom (first ++ rest) e
 tells_left first rest e k = weaker (one_of-left first rest (cause_of e)) k
 
-pub tells_right : (first rest : List Cause) (e : Error) → TellsOf rest e → TellsOf (first ++ rest) e
+pub tells_right : (first rest : List Cause) (e : Error) → ComesFrom rest e → ComesFrom (first ++ rest) e
 tells_right first rest e k = weaker (one_of-right first rest (cause_of e)) k
 
 -- what it tells of an item it tells of all
-pub tells_of_all : {X : Type 0} (f : X → List Cause) (xs : List X) (i : ℕ) (d : X) (e : Error) → i < length xs → TellsOf (f (get_or xs i d)) e → TellsOf (flat_map f xs) e
+pub tells_of_all : {X : Type 0} (f : X → List Cause) (xs : List X) (i : ℕ) (d : X) (e : Error) → i < length xs → ComesFrom (f (get_or xs i d)) e → ComesFrom (flat_map f xs) e
 tells_of_all f [] i d e h k = absurd (omega arith)
 tells_of_all f (x ∷ xs) zero d e h k = tells_left (f x) (flat_map f xs) e k
 tells_of_all f (x ∷ xs) (suc i) d e h k = tells_right (f x) (flat_map f xs) e (tells_of_all f xs i d e (omega arith) k)

@@ -48,7 +48,7 @@ use Rattle.parquet_scan.specs.Cells.{Reading, chunk_of, dictionary_content, item
 use Rattle.parquet_scan.specs.Costs.{lent_of_chunk, with_dictionary_page}
 use Rattle.flat_binary.specs.PagesWanted.{pages_wanted}
 use Rattle.parquet_scan.specs.Decoded.{column_entries, column_outcomes, column_rows, pages_by, pages_for, rows_by}
-use Rattle.parquet_scan.proofs.CauseLemmas.{TellsOf, then_next}
+use Rattle.parquet_scan.proofs.CauseLemmas.{ComesFrom, then_next}
 use Rattle.parquet_scan.proofs.PageLemmas.{HasWrongFirst, IsOver, IsRefused, content_with, dictionary_first, first_taken, first_taken_wrong, items_many, page_given, page_refused, pair_rule, some_cause}
 use Rattle.parquet_scan.proofs.PieceLemmas.{AreUnder, IsGivenCut, bytes_as, bytes_if_there, cut-lengths, cut-map, given-cut, passes_in, pieces-as, pieces_fit, under-items, under-more, under-refused, under-take}
 
@@ -170,7 +170,7 @@ same_given size data_type item other rows e =
 
 -- What is wrong with rows in chunks is wrong with what is opened for them, with the item of a row, or with the bytes of a piece.
 pub tells_of_rows : (data_type : DataType) (item : ℕ → Option Item) (size : Option ℕ) (rows : List ℕ) (wanted : List Outcome) (opened : List Cause) (error : Error) → IsChunkSize size → AreUnder wanted (map item rows)
-    → ((o : Option Cause) → IsOneOf (causes_in wanted) o → IsOneOf (opened ++ row_causes item rows) o) → IsCausedByChunks (most_bytes data_type) size wanted error → TellsOf (opened ++ given_causes size data_type item rows) error
+    → ((o : Option Cause) → IsOneOf (causes_in wanted) o → IsOneOf (opened ++ row_causes item rows) o) → IsCausedByChunks (most_bytes data_type) size wanted error → ComesFrom (opened ++ given_causes size data_type item rows) error
 tells_of_rows data_type item size rows wanted opened error some under among (inl (inl memory)) = inl memory
 tells_of_rows data_type item size rows wanted opened error some under among (inl (inr one)) =
     let pieces = flat_map (piece_causes data_type item) (cut size rows) in
@@ -698,7 +698,7 @@ module _ (told : Option (List ℕ)) (size : Option ℕ) (group : RowGroupMetaDat
     at (Some bytes) found = pages ∙ sym (lent_is bytes group data_type column chunk found rows)
 
   -- what is wrong with the wanted rows is wrong with the chunk
-  pub tells_of_chunk : (error : Error) → IsCausedByChunks (most_bytes data_type) size wanted error → TellsOf (chunk_wrongs size data_type column chunk rows) error
+  pub tells_of_chunk : (error : Error) → IsCausedByChunks (most_bytes data_type) size wanted error → ComesFrom (chunk_wrongs size data_type column chunk rows) error
   tells_of_chunk error caused =
       tells_of_rows data_type item size rows wanted (causes_of_walk (reading_of data_type column chunk) (length rows) (pages_of_chunk column.num_values chunk)) error is.size_some under among caused where
         under : AreUnder wanted (map item rows)

@@ -20,7 +20,7 @@ use Rattle.parquet_scan.specs.Costs.{all_index_bytes, bytes_behind_footer, index
 use Rattle.parquet_scan.specs.Counting.{lie_in_groups, indexes_taken, indexes_taken_of_groups, gives_a_row, lent_of_groups, taken_of_groups}
 use Rattle.parquet_scan.specs.Request.{Request, is_legal}
 use Rattle.parquet_scan.specs.Rows.{File, column_named, file_of, file_with, first_rows, gives_rows, group_counts, groups_of, groups_read, intervals, kept, kept_rows, pages_keep, prunes_pages}
-use Rattle.parquet_scan.specs.Scan.{HoldsMet, IsSound, OnFile, RisesBy, RisesJustBy, kept_groups}
+use Rattle.parquet_scan.specs.Scan.{HoldsMet, IsSound, OnFile, RisesBy, RisesJustBy, ScanCosts, kept_groups}
 use Rattle.parquet_scan.specs.Truth.{KeepsMet, LosesNoRow}
 use Rattle.parquet_scan.specs.declared.scanning.GroupKept.{GroupKept}
 use Rattle.parquet_scan.proofs.ClippedLemmas.{first_of_range}
@@ -215,6 +215,12 @@ pub all_taken : {X : Type 0} (request : Request) (metadata : FileMetaData) (r : 
 all_taken request metadata (Err e) told before mid now first k = tt
 all_taken request metadata (Ok x) None before mid now first k = tt
 all_taken request metadata (Ok x) (Some bytes) before mid now first k = omega (arith, first, k)
+
+pub costs : {X : Type 0} (request : Request) (told : Option (List ℕ)) (steps steps_now taken taken_now : ℕ) (r : Result X Error)
+    → IfOk r (λ _. OnFile told (λ file. steps_now ≡ steps + pages_lent request file)) → IfOk r (λ _. OnFile told (λ file. steps_now ≤ steps + most_pages request file))
+    → IfOk r (λ _. OnFile told (λ file. taken_now ≤ taken + most_bytes_taken request file)) → IfOk r (λ _. ScanCosts request told steps steps_now taken taken_now)
+costs request told steps steps_now taken taken_now (Err e) lent most bytes = tt
+costs request told steps steps_now taken taken_now (Ok x) lent most bytes = record { pages_lent = lent; most_pages = most; taken = bytes }
 
 sound_as : (request : Request) (o : Option File) (runs : List (ℕ × List Interval)) → IfSome o (λ file. runs ≡ kept_groups request file) → IfSome o (λ file. IsSound request file (kept_groups request file)) → IfSome o (λ file. IsSound request file runs)
 sound_as request None runs same sound = tt

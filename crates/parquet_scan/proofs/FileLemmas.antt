@@ -23,12 +23,12 @@ use Rattle.parquet_meta.specs.Source.{IsReadFailure}
 use Rattle.parquet_page.specs.Values.{all_some}
 use Rattle.parquet_scan.specs.Causes.{causes, causes_of_group, file_causes, index_causes, index_causes_of_group, metadata_causes, read_causes, IsValid}
 use Rattle.parquet_scan.specs.Cells.{columns_of_chunk, given_chunks, group_chunks}
-use Rattle.parquet_scan.specs.Counting.{are_pruned, lie_in_groups, causes_of_groups, chunks_of_groups, given_of_groups, index_causes_of_groups, gives_a_row, lies_in_group, kept_of_groups, rows_of_groups, shown}
+use Rattle.parquet_scan.specs.Counting.{are_pruned, lie_in_groups, causes_of_groups, chunks_of_groups, index_causes_of_groups, gives_a_row, lies_in_group, kept_of_groups, rows_of_groups, shown}
 use Rattle.parquet_scan.specs.Request.{Request, is_legal}
-use Rattle.parquet_scan.specs.Rows.{File, file_with, first_rows, given_row_count, given_rows, gives_rows, group_counts, intervals, kept, kept_rows, prunes_pages}
+use Rattle.parquet_scan.specs.Rows.{File, file_with, first_rows, given_of_kept, given_row_count, given_rows, gives_rows, group_counts, intervals, kept, kept_rows, prunes_pages}
 use Rattle.parquet_scan.specs.Scan.{OnFile, kept_of, kept_groups}
 use Rattle.parquet_scan.specs.declared.scanning.GroupKept.{GroupKept}
-use Rattle.parquet_scan.proofs.CauseLemmas.{TellsOf, among_first, then_next}
+use Rattle.parquet_scan.proofs.CauseLemmas.{ComesFrom, among_first, then_next}
 use Rattle.parquet_scan.proofs.GroupLemmas.{all_there}
 use Rattle.parquet_scan.proofs.KeptLemmas.{groups_shaped, rows_are, some_rows}
 use Rattle.parquet_scan.proofs.ScanLemmas.{same_pruning}
@@ -132,25 +132,25 @@ module _ (request : Request) (metadata : FileMetaData) where
   -- the runs that are kept and those that are given, where the source tells its bytes
   pub record AreGiven (told : Option (List ℕ)) (kept : List GroupKept) (given : List (List Interval)) : Type 0 where
     pub runs : IfSome told (λ bytes. kept ≡ kept_of_groups pruned request.fields request.bounds bytes metadata.row_groups counting)
-    pub rows : map rows_of given ≡ given_of_groups request.limit kept
+    pub rows : map rows_of given ≡ given_of_kept request.limit kept
     pub shaped : lie_in_groups metadata.row_groups given ≡ true
 
   pub given_of : (told : Option (List ℕ)) (b : Bool) (groups : List RowGroupMetaData) (counts : List Bool) (kept again : List GroupKept) (given : List (List Interval))
       → b ≡ pruned → groups ≡ metadata.row_groups → counts ≡ counting → again ≡ kept
       → IfSome told (λ bytes. kept ≡ kept_of_groups b request.fields request.bounds bytes groups counts) → map (λ (group : GroupKept). group.rows) kept ≡ map (λ (group : RowGroupMetaData). group.num_rows) groups
-      → map rows_of given ≡ given_of_groups request.limit again → list_all (λ (group : GroupKept × List Interval). is_well_shaped group.1 (group.0).rows) (zip again given) ≡ true → AreGiven told kept given
+      → map rows_of given ≡ given_of_kept request.limit again → list_all (λ (group : GroupKept × List Interval). is_well_shaped group.1 (group.0).rows) (zip again given) ≡ true → AreGiven told kept given
   given_of told b groups counts kept again given p g n k are rows first shaped = record {
     runs = subst (λ (counts : List Bool). IfSome told (λ bytes. kept ≡ kept_of_groups pruned request.fields request.bounds bytes metadata.row_groups counts)) n
         (subst (λ (groups : List RowGroupMetaData). IfSome told (λ bytes. kept ≡ kept_of_groups pruned request.fields request.bounds bytes groups counts)) g
         (subst (λ (b : Bool). IfSome told (λ bytes. kept ≡ kept_of_groups b request.fields request.bounds bytes groups counts)) p are));
-    rows = first ∙ ap (given_of_groups request.limit) k;
+    rows = first ∙ ap (given_of_kept request.limit) k;
     shaped = ap (λ groups. lie_in_groups groups given) (sym g)
         ∙ groups_shaped groups kept given rows (ap (λ kept. list_all (λ (group : GroupKept × List Interval). is_well_shaped group.1 (group.0).rows) (zip kept given)) (sym k) ∙ shaped);
   }
 
   module _ (kept : List GroupKept) (given : List (List Interval)) where
     pub rows_given : (bytes : List ℕ) → AreGiven (Some bytes) kept given → given_rows request (file_with bytes metadata) ≡ map rows_of given
-    rows_given bytes are = ap (first_rows request.limit) (rows_kept bytes metadata.row_groups) ∙ ap (given_of_groups request.limit) (sym are.runs) ∙ sym are.rows
+    rows_given bytes are = ap (first_rows request.limit) (rows_kept bytes metadata.row_groups) ∙ ap (given_of_kept request.limit) (sym are.runs) ∙ sym are.rows
 
     causes_read : (bytes : List ℕ) → AreGiven (Some bytes) kept given → read_causes request (file_with bytes metadata) ≡ causes_of_groups pruned request.chunk_size request.fields bytes metadata.row_groups given
     causes_read bytes are =
@@ -247,7 +247,7 @@ meta_one None request metadata (Some cause) e k = tt
 meta_one (Some bytes) request metadata (Some cause) e k =
     subst (λ found. Contains found cause) (sym (causes_at request bytes metadata e)) (among_first (metadata_causes request metadata) _ (Some cause) k)
 
-pub meta_cause : (told : Option (List ℕ)) (request : Request) (metadata : FileMetaData) (e : Error) → IfSome told (λ bytes. footer bytes ≡ Some metadata) → TellsOf (metadata_causes request metadata) e
+pub meta_cause : (told : Option (List ℕ)) (request : Request) (metadata : FileMetaData) (e : Error) → IfSome told (λ bytes. footer bytes ≡ Some metadata) → ComesFrom (metadata_causes request metadata) e
     → IfSome (cause_of e) (λ cause. IfSome told (λ bytes. Contains (causes request bytes) cause))
 meta_cause told request metadata e at (inl h) = subst (λ x. IfSome (cause_of x) (λ cause. IfSome told (λ bytes. Contains (causes request bytes) cause))) (sym h) tt
 meta_cause told request metadata e at (inr k) = meta_one told request metadata (cause_of e) at k

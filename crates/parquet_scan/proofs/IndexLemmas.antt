@@ -36,7 +36,7 @@ use Rattle.parquet_scan.specs.declared.bound.Bound.{Bound}
 use Rattle.parquet_scan.specs.Pages.{column_index_causes, count_causes, ends_of_page, page_ends}
 use Rattle.parquet_scan.specs.Rows.{page_keeps}
 use Rattle.parquet_scan.specs.Request.{begins, begins_a_path}
-use Rattle.parquet_scan.proofs.CauseLemmas.{TellsOf, tells_left, tells_right}
+use Rattle.parquet_scan.proofs.CauseLemmas.{ComesFrom, tells_left, tells_right}
 use Rattle.parquet_scan.proofs.LocationLemmas.{one_of}
 use Rattle.parquet_scan.proofs.ScanLemmas.{fails_telling}
 
@@ -176,7 +176,7 @@ index_found data_type count column index (Some bytes) some is = with_rule data_t
 
 -- a refusal of its ends
 pub ends_refused : (data_type : DataType) (count : ℕ) (column : ColumnChunkMetaData) (index : Index) (told : Option (List ℕ)) (before now : ℕ) (e : Error) → IsCarriedAs data_type column
-    → IfSome told (λ bytes. raw_index bytes column ≡ Some index) → TellsOf (causes_of_index column.descriptor.primitive_type data_type index) e
+    → IfSome told (λ bytes. raw_index bytes column ≡ Some index) → ComesFrom (causes_of_index column.descriptor.primitive_type data_type index) e
     → IsReadFailure told before now (λ bytes. column_index_causes data_type count bytes column) e
 ends_refused data_type count column index told before now e some is tells =
     fails_telling told before now (causes_of_index column.descriptor.primitive_type data_type index ++ count_causes count index) (λ bytes. column_index_causes data_type count bytes column) e

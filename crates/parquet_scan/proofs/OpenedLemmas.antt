@@ -46,7 +46,7 @@ use Rattle.parquet_scan.specs.Costs.{with_dictionary_page}
 use Rattle.parquet_scan.specs.Decoded.{column_rows, pages_by, pages_for, rows_by}
 use Rattle.parquet_scan.specs.Located.{entry_causes, entry_part, entry_place, part_causes, part_in, place_before}
 use Rattle.parquet_scan.specs.Pages.{location_rows, locations, locations_causes, rows_at}
-use Rattle.parquet_scan.proofs.CauseLemmas.{TellsOf, one_cases, then_next}
+use Rattle.parquet_scan.proofs.CauseLemmas.{ComesFrom, one_cases, then_next}
 use Rattle.parquet_scan.proofs.CellLemmas.{causes_if_there, nothing_given, rows_caused, same_cells, tells_of_rows}
 use Rattle.parquet_scan.proofs.LocatedLemmas.{AreEntries, IsSomePart, are_entries, causes_of_parts, cells_as, chunk_length, found, is_shaped_part, items_of_parts, located_given, located_short, located_wrong, named_are, none_some, opened_are, pages_of, pages_there, part_inside, part_items, part_outside, parts_items}
 use Rattle.parquet_scan.proofs.ScanLemmas.{in_filtered}
@@ -474,7 +474,7 @@ module _ (size : Option ℕ) (group : RowGroupMetaData) (column : ColumnChunkMet
       ap (map cells_as) all.cut ∙ sym (pieces-as (λ cell. Some (Value cell)) (located_item bytes group data_type column) size (rows_of intervals) all.cells (items_are bytes read ∙ all.items))
 
   -- What is wrong with the rows is wrong with what was read.
-  pub read_tells : (told : Option (List ℕ)) → WasRead told → IfSome told (λ bytes. (error : Error) → IsCausedByChunks (most_bytes data_type) size wanted error → TellsOf (whole bytes) error)
+  pub read_tells : (told : Option (List ℕ)) → WasRead told → IfSome told (λ bytes. (error : Error) → IsCausedByChunks (most_bytes data_type) size wanted error → ComesFrom (whole bytes) error)
   read_tells None read = tt
   read_tells (Some bytes) read = λ error caused.
       let item = located_item bytes group data_type column in
@@ -488,7 +488,7 @@ module _ (size : Option ℕ) (group : RowGroupMetaData) (column : ColumnChunkMet
       let among : (o : Option Cause) → IsOneOf (causes_in wanted) o → IsOneOf (causes_of_opened reading_before (pages_of parts) ++ row_causes item (rows_of intervals)) o
       = λ o one. subst (λ causes. IsOneOf (causes_of_opened reading_before (pages_of parts) ++ causes) o) items
       (located_wrong reading_before rule.0 rule.1 parts shaped o (subst (λ rows. IsOneOf (causes_in rows) o) (wanted_are (Some bytes) read) one)) in
-      subst (λ causes. TellsOf causes error) (sym (whole_is bytes read))
+      subst (λ causes. ComesFrom causes error) (sym (whole_is bytes read))
       (tells_of_rows data_type item size (rows_of intervals) wanted (causes_of_opened reading_before (pages_of parts)) error read.size_some under among caused)
 
 -- ---- where the source tells its bytes

@@ -21,7 +21,7 @@ use Rattle.parquet_meta.specs.Source.{IsReadFailure}
 use Rattle.parquet_meta.proofs.FailureLemmas.{fails_more}
 use Rattle.parquet_scan.specs.Causes.{causes_of_chunk, causes_of_read, chunk_read_causes, pair_causes}
 use Rattle.parquet_scan.specs.Cells.{is_null_type}
-use Rattle.parquet_scan.proofs.CauseLemmas.{TellsOf, among_first, then_next}
+use Rattle.parquet_scan.proofs.CauseLemmas.{ComesFrom, among_first, then_next}
 use Rattle.page_decoding.proofs.RowLemmas.{one_of-left, one_of-right}
 
 -- ---- pruning by pages
@@ -134,7 +134,7 @@ fails_by_memory told before now whole e memory = subst (IsReadFailure told befor
 
 -- an error that tells of causes which the whole has
 pub fails_within : (told : Option (List ℕ)) (before now : ℕ) (part : List Cause) (whole : List ℕ → List Cause) (e : Error)
-    → IfSome told (λ bytes. (o : Option Cause) → IsOneOf part o → IsOneOf (whole bytes) o) → TellsOf part e → IsReadFailure told before now whole e
+    → IfSome told (λ bytes. (o : Option Cause) → IsOneOf part o → IsOneOf (whole bytes) o) → ComesFrom part e → IsReadFailure told before now whole e
 fails_within told before now part whole e within (inl memory) = fails_by_memory told before now whole e memory
 fails_within told before now part whole (error.InvalidArgumentError p) within (inr one) = one
 fails_within None before now part whole (error.NotYetImplemented p) within (inr one) = tt
@@ -150,9 +150,9 @@ fails_within told before now part whole error.OutOfMemory within (inr one) = abs
 
 -- an error of rows in chunks, which tells of the whole
 pub fails_chunks : (told : Option (List ℕ)) (before now : ℕ) (most size : Option ℕ) (wanted : List Outcome) (whole : List ℕ → List Cause) (e : Error)
-    → IfSome told (λ bytes. (error : Error) → IsCausedByChunks most size wanted error → TellsOf (whole bytes) error) → IsCausedByChunks most size wanted e → IsReadFailure told before now whole e
+    → IfSome told (λ bytes. (error : Error) → IsCausedByChunks most size wanted error → ComesFrom (whole bytes) error) → IsCausedByChunks most size wanted e → IsReadFailure told before now whole e
 fails_chunks None before now most size wanted whole e tells caused = fails_within None before now (causes_in wanted ++ Overflow ∷ []) whole e tt (alone caused) where
-  alone : IsCausedByChunks most size wanted e → TellsOf (causes_in wanted ++ Overflow ∷ []) e
+  alone : IsCausedByChunks most size wanted e → ComesFrom (causes_in wanted ++ Overflow ∷ []) e
   alone (inl (inl memory)) = inl memory
   alone (inl (inr one)) = inr (one_of-left (causes_in wanted) (Overflow ∷ []) (cause_of e) one)
   alone (inr passes) =
@@ -161,7 +161,7 @@ fails_chunks None before now most size wanted whole e tells caused = fails_withi
 fails_chunks (Some bytes) before now most size wanted whole e tells caused = fails_within (Some bytes) before now (whole bytes) whole e (λ o one. one) (tells e caused)
 
 -- an error of what was read, which fails by the same causes
-pub fails_telling : (told : Option (List ℕ)) (before now : ℕ) (part : List Cause) (whole : List ℕ → List Cause) (e : Error) → IfSome told (λ bytes. whole bytes ≡ part) → TellsOf part e → IsReadFailure told before now whole e
+pub fails_telling : (told : Option (List ℕ)) (before now : ℕ) (part : List Cause) (whole : List ℕ → List Cause) (e : Error) → IfSome told (λ bytes. whole bytes ≡ part) → ComesFrom part e → IsReadFailure told before now whole e
 fails_telling told before now part whole e same k = fails_within told before now part whole e (within told same) k where
   within : (told : Option (List ℕ)) → IfSome told (λ bytes. whole bytes ≡ part) → IfSome told (λ bytes. (o : Option Cause) → IsOneOf part o → IsOneOf (whole bytes) o)
   within None same = tt

@@ -23,7 +23,7 @@ use Rattle.parquet_scan.specs.Cells.{columns_of_chunk, given_chunk}
 use Rattle.parquet_scan.specs.Costs.{index_bytes_of, lent_of_group, location_bytes_of, taken_of_group}
 use Rattle.parquet_scan.specs.Pages.{locations}
 use Rattle.parquet_scan.specs.Request.{bound_type, bounded_field}
-use Rattle.parquet_scan.specs.Rows.{column_named, first_rows, group_keeps, has_column_index, has_offset_index, pages_keep}
+use Rattle.parquet_scan.specs.Rows.{column_named, group_keeps, has_column_index, has_offset_index, pages_keep}
 
 -- a group counts where it did by the bounds so far, and one more keeps it
 abbrev pub counts_by : List Field → Bound → RowGroupMetaData × Bool → Bool
@@ -67,10 +67,6 @@ abbrev pub kept_of_groups : Bool → List Field → List Bound → List ℕ → 
 kept_of_groups by_pages fields bounds bytes groups counts = map (kept_if by_pages fields bounds bytes) (zip groups counts)
 
 -- ---- groups beside the runs of the rows that they give
-
--- the rows that each group gives, the first of those that are kept
-abbrev pub given_of_groups : Option ℕ → List GroupKept → List (List ℕ)
-given_of_groups limit kept = first_rows limit (map (λ (group : GroupKept). rows_of group.intervals) kept)
 
 -- the runs lie in their group
 abbrev pub lies_in_group : RowGroupMetaData × List Interval → Bool

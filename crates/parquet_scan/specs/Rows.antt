@@ -3,7 +3,7 @@ use Rattle.std.specs.Prelude.{ℕ, ◌-◌, Bool, false, not, ◌&&◌, ◌||◌
 use Rattle.std.specs.List.{list_all, range_with_len}
 use Rattle.std.specs.Option.{option_map_or}
 use Rattle.parquet_base.specs.declared.interval.Interval.{Interval}
-use Rattle.parquet_base.specs.Intervals.{is_kept_page, maximal_runs}
+use Rattle.parquet_base.specs.Intervals.{is_kept_page, maximal_runs, rows_of}
 use Rattle.parquet_base.specs.Reading.{◌>>=◌}
 use Rattle.columns_core.specs.declared.cell.Cell.{Cell}
 use Rattle.columns_core.specs.declared.data_type.DataType.{DataType}
@@ -16,6 +16,7 @@ use Rattle.parquet_meta.specs.declared.metadata.PageLocation.{PageLocation}
 use Rattle.parquet_meta.specs.declared.metadata.RowGroupMetaData.{RowGroupMetaData}
 use Rattle.column_ends.specs.Converted.{group_cells}
 use Rattle.parquet_scan.specs.declared.bound.Bound.{Bound}
+use Rattle.parquet_scan.specs.declared.scanning.GroupKept.{GroupKept}
 use Rattle.parquet_scan.specs.Bound.{KnownEnds, ends_keep, known_value}
 use Rattle.parquet_scan.specs.Request.{Request, begins, bound_type, bounded_field}
 use Rattle.parquet_scan.specs.Pages.{location_rows, locations, page_ends}
@@ -139,6 +140,10 @@ abbrev pub first_rows : Option ℕ → List (List ℕ) → List (List ℕ)
 first_rows None groups = groups
 first_rows (Some left) [] = []
 first_rows (Some left) (rows ∷ groups) = take left rows ∷ first_rows (Some (left - length rows)) groups
+
+-- the rows that each group gives of its kept runs: the first ones, up to a limit over all groups
+abbrev pub given_of_kept : Option ℕ → List GroupKept → List (List ℕ)
+given_of_kept limit kept = first_rows limit (map (λ (group : GroupKept). rows_of group.intervals) kept)
 
 -- the rows that a scan gives, by group: the first kept rows of the file
 abbrev pub given_rows : Request → File → List (List ℕ)

@@ -3,7 +3,7 @@ use Rattle.std.specs.Prelude.{◌≡◌, ℕ, ◌+◌, ◌-◌, ◌^◌, ◌<◌
 use Rattle.std.specs.List.{AllZip}
 use Rattle.parquet_base.specs.declared.interval.Interval.{Interval}
 use Rattle.parquet_base.specs.Failures.{MayFail}
-use Rattle.parquet_base.specs.Intervals.{AreApart, covers, rows_of}
+use Rattle.parquet_base.specs.Intervals.{AreApart, covers}
 use Rattle.parquet_base.specs.Pieces.{cut}
 use Rattle.columns_core.specs.Array.{data_type_of}
 use Rattle.columns_core.specs.Chunk.{AreEqualLengths, array_rows}
@@ -21,8 +21,9 @@ use Rattle.parquet_scan.specs.declared.scanning.GroupKept.{GroupKept}
 use Rattle.parquet_scan.specs.declared.scanning.Scan.{Scan}
 use Rattle.parquet_scan.specs.Causes.{IsValid, causes}
 use Rattle.parquet_scan.specs.Cells.{columns_of_chunk, file_chunks, given_chunks}
+use Rattle.parquet_scan.specs.Costs.{most_bytes_taken, most_pages, pages_lent}
 use Rattle.parquet_scan.specs.Request.{Request, is_legal}
-use Rattle.parquet_scan.specs.Rows.{File, file_of, first_rows, given_row_count, groups_of, intervals}
+use Rattle.parquet_scan.specs.Rows.{File, file_of, given_of_kept, given_row_count, groups_of, intervals}
 use Rattle.parquet_scan.specs.Truth.{HasTrueCountsAndLocations, HasTrueStatistics, MeetsAll}
 
 abbrev pub request_of : Schema → List Bound → Option ℕ → Option ℕ → Request
@@ -48,10 +49,9 @@ shape_of arrays = (map data_type_of arrays, array_rows arrays)
 abbrev pub shapes_of_rows : List Field → Option ℕ → List ℕ → List (List DataType × ℕ)
 shapes_of_rows fields size rows = map (λ (piece : List ℕ). (map (λ (field : Field). field.data_type) fields, length piece)) (cut size rows)
 
--- and of all chunks: the first rows that are kept, cut within each group
+-- and those of all chunks: the kept rows up to the limit, cut within each group
 abbrev pub chunk_shapes : Request → List GroupKept → List (List DataType × ℕ)
-chunk_shapes request kept =
-    flat_map (shapes_of_rows request.fields request.chunk_size) (first_rows request.limit (map (λ (group : GroupKept). rows_of group.intervals) kept))
+chunk_shapes request kept = flat_map (shapes_of_rows request.fields request.chunk_size) (given_of_kept request.limit kept)
 
 -- a group's rows, and the runs of them that are kept
 abbrev pub kept_of : GroupKept → ℕ × List Interval
@@ -94,13 +94,23 @@ pub record Answers (request : Request) (told : Option (List ℕ)) (scan : Scan) 
   pub rows : OnFile told (λ file. scan.rows ≡ given_row_count request file)
   -- Where the statistics of a group are true, none of its rows that meets all bounds lies outside its runs.
   pub sound : OnFile told (λ file. IsSound request file (map kept_of scan.kept))
-  -- This holds even over a source that does not tell its bytes: the request is legal as far as that hangs on no file, and
-  -- the chunks have the types of the fields and the rows that its limit and its chunk size leave of those that are kept.
+  -- What follows holds even over a source that does not tell its bytes. The request is legal as far as that hangs on no file,
   pub asked : IsTrue (is_legal request None)
+  -- and the chunks have the types of the fields, and as many rows each as the kept rows up to the limit give, cut within each group.
   pub shapes : map shape_of scan.chunks ≡ chunk_shapes request scan.kept
+  -- The runs of a group lie apart, the columns of a chunk are equally long, and the rows of all chunks are counted.
   pub apart : All IsApart scan.kept
   pub even : All AreEqualLengths scan.chunks
   pub own_rows : scan.rows ≡ rows_in scan.chunks
+
+-- What an answered scan costs, by the counts of steps and of taken bytes before and behind the call. Over a source that does not tell its
+-- bytes this says nothing.
+pub record ScanCosts (request : Request) (told : Option (List ℕ)) (steps steps_now bytes bytes_now : ℕ) : Type 0 where
+  -- A step is spent for each page that is lent: exactly as many as `pages_lent` counts, and no more than `most_pages`,
+  pub pages_lent : OnFile told (λ file. steps_now ≡ steps + pages_lent request file)
+  pub most_pages : OnFile told (λ file. steps_now ≤ steps + most_pages request file)
+  -- and at most so many bytes are taken.
+  pub taken : OnFile told (λ file. bytes_now ≤ bytes + most_bytes_taken request file)
 
 -- When a scan answers an error, with the count of the source's faults before and behind the call. Want of memory may come at any time.
 pub record RefusesScan (request : Request) (told : Option (List ℕ)) (before now : ℕ) (e : Error) : Type 0 where

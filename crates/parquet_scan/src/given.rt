@@ -3,8 +3,7 @@ ghost use Rattle.std.specs.Prelude.{◌≡◌, ◌-◌, ℕ, List, ◌∷◌, le
 ghost use Rattle.std.specs.List.{list_all};
 ghost use Rattle.columns_core.specs.Causes.{IsWantOfMemory};
 ghost use Rattle.parquet_base.specs.Intervals.{is_well_shaped, rows_of};
-ghost use Rattle.parquet_scan.specs.Counting.{given_of_groups};
-ghost use Rattle.parquet_scan.specs.Rows.{first_rows};
+ghost use Rattle.parquet_scan.specs.Rows.{first_rows, given_of_kept};
 ghost use Rattle.parquet_scan.specs.Scan.{IsApart};
 
 use crate::GroupKept;
@@ -28,7 +27,7 @@ pub(crate) fn given_runs(
     limit: Option<usize>,
 ) -> Result<Vec<Seq<Interval>>, Error>
     requires apart { All IsApart kept.now }
-    ensures rows { IfOk result (λ given. map rows_of given.items ≡ given_of_groups limit kept.now) }
+    ensures rows { IfOk result (λ given. map rows_of given.items ≡ given_of_kept limit kept.now) }
     ensures shaped { IfOk result (λ given.
         list_all (λ group. is_well_shaped group.1 (group.0).rows) (zip kept.now given.items) ≡ true) }
     ensures count { IfOk result (λ given. length given.items ≡ length kept.now) }

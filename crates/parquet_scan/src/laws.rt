@@ -43,7 +43,7 @@ pub fn no_row_is_lost()
     ensures { LosesNoRowOfValidFiles }
 {}
 
-/// Two files of one length that agree on the parts which a request looks at in the first give the same scan. So no byte outside of them changes an answer.
+/// Two files of one length that agree on the parts which a request looks at in the first give the same scan. So no byte outside of them changes which answers may come.
 pub fn same_parts(
     _first: &[u8],
     _second: &[u8],

@@ -6,10 +6,10 @@ ghost use Rattle.parquet_meta.specs.Keeps.{Keeps};
 ghost use Rattle.parquet_meta.specs.Reads.{ReadsFile};
 ghost use Rattle.parquet_scan.specs.Causes.{index_causes, metadata_causes, read_causes};
 ghost use Rattle.parquet_scan.specs.Cells.{columns_of_chunk, given_chunks};
-ghost use Rattle.parquet_scan.specs.Costs.{bytes_behind_footer, most_bytes_taken, most_pages, pages_lent};
+ghost use Rattle.parquet_scan.specs.Costs.{bytes_behind_footer, pages_lent};
 ghost use Rattle.parquet_scan.specs.Request as spec;
 ghost use Rattle.parquet_scan.specs.Rows.{file_with, given_row_count, group_counts};
-ghost use Rattle.parquet_scan.specs.Scan.{Answers, IsApart, OnFile, RefusesScan, RisesBy, RisesJustBy, chunk_shapes, kept_groups as kept_groups_by, kept_of, request_of, rows_in, shape_of};
+ghost use Rattle.parquet_scan.specs.Scan.{Answers, IsApart, RefusesScan, RisesBy, RisesJustBy, ScanCosts, chunk_shapes, kept_groups as kept_groups_by, kept_of, request_of, rows_in, shape_of};
 
 use crate::Bound;
 use crate::chunks::RowsRead;
@@ -66,15 +66,9 @@ pub fn scan_where<S: Source, L: Ledger>(
     // What it costs: steps, one where a page is lent, and bytes.
     ensures ticks { steps.old ≤ steps.new }
     ensures pages { IfOk result (λ scan. scan.pages ≡ min (steps.new - steps.old) (2 ^ 64 - 1)) }
-    ensures pages_lent { let request = request_of schema.now bounds.now chunk_size limit in
-        IfOk result (λ _. OnFile (S.told source.old)
-        (λ file. steps.new ≡ steps.old + pages_lent request file)) }
-    ensures most_pages { let request = request_of schema.now bounds.now chunk_size limit in
-        IfOk result (λ _. OnFile (S.told source.old)
-        (λ file. steps.new ≤ steps.old + most_pages request file)) }
-    ensures taken { let request = request_of schema.now bounds.now chunk_size limit in
-        IfOk result (λ _. OnFile (S.told source.old) (λ file.
-        S.taken source.new ≤ S.taken source.old + most_bytes_taken request file)) }
+    ensures costs { let request = request_of schema.now bounds.now chunk_size limit in
+        IfOk result (λ _. ScanCosts request (S.told source.old) steps.old steps.new
+        (S.taken source.old) (S.taken source.new)) }
 {
     let request = Request {
         fields: schema.fields.as_slice(),

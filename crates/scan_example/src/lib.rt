@@ -1,12 +1,11 @@
 //! How a crate calls a scan: one function over `scan_where`, whose contract comes of the scan's own.
 #![tactic(auto)]
 
-ghost use Rattle.std.specs.Prelude.{◌≡◌, ◌+◌, None, IfErr, IfOk, IfSome};
+ghost use Rattle.std.specs.Prelude.{◌≡◌, None, IfErr, IfOk, IfSome};
 ghost use Rattle.parquet_meta.specs.Keeps.{Keeps};
 ghost use Rattle.parquet_scan.specs.Causes.{IsValid};
-ghost use Rattle.parquet_scan.specs.Costs.{pages_lent};
 ghost use Rattle.parquet_scan.specs.Rows.{given_row_count};
-ghost use Rattle.parquet_scan.specs.Scan.{OnFile, RefusesScan, request_of};
+ghost use Rattle.parquet_scan.specs.Scan.{OnFile, RefusesScan, ScanCosts, request_of};
 
 use columns_core::{Error, Schema};
 use parquet_base::Steps;
@@ -29,9 +28,9 @@ pub fn rows_left<S: Source, L: Ledger>(
         IfOk result (λ _. IfSome (S.told source.old) (IsValid request)) }
     ensures refuses { let request = request_of schema.now bounds.now None None in
         IfErr result (RefusesScan request (S.told source.old) (S.faults source.old) (S.faults source.new)) }
-    ensures pages_lent { let request = request_of schema.now bounds.now None None in
-        IfOk result (λ _. OnFile (S.told source.old)
-        (λ file. steps.new ≡ steps.old + pages_lent request file)) }
+    ensures costs { let request = request_of schema.now bounds.now None None in
+        IfOk result (λ _. ScanCosts request (S.told source.old) steps.old steps.new
+        (S.taken source.old) (S.taken source.new)) }
     ensures keeps { Keeps S.Source source.old source.new }
 {
     let scan = scan_where(alloc, source, schema, bounds, None, None, steps)?;

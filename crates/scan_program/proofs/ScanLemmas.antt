@@ -1,6 +1,11 @@
 -- From what a scan answers to what is reported.
-use Rattle.std.proofs.Common.{◌≡◌, ℕ, List, sym, subst}
-use Rattle.std.specs.Prelude.{Option, Some, None, IfNone, IfSome}
+use Rattle.std.proofs.Common.{◌≡◌, ℕ, ◌+◌, ◌≤◌, List, sym, subst, arith}
+use Rattle.std.specs.Prelude.{Option, Some, None, Result, Ok, Err, IfNone, IfOk, IfSome}
+use Rattle.columns_core.specs.declared.error.Error.{Error}
+use Rattle.parquet_scan.specs.Costs.{most_bytes_taken}
+use Rattle.parquet_scan.specs.Request.{Request}
+use Rattle.parquet_scan.specs.Rows.{File, file_of}
+use Rattle.parquet_scan.specs.Scan.{OnFile, ScanCosts}
 use Rattle.scan_program.specs.Program.{OnCommand, Reports}
 use Rattle.scan_program.specs.Words.{Command}
 
@@ -33,3 +38,19 @@ pub of_report : (o : Option Command) (told : Option (List ℕ)) (pages : ℕ) (t
 of_report None told pages text Q h reports = tt
 of_report (Some command) told pages text Q h reports =
     record { scan = reports.scan; answers = reports.answers; lent = reports.lent; holds = subst Q (sym reports.holds) h }
+
+-- ---- what a scan of a sample costs
+
+idle : (told : Option (List ℕ)) (P : File → Type 0) → ((file : File) → P file) → OnFile told P
+idle None P h = tt
+idle (Some bytes) P h = on (file_of bytes) where
+  on : (o : Option File) → IfSome o P
+  on None = tt
+  on (Some file) = h file
+
+-- of a source that the scan does not look at nothing is taken
+pub nothing_taken : {X : Type 0} (request : Request) (told : Option (List ℕ)) (steps steps_now before now : ℕ) (r : Result X Error) (taken : ℕ)
+    → IfOk r (λ _. ScanCosts request told steps steps_now before now) → IfOk r (λ _. ScanCosts request told steps steps_now taken taken)
+nothing_taken request told steps steps_now before now (Err e) taken costs = tt
+nothing_taken request told steps steps_now before now (Ok x) taken costs =
+    record { pages_lent = costs.pages_lent; most_pages = costs.most_pages; taken = idle told (λ file. taken ≤ taken + most_bytes_taken request file) (λ file. omega arith) }

@@ -6,7 +6,6 @@ use Rattle.columns_core.specs.declared.error.Error.TheVariants as error
 use Rattle.parquet_meta.specs.File.{footer}
 use Rattle.parquet_scan.specs.Cells.{columns_of_chunk}
 use Rattle.parquet_scan.specs.Request.{Request, is_legal}
-use Rattle.parquet_scan.specs.Rows.{File, file_of}
 use Rattle.parquet_scan.specs.Scan.{Answers, RefusesScan, kept_of}
 use Rattle.parquet_scan.specs.declared.scanning.Scan.{Scan}
 use Rattle.pq_common.specs.declared.status.Status.{Status}
@@ -59,10 +58,6 @@ OnCommand command told P = IfSome command (λ command. IfSome told (P command))
 
 abbrev pub IsLegal : Command → List ℕ → Type 0
 IsLegal command bytes = IsTrue (is_legal command.request (footer bytes))
-
--- a fact about the command and the file that the bytes have
-abbrev pub OnFileOf : Option Command → Option (List ℕ) → (Command → File → Type 0) → Type 0
-OnFileOf command told P = OnCommand command told (λ command bytes. IfSome (file_of bytes) (P command))
 
 -- how many pages were lent between two counts, up to the greatest number that is shown
 abbrev pub lent_between : ℕ → ℕ → ℕ

@@ -4,10 +4,10 @@ ghost use Rattle.std.specs.Result.{IsErrAnd};
 ghost use Rattle.parquet_base.specs.Failures.{MayFail};
 ghost use Rattle.parquet_meta.specs.Keeps.{Keeps};
 ghost use Rattle.parquet_scan.specs.Causes.{IsValid};
-ghost use Rattle.parquet_scan.specs.Costs.{most_bytes_taken, most_pages, pages_lent};
+ghost use Rattle.parquet_scan.specs.Scan.{ScanCosts};
 ghost use Rattle.pq_common.specs.Written.{IsAppended, IsFrontAppended};
 ghost use Rattle.scan_program.specs.Program.{command_in, has_scanned, is_refusal, lent_between, report_of, status_of_error};
-ghost use Rattle.scan_program.specs.Program.{IsLegal, IsStatusOfRefusal, OnCommand, OnFileOf, Reports};
+ghost use Rattle.scan_program.specs.Program.{IsLegal, IsStatusOfRefusal, OnCommand, Reports};
 ghost use Rattle.scan_program.specs.Sampled.{faults_by, is_too_great, sample_in, told_by};
 
 use crate::command::read_words;
@@ -50,15 +50,9 @@ pub fn run<S: Source, K: Sink, L: Ledger>(
         (IsFrontAppended (K.written out.old) (K.written out.new))) }
 
     // What it costs.
-    ensures pages_lent { let told = told_by words.now (S.told source.old) in
-        IsTrue (has_scanned result) → OnFileOf (command_in words.now) told
-        (λ command file. steps.new ≡ steps.old + pages_lent command.request file) }
-    ensures most_pages { let told = told_by words.now (S.told source.old) in
-        IsTrue (has_scanned result) → OnFileOf (command_in words.now) told
-        (λ command file. steps.new ≤ steps.old + most_pages command.request file) }
-    ensures taken { let told = told_by words.now (S.told source.old) in
-        IsTrue (has_scanned result) → OnFileOf (command_in words.now) told
-        (λ command file. S.taken source.new ≤ S.taken source.old + most_bytes_taken command.request file) }
+    ensures costs { let told = told_by words.now (S.told source.old) in
+        IsTrue (has_scanned result) → IfSome (command_in words.now) (λ command.
+        ScanCosts command.request told steps.old steps.new (S.taken source.old) (S.taken source.new)) }
 
     // A run ends otherwise only where the scan refuses the request; memory may run out at any time.
     ensures refused { let told = told_by words.now (S.told source.old) in
@@ -112,16 +106,9 @@ fn scan_for<S: Source, L: Ledger>(
     ensures scanned { IfOk result (λ scanned. IfSome (command_in words.now) (λ command.
         Reports command (told_by words.now (S.told source.old)) (lent_between steps.old steps.new)
         (λ found. found ≡ report_of scanned.summary scanned.scan))) }
-    ensures pages_lent { let told = told_by words.now (S.told source.old) in
-        IfOk result (λ _. OnFileOf (command_in words.now) told
-        (λ command file. steps.new ≡ steps.old + pages_lent command.request file)) }
-    ensures most_pages { let told = told_by words.now (S.told source.old) in
-        IfOk result (λ _. OnFileOf (command_in words.now) told
-        (λ command file. steps.new ≤ steps.old + most_pages command.request file)) }
-    ensures taken { let told = told_by words.now (S.told source.old) in
-        IfOk result (λ _. OnFileOf (command_in words.now) told
-        (λ command file. S.taken source.new ≤
-        S.taken source.old + most_bytes_taken command.request file)) }
+    ensures costs { let told = told_by words.now (S.told source.old) in
+        IfOk result (λ _. IfSome (command_in words.now) (λ command.
+        ScanCosts command.request told steps.old steps.new (S.taken source.old) (S.taken source.new))) }
     ensures refused { let told = told_by words.now (S.told source.old) in
         let before = faults_by words.now (S.faults source.old) in
         let now = faults_by words.now (S.faults source.new) in

@@ -1,11 +1,10 @@
 //! Scans of the file that the words name.
-ghost use Rattle.std.specs.Prelude.{◌≡◌, ◌+◌, ◌≤◌, IfErr, IfOk, IfSome, IsTrue, OnOk};
+ghost use Rattle.std.specs.Prelude.{◌≡◌, ◌≤◌, ℕ, IfErr, IfOk, IfSome, IsTrue, OnOk};
 ghost use Rattle.std.specs.Result.{IsErrAnd};
 ghost use Rattle.columns_core.specs.declared.error.Error.TheVariants.{InvalidArgumentError};
 ghost use Rattle.columns_core.specs.declared.error.Part.TheVariants.{Request};
 ghost use Rattle.parquet_meta.specs.Keeps.{Keeps};
-ghost use Rattle.parquet_scan.specs.Costs.{most_bytes_taken, most_pages, pages_lent};
-ghost use Rattle.parquet_scan.specs.Scan.{Answers, OnFile, RefusesScan};
+ghost use Rattle.parquet_scan.specs.Scan.{Answers, RefusesScan, ScanCosts};
 ghost use Rattle.scan_program.specs.Parsed.{command_of};
 ghost use Rattle.scan_program.specs.Program.{lent_between};
 ghost use Rattle.scan_program.specs.Sampled.{faults_by, is_too_great, sample_bytes, sample_in, told_by};
@@ -42,15 +41,9 @@ pub(crate) fn scan_file<S: Source, L: Ledger>(
     ensures answers { let told = told_by words.now (S.told source.old) in
         IfOk result (Answers (command_of asked.now).request told) }
     ensures pages { IfOk result (λ scan. scan.pages ≡ lent_between steps.old steps.new) }
-    ensures pages_lent { let told = told_by words.now (S.told source.old) in
-        IfOk result (λ _. OnFile told (λ file.
-        steps.new ≡ steps.old + pages_lent (command_of asked.now).request file)) }
-    ensures most_pages { let told = told_by words.now (S.told source.old) in
-        IfOk result (λ _. OnFile told (λ file.
-        steps.new ≤ steps.old + most_pages (command_of asked.now).request file)) }
-    ensures taken { let told = told_by words.now (S.told source.old) in
-        IfOk result (λ _. OnFile told (λ file.
-        S.taken source.new ≤ S.taken source.old + most_bytes_taken (command_of asked.now).request file)) }
+    ensures costs { let told = told_by words.now (S.told source.old) in
+        IfOk result (λ _. ScanCosts (command_of asked.now).request told steps.old steps.new
+        (S.taken source.old) (S.taken source.new)) }
     ensures refuses { let told = told_by words.now (S.told source.old) in
         let before = faults_by words.now (S.faults source.old) in
         let now = faults_by words.now (S.faults source.new) in
@@ -64,7 +57,8 @@ pub(crate) fn scan_file<S: Source, L: Ledger>(
     }
 }
 
-/// Scans a sample, whose bytes are there as long as this takes.
+/// Scans a sample, whose bytes are there as long as this takes. The run's own source is not asked: whatever its count of taken bytes is, it is the
+/// same behind the call (`costs`).
 fn scan_sample<L: Ledger>(
     alloc: Global,
     sample: (u32, u32),
@@ -74,10 +68,8 @@ fn scan_sample<L: Ledger>(
     ensures ticks { steps.old ≤ steps.new }
     ensures answers { IfOk result (Answers (command_of asked.now).request (sample_bytes sample)) }
     ensures pages { IfOk result (λ scan. scan.pages ≡ lent_between steps.old steps.new) }
-    ensures pages_lent { IfOk result (λ _. OnFile (sample_bytes sample)
-        (λ file. steps.new ≡ steps.old + pages_lent (command_of asked.now).request file)) }
-    ensures most_pages { IfOk result (λ _. OnFile (sample_bytes sample)
-        (λ file. steps.new ≤ steps.old + most_pages (command_of asked.now).request file)) }
+    ensures costs { let costs = ScanCosts (command_of asked.now).request (sample_bytes sample) in
+        (taken : ℕ) → IfOk result (λ _. costs steps.old steps.new taken taken) }
     ensures refuses { IfErr result (RefusesScan (command_of asked.now).request (sample_bytes sample) 0 0) }
     ensures too_great { IsTrue (is_too_great sample)
         → IsErrAnd result (λ e. e ≡ InvalidArgumentError Request) }
@@ -99,13 +91,8 @@ fn scan_source<S: Source, L: Ledger>(
     ensures ticks { steps.old ≤ steps.new }
     ensures answers { IfOk result (Answers (command_of asked.now).request (S.told source.old)) }
     ensures pages { IfOk result (λ scan. scan.pages ≡ lent_between steps.old steps.new) }
-    ensures pages_lent { IfOk result (λ _. OnFile (S.told source.old)
-        (λ file. steps.new ≡ steps.old + pages_lent (command_of asked.now).request file)) }
-    ensures most_pages { IfOk result (λ _. OnFile (S.told source.old)
-        (λ file. steps.new ≤ steps.old + most_pages (command_of asked.now).request file)) }
-    ensures taken { IfOk result (λ _. OnFile (S.told source.old)
-        (λ file. S.taken source.new ≤ S.taken source.old
-        + most_bytes_taken (command_of asked.now).request file)) }
+    ensures costs { IfOk result (λ _. ScanCosts (command_of asked.now).request (S.told source.old)
+        steps.old steps.new (S.taken source.old) (S.taken source.new)) }
     ensures refuses { let faults = S.faults in
         IfErr result
         (RefusesScan (command_of asked.now).request (S.told source.old)

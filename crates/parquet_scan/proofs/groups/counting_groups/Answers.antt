@@ -6,7 +6,7 @@ use Rattle.parquet_scan.specs.declared.bound.Bound.{Bound}
 use Rattle.parquet_scan.specs.Causes.{causes_of_bound}
 use Rattle.parquet_scan.specs.Rows.{group_keeps}
 use Rattle.parquet_scan.proofs.BoundLemmas.{all_count, counts_more, nothing_more}
-use Rattle.parquet_scan.proofs.CauseLemmas.{TellsOf, tells_of_all}
+use Rattle.parquet_scan.proofs.CauseLemmas.{ComesFrom, tells_of_all}
 use Rattle.parquet_scan.proofs.groups.counting_groups.Goals as goal
 
 pub returns-in_err-rule_out-clause-cause : goal.returns-in_err-rule_out-clause-cause
@@ -14,7 +14,7 @@ returns-in_err-rule_out-clause-cause c =
     let p = err_from_is_err_and c.from_residual-in_err-rule_out.result c.from_residual-in_err-rule_out.ensures.1 in
     let causes = causes_of_bound c.args.fields.now c.args.groups.now in
     rw (p.1, p.2) (tells_of_all causes c.args.bounds.now c.loop-bound.bound-index c.bound-item.result c.in_err-rule_out.field-0.0 c.loop-bound-test.true
-    (subst (λ (bound : Bound). TellsOf (causes bound) c.in_err-rule_out.field-0.0) c.bound-item.is c.in_err-rule_out.ensures.cause))
+    (subst (λ (bound : Bound). ComesFrom (causes bound) c.in_err-rule_out.field-0.0) c.bound-item.is c.in_err-rule_out.ensures.cause))
 
 pub loop-bound-init : goal.loop-bound-init
 loop-bound-init c = record {

@@ -6,7 +6,7 @@ use Rattle.std.proofs.lemmas.Result.{err_from_is_err_and}
 use Rattle.parquet_meta.specs.declared.metadata.RowGroupMetaData.{RowGroupMetaData}
 use Rattle.parquet_scan.specs.Causes.{bounded_causes_of_group, bounded_cells}
 use Rattle.parquet_scan.proofs.BoundLemmas.{bytes_more, bytes_of, bytes_tell_of_bound, counts_at, counts_done, group_tells, nothing_more, nothing_of_bound}
-use Rattle.parquet_scan.proofs.CauseLemmas.{TellsOf, ok_so, tells_of_all}
+use Rattle.parquet_scan.proofs.CauseLemmas.{ComesFrom, ok_so, tells_of_all}
 use Rattle.parquet_scan.proofs.PageLemmas.{if_err, ok_always}
 use Rattle.parquet_scan.proofs.groups.rule_out.Goals as goal
 
@@ -31,7 +31,7 @@ returns-in_err-keeps-clause-cause c =
     let groups = c.args.groups.now in
     rw (p.1, p.2) (group_tells fields bound groups c.in_err-keeps.field-0.0
     (tells_of_all (bounded_causes_of_group fields bound) groups c.loop-i.i c.index-groups-i.result c.in_err-keeps.field-0.0 c.loop-i-test.true
-    (subst (λ (group : RowGroupMetaData). TellsOf (bounded_causes_of_group fields bound group) c.in_err-keeps.field-0.0) c.index-groups-i.is c.in_err-keeps.ensures.cause)))
+    (subst (λ (group : RowGroupMetaData). ComesFrom (bounded_causes_of_group fields bound group) c.in_err-keeps.field-0.0) c.index-groups-i.is c.in_err-keeps.ensures.cause)))
 
 pub returns-clause-cause : goal.returns-clause-cause
 returns-clause-cause c =

@@ -10,10 +10,10 @@ use Rattle.parquet_base.specs.Intervals.{is_well_shaped, rows_of}
 use Rattle.parquet_base.specs.declared.interval.Interval.{Interval}
 use Rattle.parquet_meta.specs.Reads.{ReadsFile}
 use Rattle.parquet_meta.specs.declared.metadata.RowGroupMetaData.{RowGroupMetaData}
-use Rattle.parquet_scan.specs.Counting.{AreAllLocated, AreFirst, are_pruned, lie_in_groups, causes_of_groups, chunks_of_groups, given_of_groups, index_causes_of_groups, indexes_taken_of_groups, lent_of_groups, rows_of_groups, shown, taken_of_groups}
+use Rattle.parquet_scan.specs.Counting.{AreAllLocated, AreFirst, are_pruned, lie_in_groups, causes_of_groups, chunks_of_groups, index_causes_of_groups, indexes_taken_of_groups, lent_of_groups, rows_of_groups, shown, taken_of_groups}
 use Rattle.parquet_scan.specs.Cells.{columns_of_chunk, given_chunks}
 use Rattle.parquet_scan.specs.Request.{Request}
-use Rattle.parquet_scan.specs.Rows.{file_with, group_counts}
+use Rattle.parquet_scan.specs.Rows.{file_with, given_of_kept, group_counts}
 use Rattle.parquet_scan.specs.Scan.{RisesBy, RisesJustBy, chunk_shapes, kept_groups, kept_of, shape_of, shapes_of_rows}
 use Rattle.parquet_scan.specs.declared.scanning.GroupKept.{GroupKept}
 use Rattle.parquet_scan.proofs.CallLemmas.{answered, keeps_on, refuses, refuses_first}
@@ -70,7 +70,7 @@ read_groups-requires-clause-located g c =
     let kept = c.in_ok-kept.kept.items in
     let given = c.in_ok-given.given.items in
     let located = c.in_ok-kept.located.items in
-    let all = given_located by_pages told request.fields groups limit kept given located (c.in_ok-given.ensures.rows ∙ ap (given_of_groups limit) c.deref.ensures.value)
+    let all = given_located by_pages told request.fields groups limit kept given located (c.in_ok-given.ensures.rows ∙ ap (given_of_kept limit) c.deref.ensures.value)
     (ap (λ kept. list_all (λ (group : GroupKept × List Interval). is_well_shaped group.1 (group.0).rows) (zip kept given)) (sym c.deref.ensures.value) ∙ c.in_ok-given.ensures.shaped) c.in_ok-kept.ensures.located in
     subst (λ (told : Option (List ℕ)). AreAllLocated by_pages told c.request.inside.fields.now groups c.deref-2.result.now c.deref-3.result.now) (sym c.in_ok-kept.ensures.reads.keeps.same)
     (subst (λ (asked : Request). AreAllLocated by_pages told asked.fields groups c.deref-2.result.now c.deref-3.result.now) (sym c.request.view_is)
@@ -82,7 +82,7 @@ read_groups-requires-clause-first g c =
     let by_pages = c.are_pruned-by_pages.result in
     let limit = c.request.inside.limit in
     subst (All (AreFirst by_pages)) (sym c.deref-2.ensures.value)
-    (given_first by_pages limit c.in_ok-kept.kept.items c.in_ok-given.given.items (c.in_ok-given.ensures.rows ∙ ap (given_of_groups limit) c.deref.ensures.value) c.in_ok-kept.ensures.first)
+    (given_first by_pages limit c.in_ok-kept.kept.items c.in_ok-given.given.items (c.in_ok-given.ensures.rows ∙ ap (given_of_kept limit) c.deref.ensures.value) c.in_ok-kept.ensures.first)
 
 pub read_groups-requires-clause-size : goal.read_groups-requires-clause-size
 read_groups-requires-clause-size g c = subst (λ (asked : Request). IsChunkSize asked.chunk_size) (sym c.request.view_is) (legal_size c.args.request.now c.args.metadata.now c.requires.legal)
@@ -114,7 +114,7 @@ returns-in_err-read_groups-clause-reads g c =
     let kept = c.in_ok-kept.kept.items in
     let given = c.in_ok-given.given.items in
     let are = given_of request metadata told c.are_pruned-by_pages.result groups counts kept c.deref.result.now given is c.as_slice-groups.ensures c.requires.counts c.deref.ensures.value c.in_ok-kept.ensures.kept c.in_ok-kept.ensures.rows
-    (c.in_ok-given.ensures.rows ∙ ap (λ (asked : Request). given_of_groups asked.limit c.deref.result.now) c.request.view_is) c.in_ok-given.ensures.shaped in
+    (c.in_ok-given.ensures.rows ∙ ap (λ (asked : Request). given_of_kept asked.limit c.deref.result.now) c.request.view_is) c.in_ok-given.ensures.shaped in
     let none = kept_as (λ b groups counts. IfSome told (λ bytes. index_causes_of_groups b request.fields request.bounds bytes groups counts ≡ [])) is c.as_slice-groups.ensures c.requires.counts c.in_ok-kept.ensures.reads.ok in
     let reads = read_as (λ told b asked groups given. ReadsFile {T = Unit {0}} g.S.Source c.kept_groups.new.source c.read_groups.new.source (λ bytes. causes_of_groups b asked.chunk_size asked.fields bytes groups given) (Err c.in_err-read_groups.field-0.0)) c.in_ok-kept.ensures.reads.keeps.same is c.request.view_is c.as_slice-groups.ensures c.deref-2.ensures.value c.in_err-read_groups.ensures.reads in
     rw (p.1, p.2) (refuses c.in_ok-kept.ensures.reads.keeps reads (read_wrong request metadata kept given told are none))
@@ -130,7 +130,7 @@ returns-clause-reads g c =
     let kept = c.in_ok-kept.kept.items in
     let given = c.in_ok-given.given.items in
     let are = given_of request metadata told c.are_pruned-by_pages.result groups counts kept c.deref.result.now given is c.as_slice-groups.ensures c.requires.counts c.deref.ensures.value c.in_ok-kept.ensures.kept c.in_ok-kept.ensures.rows
-    (c.in_ok-given.ensures.rows ∙ ap (λ (asked : Request). given_of_groups asked.limit c.deref.result.now) c.request.view_is) c.in_ok-given.ensures.shaped in
+    (c.in_ok-given.ensures.rows ∙ ap (λ (asked : Request). given_of_kept asked.limit c.deref.result.now) c.request.view_is) c.in_ok-given.ensures.shaped in
     let none = kept_as (λ b groups counts. IfSome told (λ bytes. index_causes_of_groups b request.fields request.bounds bytes groups counts ≡ [])) is c.as_slice-groups.ensures c.requires.counts c.in_ok-kept.ensures.reads.ok in
     let nothing = read_as (λ told b asked groups given. IfSome told (λ bytes. causes_of_groups b asked.chunk_size asked.fields bytes groups given ≡ [])) c.in_ok-kept.ensures.reads.keeps.same is c.request.view_is c.as_slice-groups.ensures c.deref-2.ensures.value c.in_ok-read_groups.ensures.reads.ok in
     answered (keeps_on c.in_ok-kept.ensures.reads.keeps c.in_ok-read_groups.ensures.reads.keeps) (c.in_ok-read_groups.ensures.reads.quiet ∙ c.in_ok-kept.ensures.reads.quiet) (none_wrong request metadata kept given told are none nothing)
@@ -146,7 +146,7 @@ returns-clause-kept g c =
     let kept = c.in_ok-kept.kept.items in
     let given = c.in_ok-given.given.items in
     let are = given_of request metadata told c.are_pruned-by_pages.result groups counts kept c.deref.result.now given is c.as_slice-groups.ensures c.requires.counts c.deref.ensures.value c.in_ok-kept.ensures.kept c.in_ok-kept.ensures.rows
-    (c.in_ok-given.ensures.rows ∙ ap (λ (asked : Request). given_of_groups asked.limit c.deref.result.now) c.request.view_is) c.in_ok-given.ensures.shaped in
+    (c.in_ok-given.ensures.rows ∙ ap (λ (asked : Request). given_of_kept asked.limit c.deref.result.now) c.request.view_is) c.in_ok-given.ensures.shaped in
     subst (λ (kept : List GroupKept). IfSome told (λ bytes. map kept_of kept ≡ kept_groups request (file_with bytes metadata))) (sym c.new-2.ensures) (kept_told request metadata kept given told are)
 
 pub returns-clause-chunks : goal.returns-clause-chunks
@@ -160,7 +160,7 @@ returns-clause-chunks g c =
     let kept = c.in_ok-kept.kept.items in
     let given = c.in_ok-given.given.items in
     let are = given_of request metadata told c.are_pruned-by_pages.result groups counts kept c.deref.result.now given is c.as_slice-groups.ensures c.requires.counts c.deref.ensures.value c.in_ok-kept.ensures.kept c.in_ok-kept.ensures.rows
-    (c.in_ok-given.ensures.rows ∙ ap (λ (asked : Request). given_of_groups asked.limit c.deref.result.now) c.request.view_is) c.in_ok-given.ensures.shaped in
+    (c.in_ok-given.ensures.rows ∙ ap (λ (asked : Request). given_of_kept asked.limit c.deref.result.now) c.request.view_is) c.in_ok-given.ensures.shaped in
     let found = c.read_groups.new.read.chunks.items in
     let chunks = read_as (λ told b asked groups given. IfSome told (λ bytes. shown found ≡ shown c.new.result.items ++ chunks_of_groups b asked.chunk_size asked.fields bytes groups given)) c.in_ok-kept.ensures.reads.keeps.same is c.request.view_is c.as_slice-groups.ensures c.deref-2.ensures.value c.in_ok-read_groups.ensures.chunks in
     let alone = subst (λ (before : List (List Array)). IfSome told (λ bytes. shown found ≡ shown before ++ chunks_of_groups (pruned request metadata) request.chunk_size request.fields bytes metadata.row_groups given)) c.new.ensures.items chunks in
@@ -173,8 +173,8 @@ returns-clause-shapes g c =
     let given = c.in_ok-given.given.items in
     let found = c.read_groups.new.read.chunks.items in
     let each = shapes_of_rows request.fields request.chunk_size in
-    let rows : map rows_of given ≡ given_of_groups request.limit kept
-    = c.in_ok-given.ensures.rows ∙ ap (λ (asked : Request). given_of_groups asked.limit c.deref.result.now) c.request.view_is ∙ ap (given_of_groups request.limit) c.deref.ensures.value in
+    let rows : map rows_of given ≡ given_of_kept request.limit kept
+    = c.in_ok-given.ensures.rows ∙ ap (λ (asked : Request). given_of_kept asked.limit c.deref.result.now) c.request.view_is ∙ ap (given_of_kept request.limit) c.deref.ensures.value in
     let inside = c.request.inside in
     let of_given = subst (λ (given : List (List Interval)). map shape_of found ≡ map shape_of c.new.result.items ++ flat_map (λ (runs : List Interval). shapes_of_rows inside.fields.now inside.chunk_size (rows_of runs)) given) c.deref-2.ensures.value c.in_ok-read_groups.ensures.shapes in
     let of_request = subst (λ (asked : Request). map shape_of found ≡ map shape_of c.new.result.items ++ flat_map (λ (runs : List Interval). shapes_of_rows asked.fields asked.chunk_size (rows_of runs)) given) c.request.view_is of_given in
@@ -192,7 +192,7 @@ returns-clause-rows g c =
     let kept = c.in_ok-kept.kept.items in
     let given = c.in_ok-given.given.items in
     let are = given_of request metadata told c.are_pruned-by_pages.result groups counts kept c.deref.result.now given is c.as_slice-groups.ensures c.requires.counts c.deref.ensures.value c.in_ok-kept.ensures.kept c.in_ok-kept.ensures.rows
-    (c.in_ok-given.ensures.rows ∙ ap (λ (asked : Request). given_of_groups asked.limit c.deref.result.now) c.request.view_is) c.in_ok-given.ensures.shaped in
+    (c.in_ok-given.ensures.rows ∙ ap (λ (asked : Request). given_of_kept asked.limit c.deref.result.now) c.request.view_is) c.in_ok-given.ensures.shaped in
     let all : 0 + rows_of_groups given ≡ rows_of_groups given = omega arith in
     rows_told request metadata kept given told c.read_groups.new.read.rows are
     (c.in_ok-read_groups.ensures.rows ∙ ap (λ given. min (0 + rows_of_groups given) (2 ^ 64 - 1)) c.deref-2.ensures.value ∙ ap (λ n. min n (2 ^ 64 - 1)) all)
@@ -208,7 +208,7 @@ returns-clause-lent g c =
     let kept = c.in_ok-kept.kept.items in
     let given = c.in_ok-given.given.items in
     let are = given_of request metadata told c.are_pruned-by_pages.result groups counts kept c.deref.result.now given is c.as_slice-groups.ensures c.requires.counts c.deref.ensures.value c.in_ok-kept.ensures.kept c.in_ok-kept.ensures.rows
-    (c.in_ok-given.ensures.rows ∙ ap (λ (asked : Request). given_of_groups asked.limit c.deref.result.now) c.request.view_is) c.in_ok-given.ensures.shaped in
+    (c.in_ok-given.ensures.rows ∙ ap (λ (asked : Request). given_of_kept asked.limit c.deref.result.now) c.request.view_is) c.in_ok-given.ensures.shaped in
     lent_told request metadata kept given told c.args.steps.now c.read_groups.new.steps are
     (read_as (λ told b asked groups given. RisesJustBy told c.args.steps.now c.read_groups.new.steps (λ bytes. lent_of_groups b asked.fields bytes groups given)) c.in_ok-kept.ensures.reads.keeps.same is c.request.view_is c.as_slice-groups.ensures c.deref-2.ensures.value c.in_ok-read_groups.ensures.lent)
 
@@ -223,7 +223,7 @@ returns-clause-taken g c =
     let kept = c.in_ok-kept.kept.items in
     let given = c.in_ok-given.given.items in
     let are = given_of request metadata told c.are_pruned-by_pages.result groups counts kept c.deref.result.now given is c.as_slice-groups.ensures c.requires.counts c.deref.ensures.value c.in_ok-kept.ensures.kept c.in_ok-kept.ensures.rows
-    (c.in_ok-given.ensures.rows ∙ ap (λ (asked : Request). given_of_groups asked.limit c.deref.result.now) c.request.view_is) c.in_ok-given.ensures.shaped in
+    (c.in_ok-given.ensures.rows ∙ ap (λ (asked : Request). given_of_kept asked.limit c.deref.result.now) c.request.view_is) c.in_ok-given.ensures.shaped in
     let start = g.S.Source.taken c.args.source.now in
     let mid = g.S.Source.taken c.kept_groups.new.source in
     let now = g.S.Source.taken c.read_groups.new.source in

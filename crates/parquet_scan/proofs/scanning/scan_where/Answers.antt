@@ -11,11 +11,11 @@ use Rattle.parquet_scan.specs.Cells.{columns_of_chunk, given_chunks}
 use Rattle.parquet_scan.specs.Costs.{bytes_behind_footer, most_bytes_taken, most_pages, pages_lent}
 use Rattle.parquet_scan.specs.Request.{Request}
 use Rattle.parquet_scan.specs.Rows.{file_with, given_row_count}
-use Rattle.parquet_scan.specs.Scan.{Answers, OnFile, RefusesScan, RisesBy, RisesJustBy, kept_groups, kept_of, request_of}
+use Rattle.parquet_scan.specs.Scan.{Answers, RefusesScan, RisesBy, RisesJustBy, ScanCosts, kept_groups, kept_of, request_of}
 use Rattle.parquet_scan.specs.declared.bound.Bound.{Bound}
 use Rattle.parquet_scan.specs.declared.scanning.Scan.{Scan}
 use Rattle.parquet_scan.proofs.AnswerLemmas.{answers, illegal, legal_alone, legal_told, refused_by_causes, refused_by_footer, refused_by_groups}
-use Rattle.parquet_scan.proofs.FileCosts.{all_taken, at_most, scan_sound}
+use Rattle.parquet_scan.proofs.FileCosts.{all_taken, at_most, costs, scan_sound}
 use Rattle.parquet_scan.proofs.FileLemmas.{are_counted, behind_metadata, has_cause, is_valid, meta_cause, on_answer, on_file}
 use Rattle.parquet_scan.proofs.LegalLemmas.{asks_legally, each_error, no_file}
 use Rattle.parquet_scan.proofs.scanning.scan_where.Goals as goal
@@ -102,40 +102,24 @@ returns-clause-answers g c =
     (scan_sound asked metadata scan told (λ (scan : Scan). map kept_of scan.kept) footed legal valid kept)
     c.scan_groups.ensures.shapes c.scan_groups.ensures.apart c.scan_groups.ensures.even c.scan_groups.ensures.own_rows)
 
-pub returns-clause-pages_lent : goal.returns-clause-pages_lent
-returns-clause-pages_lent g c =
+pub returns-clause-costs : goal.returns-clause-costs
+returns-clause-costs g c =
     let asked : Request = record { fields = c.as_slice.result.now; bounds = c.args.bounds.now; chunk_size = c.args.chunk_size; limit = c.args.limit } in
     let metadata = c.in_ok-metadata.metadata in
     let told = g.S.Source.told c.args.source.now in
+    let footed = c.in_ok-metadata.ensures.footer in
+    let same = c.in_ok-metadata.ensures.keeps.same in
     let start = c.args.steps.now in
     let now = c.scan_groups.new.steps in
-    let scan = c.scan_groups.result in
-    of_request (λ (request : Request). IfOk scan (λ _. OnFile told (λ file. now ≡ start + pages_lent request file))) c.args.bounds.now c.args.chunk_size c.args.limit c.as_slice.ensures
-    (on_file (λ (scan : Scan) file. now ≡ start + pages_lent asked file) scan told metadata c.in_ok-metadata.ensures.footer
-    (on_answer _ scan (subst (λ (told : Option (List ℕ)). OnOk scan (RisesJustBy told start now (λ bytes. pages_lent asked (file_with bytes metadata)))) c.in_ok-metadata.ensures.keeps.same c.scan_groups.ensures.lent)))
-
-pub returns-clause-most_pages : goal.returns-clause-most_pages
-returns-clause-most_pages g c =
-    let asked : Request = record { fields = c.as_slice.result.now; bounds = c.args.bounds.now; chunk_size = c.args.chunk_size; limit = c.args.limit } in
-    let metadata = c.in_ok-metadata.metadata in
-    let told = g.S.Source.told c.args.source.now in
-    let start = c.args.steps.now in
-    let now = c.scan_groups.new.steps in
-    let scan = c.scan_groups.result in
-    of_request (λ (request : Request). IfOk scan (λ _. OnFile told (λ file. now ≤ start + most_pages request file))) c.args.bounds.now c.args.chunk_size c.args.limit c.as_slice.ensures
-    (on_file (λ (scan : Scan) file. now ≤ start + most_pages asked file) scan told metadata c.in_ok-metadata.ensures.footer
-    (at_most asked metadata scan told start now (subst (λ (told : Option (List ℕ)). OnOk scan (RisesJustBy told start now (λ bytes. pages_lent asked (file_with bytes metadata)))) c.in_ok-metadata.ensures.keeps.same c.scan_groups.ensures.lent)))
-
-pub returns-clause-taken : goal.returns-clause-taken
-returns-clause-taken g c =
-    let asked : Request = record { fields = c.as_slice.result.now; bounds = c.args.bounds.now; chunk_size = c.args.chunk_size; limit = c.args.limit } in
-    let metadata = c.in_ok-metadata.metadata in
-    let told = g.S.Source.told c.args.source.now in
-    let start = g.S.Source.taken c.args.source.now in
+    let before = g.S.Source.taken c.args.source.now in
     let mid = g.S.Source.taken c.read_metadata.new.source in
-    let now = g.S.Source.taken c.scan_groups.new.source in
+    let behind = g.S.Source.taken c.scan_groups.new.source in
     let scan = c.scan_groups.result in
-    of_request (λ (request : Request). IfOk scan (λ _. OnFile told (λ file. now ≤ start + most_bytes_taken request file))) c.args.bounds.now c.args.chunk_size c.args.limit c.as_slice.ensures
-    (on_file (λ (scan : Scan) file. now ≤ start + most_bytes_taken asked file) scan told metadata c.in_ok-metadata.ensures.footer
-    (all_taken asked metadata scan told start mid now c.in_ok-metadata.ensures.taken
-    (subst (λ (told : Option (List ℕ)). OnOk scan (RisesBy told mid now (λ bytes. bytes_behind_footer asked (file_with bytes metadata)))) c.in_ok-metadata.ensures.keeps.same c.scan_groups.ensures.taken)))
+    let lent : OnOk scan (RisesJustBy told start now (λ bytes. pages_lent asked (file_with bytes metadata))) =
+    subst (λ (told : Option (List ℕ)). OnOk scan (RisesJustBy told start now (λ bytes. pages_lent asked (file_with bytes metadata)))) same c.scan_groups.ensures.lent in
+    let taken = subst (λ (told : Option (List ℕ)). OnOk scan (RisesBy told mid behind (λ bytes. bytes_behind_footer asked (file_with bytes metadata)))) same c.scan_groups.ensures.taken in
+    of_request (λ (request : Request). IfOk scan (λ _. ScanCosts request told start now before behind)) c.args.bounds.now c.args.chunk_size c.args.limit c.as_slice.ensures
+    (costs asked told start now before behind scan
+    (on_file (λ (scan : Scan) file. now ≡ start + pages_lent asked file) scan told metadata footed (on_answer _ scan lent))
+    (on_file (λ (scan : Scan) file. now ≤ start + most_pages asked file) scan told metadata footed (at_most asked metadata scan told start now lent))
+    (on_file (λ (scan : Scan) file. behind ≤ before + most_bytes_taken asked file) scan told metadata footed (all_taken asked metadata scan told before mid behind c.in_ok-metadata.ensures.taken taken)))
