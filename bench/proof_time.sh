@@ -70,12 +70,14 @@ def functions(crate, least):
     shutil.rmtree(os.path.join(folder, "out/incremental"), ignore_errors=True)
     words = ["rt", "check", "--progress", "--jobs", "1"]
     with subprocess.Popen(words, cwd=folder, stdout=subprocess.PIPE, stderr=subprocess.STDOUT, text=True, errors="replace") as run:
-        found, last = [], 0.0
+        # some checks go on in a process of their own
+        found, last, taken = [], 0.0, {}
         for line in run.stdout:
             checked = re.match(r"checked (\S+), \d+ of \d+", line)
             if not checked:
                 continue
-            now = max((it[3] for it in checks() if it[1][it[1].index("--crate-name") + 1] == crate), default=last)
+            taken.update((it[0], it[3]) for it in checks() if it[1][it[1].index("--crate-name") + 1] == crate)
+            now = sum(taken.values())
             found.append((now - last, checked[1]))
             last = now
     for seconds, name in sorted(found, reverse=True):
