@@ -76,7 +76,7 @@ def functions(crate, least):
             checked = re.match(r"checked (\S+), \d+ of \d+", line)
             if not checked:
                 continue
-            taken.update((it[0], it[3]) for it in checks() if it[1][it[1].index("--crate-name") + 1] == crate)
+            taken.update((it[0], it[3]) for it in checks() if it[2] == os.path.realpath(folder))
             now = sum(taken.values())
             found.append((now - last, checked[1]))
             last = now
