@@ -1,7 +1,7 @@
 -- Places in joined items.
-use Rattle.std.proofs.Common.{◌≡◌, ◌⊎◌, inl, inr, ℕ, ℤ, zero, suc, ◌+◌, ◌-◌, ◌<◌, ◌≤◌, List, [], ◌∷◌, ◌++◌, length, get_or, map, refl, sym, subst, ap, ap₂, ◌∙◌, arith, length-append, append_assoc, append-nil}
+use Rattle.std.proofs.Common.{◌≡◌, ◌⊎◌, inl, inr, ℕ, ℤ, zero, suc, ◌+◌, ◌-◌, ◌<◌, ◌≤◌, List, [], ◌∷◌, ◌++◌, length, get_or, map, refl, sym, subst, ap, ◌∙◌, arith, length-append, append_assoc, append-nil}
 use Rattle.std.specs.Prelude.{nat_abs, slice_get, slice_range, sum_by, Some}
-use Rattle.std.proofs.lemmas.List.Sums.{sum_by-append, sum_by-cons}
+use Rattle.std.proofs.lemmas.List.Sums.{sum_by-cons}
 use Rattle.std.proofs.lemmas.Bool.{cases_lt}
 use Rattle.std.proofs.Math.ListN.{get_or-append}
 use Rattle.std.proofs.lemmas.List.{get_or-append_right}
@@ -65,26 +65,6 @@ get-parts (start ∷ end ∷ offsets) joined (suc i) h = get-parts (end ∷ offs
 pub record EndsLeft (base : List ℕ) (start : ℕ) (whole : List ℤ) (now : List ℕ) (end : ℕ) (left : List ℤ) : Type 0 where
   pub added : now ++ ends_behind end (map nat_abs left) ≡ base ++ ends_behind start (map nat_abs whole)
   pub sum : end + sum_by nat_abs left ≡ start + sum_by nat_abs whole
-
-ends-append : (place : ℕ) (front rest : List ℤ) → ends_behind place (map nat_abs (front ++ rest)) ≡ ends_behind place (map nat_abs front) ++ ends_behind (place + sum_by nat_abs front) (map nat_abs rest)
-ends-append place [] rest = let none : place ≡ place + 0 = omega arith in ap (λ n. ends_behind n (map nat_abs rest)) none
-ends-append place (long ∷ front) rest =
-    let end = place + nat_abs long in
-    let sum : end + sum_by nat_abs front ≡ place + sum_by nat_abs (long ∷ front) = omega (arith, sum_by-cons nat_abs long front) in
-    ap (λ ends. end ∷ ends) (ends-append end front rest ∙ ap (λ n. ends_behind end (map nat_abs front) ++ ends_behind n (map nat_abs rest)) sum)
-
-module _ (base : List ℕ) (start : ℕ) (whole : List ℤ) where
-  pub ends-more : (now new : List ℕ) (end behind : ℕ) (front rest left : List ℤ) → EndsLeft base start whole now end left → left ≡ front ++ rest → new ≡ now ++ ends_behind end (map nat_abs front) → behind ≡ end + sum_by nat_abs front
-      → EndsLeft base start whole new behind rest
-  ends-more now new end behind front rest left were cut is at = record {
-    added = ap₂ (λ ends n. ends ++ ends_behind n (map nat_abs rest)) is at ∙ append_assoc now (ends_behind end (map nat_abs front)) (ends_behind (end + sum_by nat_abs front) (map nat_abs rest))
-        ∙ ap (λ ends. now ++ ends) (sym (ends-append end front rest)) ∙ ap (λ all. now ++ ends_behind end (map nat_abs all)) (sym cut) ∙ were.added;
-    sum = omega (arith, at, were.sum, sum_by-append nat_abs front rest, ap (sum_by nat_abs) cut);
-  }
-
-  pub no-ends-left : (now : List ℕ) (end : ℕ) (left : List ℤ) → EndsLeft base start whole now end left → left ≡ [] → (now ≡ base ++ ends_behind start (map nat_abs whole)) × (end ≡ start + sum_by nat_abs whole)
-  no-ends-left now end left were none =
-      (sym (append-nil now) ∙ ap (λ all. now ++ ends_behind end (map nat_abs all)) (sym none) ∙ were.added, omega (arith, were.sum, ap (sum_by nat_abs) none))
 
 pub more_ends : (offsets : List ℕ) (lengths : List ℤ) → AreOffsets offsets
     → AreOffsets (offsets ++ ends_behind (last offsets) (map nat_abs lengths)) × (last (offsets ++ ends_behind (last offsets) (map nat_abs lengths)) ≡ last offsets + sum_by nat_abs lengths)

@@ -57,7 +57,7 @@ abbrev pub IsOneOf : List Cause → Option Cause → Type 0
 IsOneOf causes None = ⊥
 IsOneOf causes (Some cause) = Contains causes cause
 
--- an error tells of one of these causes, as those of a call that takes no memory do
+-- an error tells of one of these causes, and never of want of memory
 abbrev pub TellsOf : {T : Type 0} → Result T Error → List Cause → Type 0
 TellsOf result causes = IfErr result (λ e. IsOneOf causes (cause_of e))
 

@@ -11,7 +11,7 @@ pub mod Entries
 pub mod DictionaryKeys
 pub mod Keyed
 pub mod Array
-pub mod Holding
+pub mod Kinds
 pub mod DictionaryType
 pub mod Nested
 pub mod Depth

@@ -54,7 +54,7 @@ impl<O: Offset> BinaryArray<O> {
                 items: JoinedBytes::new(offsets, values, validity),
             })
         } else {
-            Err(Error::InvalidArgumentError(Part::Values))
+            Err(Error::InvalidArgumentError(Part::Request))
         }
     }
 

@@ -54,7 +54,7 @@ impl BooleanArray {
                 validity,
             })
         } else {
-            Err(Error::InvalidArgumentError(Part::Values))
+            Err(Error::InvalidArgumentError(Part::Request))
         }
     }
 

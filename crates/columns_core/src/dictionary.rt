@@ -11,7 +11,6 @@ ghost use Rattle.columns_core.specs.Entries.{NameEntries};
 ghost use Rattle.columns_core.specs.DictionaryKeys.{named_places};
 ghost use Rattle.columns_core.specs.Lent.{cell_lent, IsThere, lent_depth};
 
-use crate::array::boxed_copy;
 use crate::equal::is_same_type;
 use crate::lent::Lent;
 use crate::{
@@ -106,11 +105,8 @@ impl DictionaryArray {
         ensures copy { IfOk result (λ copy. copy ≡ self.now) }
         ensures memory { IfErr result IsWantOfMemory }
     {
-        Ok(DictionaryArray {
-            entries: boxed_copy(alloc, self.entries.get())?,
-            keys: self.keys.try_clone(alloc)?,
-            data_type: self.data_type.try_clone(alloc)?,
-        })
+        let entries = self.entries.get().try_clone(alloc)?;
+        DictionaryArray::with_entries(alloc, &self.data_type, &self.keys, entries)
     }
 }
 
@@ -133,7 +129,7 @@ impl DictionaryArray {
             ⊎ (cause_of e ≡ Some OutOfSpec) × (NameEntries K.number (cells values) keys.items → ⊥)) }
     {
         if !is_dictionary_of(&data_type, K::key_type(), values.data_type()) {
-            return Err(Error::InvalidArgumentError(Part::Dictionary));
+            return Err(Error::InvalidArgumentError(Part::Request));
         }
         let keys = K::keep(keys);
         if !are_below(&keys, values.len()) {
@@ -167,6 +163,24 @@ impl DictionaryArray {
             validity,
         };
         DictionaryArray::of_places(alloc, own_type, K::keep(keys), own_entries)
+    }
+
+    /// The array of these entries and copies of all else: outside the cycle of copies, where it takes less to prove.
+    fn with_entries(
+        alloc: Global,
+        data_type: &DataType,
+        keys: &DictionaryKeys,
+        entries: Array,
+    ) -> Result<Self, Error>
+        requires typed { entry_type data_type.now ≡ Some (data_type_of entries) }
+        requires named { NameEntries pos (cells entries) (named_places keys.now) }
+        ensures array { IfOk result (λ array. array
+            ≡ record { data_type = data_type.now; keys = named_places keys.now; entries = cells entries }) }
+        ensures memory { IfErr result IsWantOfMemory }
+    {
+        let keys = keys.try_clone(alloc)?;
+        let data_type = data_type.try_clone(alloc)?;
+        DictionaryArray::of_places(alloc, data_type, keys, entries)
     }
 
     /// The array of keys that name entries.

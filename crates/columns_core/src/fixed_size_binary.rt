@@ -66,7 +66,7 @@ impl FixedSizeBinaryArray {
                 validity,
             })
         } else {
-            Err(Error::InvalidArgumentError(Part::Values))
+            Err(Error::InvalidArgumentError(Part::Request))
         }
     }
 

@@ -1,5 +1,5 @@
 //! Byte strings one behind another.
-ghost use Rattle.std.specs.Prelude.{◌≡◌, ◌<◌, ◌≤◌, ◌-◌, IsTrue, ◌↔◌, length, slice_get, Some, IfOk, IfErr, option_copied};
+ghost use Rattle.std.specs.Prelude.{◌≡◌, ◌<◌, ◌≤◌, IsTrue, ◌↔◌, length, slice_get, Some, IfOk, IfErr, option_copied};
 ghost use Rattle.columns_core.specs.Causes.{IsWantOfMemory};
 ghost use Rattle.columns_core.specs.Offsets.{last};
 ghost use Rattle.columns_core.specs.Joined.{joined_strings, FitTogether, AreTexts, BeginAtCharacters};

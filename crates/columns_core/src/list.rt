@@ -10,7 +10,6 @@ ghost use Rattle.columns_core.specs.Lists.{lists, AreLists};
 ghost use Rattle.columns_core.specs.Nested.{list_type, joined_type};
 ghost use Rattle.columns_core.specs.declared.cell.Cell.{Cells};
 
-use crate::array::boxed_copy;
 use crate::equal::is_same_type;
 use crate::lent::{Lent, Nest};
 use crate::mask::{copy_of_mask, is_there};
@@ -75,10 +74,10 @@ impl ListArray {
             ⊎ IsMisfit (AreLists (list_type O.is_large data_type) offsets values validity) e) }
     {
         if !is_list_of::<O>(&data_type, values.data_type()) {
-            return Err(Error::InvalidArgumentError(Part::Values));
+            return Err(Error::InvalidArgumentError(Part::Request));
         }
         if !fit_lists(&offsets, &values, validity.as_ref()) {
-            return Err(Error::InvalidArgumentError(Part::Values));
+            return Err(Error::InvalidArgumentError(Part::Request));
         }
         let places = Places::new(alloc, &offsets)?;
         ListArray::new(alloc, data_type, places, values, validity)
@@ -136,12 +135,33 @@ impl ListArray {
         ensures copy { IfOk result (λ copy. copy ≡ self.now) }
         ensures memory { IfErr result IsWantOfMemory }
     {
-        Ok(ListArray {
-            items: boxed_copy(alloc, self.items.get())?,
-            places: self.places.try_clone(alloc)?,
-            validity: copy_of_mask(alloc, self.validity.as_ref())?,
-            data_type: self.data_type.try_clone(alloc)?,
-        })
+        let items = self.items.get().try_clone(alloc)?;
+        ListArray::with_items(
+            alloc,
+            &self.data_type,
+            &self.places,
+            items,
+            self.validity.as_ref(),
+        )
+    }
+
+    /// The array of these items and copies of all else: outside the cycle of copies, where it takes less to prove.
+    fn with_items(
+        alloc: Global,
+        data_type: &DataType,
+        places: &Places,
+        items: Array,
+        validity: Option<&Bitmap>,
+    ) -> Result<Self, Error>
+        requires { AreLists (joined_type data_type.now) places.now items (option_copied validity) }
+        ensures array { IfOk result (λ array.
+            array ≡ as_column data_type.now (lists places.now items (option_copied validity.entry))) }
+        ensures memory { IfErr result IsWantOfMemory }
+    {
+        let places = places.try_clone(alloc)?;
+        let validity = copy_of_mask(alloc, validity)?;
+        let data_type = data_type.try_clone(alloc)?;
+        ListArray::new(alloc, data_type, places, items, validity)
     }
 }
 

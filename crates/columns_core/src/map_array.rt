@@ -60,10 +60,10 @@ impl MapArray {
             ⊎ IsMisfit (AreLists (map_type data_type) offsets field validity) e) }
     {
         if !is_map_of(&data_type, field.data_type()) {
-            return Err(Error::InvalidArgumentError(Part::Values));
+            return Err(Error::InvalidArgumentError(Part::Request));
         }
         if !fit_lists(&offsets, &field, validity.as_ref()) {
-            return Err(Error::InvalidArgumentError(Part::Values));
+            return Err(Error::InvalidArgumentError(Part::Request));
         }
         let alloc = offsets.allocator();
         let places = Places::new(alloc, &offsets)?;

@@ -52,7 +52,7 @@ impl<T: NativeType> PrimitiveArray<T> {
                 validity,
             })
         } else {
-            Err(Error::InvalidArgumentError(Part::Values))
+            Err(Error::InvalidArgumentError(Part::Request))
         }
     }
 }

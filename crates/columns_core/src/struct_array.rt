@@ -2,6 +2,7 @@
 ghost use Rattle.std.specs.Prelude.{◌≡◌, ◌<◌, ◌≤◌, ◌↔◌, IsTrue, IfOk, IfErr, Some, length, slice_get, map, option_copied};
 ghost use Rattle.columns_core.specs.Causes.{IsWantOfMemory, IsMisfit};
 ghost use Rattle.columns_core.specs.Array.{data_type_of};
+ghost use Rattle.columns_core.specs.Chunk.{array_rows};
 ghost use Rattle.columns_core.specs.Column.{as_column, cell_of};
 ghost use Rattle.columns_core.specs.Depth.{depth};
 ghost use Rattle.columns_core.specs.Lent.{cell_lent, IsThere, lent_depth};
@@ -77,7 +78,7 @@ impl StructArray {
                 validity,
             })
         } else {
-            Err(Error::InvalidArgumentError(Part::Values))
+            Err(Error::InvalidArgumentError(Part::Request))
         }
     }
 
@@ -112,11 +113,35 @@ impl StructArray {
         ensures copy { IfOk result (λ copy. copy ≡ self.now) }
         ensures memory { IfErr result IsWantOfMemory }
     {
+        let columns = copy_of_arrays(alloc, self.columns.as_slice())?;
+        StructArray::with_columns(
+            alloc,
+            &self.data_type,
+            columns,
+            self.rows,
+            self.validity.as_ref(),
+        )
+    }
+
+    /// The array of these columns and copies of all else: outside the cycle of copies, where it takes less to prove.
+    fn with_columns(
+        alloc: Global,
+        data_type: &DataType,
+        columns: Seq<Array>,
+        rows: usize,
+        validity: Option<&Bitmap>,
+    ) -> Result<Self, Error>
+        requires columns { AreColumnsOf data_type.now columns (option_copied validity) }
+        requires rows { rows ≡ array_rows columns }
+        ensures array { IfOk result (λ array.
+            array ≡ as_column data_type.now (structs columns (option_copied validity.entry))) }
+        ensures memory { IfErr result IsWantOfMemory }
+    {
         Ok(StructArray {
-            columns: copy_of_arrays(alloc, self.columns.as_slice())?,
-            rows: self.rows,
-            validity: copy_of_mask(alloc, self.validity.as_ref())?,
-            data_type: self.data_type.try_clone(alloc)?,
+            columns,
+            rows,
+            validity: copy_of_mask(alloc, validity)?,
+            data_type: data_type.try_clone(alloc)?,
         })
     }
 }

@@ -138,10 +138,10 @@ fn check<O: Offset>(
         ⊎ ((cause_of e ≡ Some OutOfSpec) × (AreTexts offsets.now values.now → ⊥))) }
 {
     if !stores::<O>(data_type) {
-        return Err(Error::InvalidArgumentError(Part::Values));
+        return Err(Error::InvalidArgumentError(Part::Request));
     }
     if !fit_together(offsets, values, validity) {
-        return Err(Error::InvalidArgumentError(Part::Values));
+        return Err(Error::InvalidArgumentError(Part::Request));
     }
     if !are_texts(offsets, values) {
         return Err(Error::OutOfSpec(Part::Values));

@@ -192,7 +192,7 @@ fn push_null(count: &mut usize, cell: &Cell) -> Result<(), Error>
                 Ok(())
             }
         },
-        _ => Err(Error::InvalidArgumentError(Part::Values)),
+        _ => Err(Error::InvalidArgumentError(Part::Request)),
     }
 }
 

@@ -74,7 +74,7 @@ impl<O: Offset> ByteStrings<O> {
         match cell {
             Cell::Null => self.push(&[], false),
             _ => match bytes_of(cell, self.is_text) {
-                None => Err(Error::InvalidArgumentError(Part::Values)),
+                None => Err(Error::InvalidArgumentError(Part::Request)),
                 Some(bytes) => self.push(bytes, true),
             },
         }

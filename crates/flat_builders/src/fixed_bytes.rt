@@ -68,7 +68,7 @@ impl FixedBytes {
             Cell::Bytes(bytes) if bytes.as_slice().len() == self.values.size() => {
                 self.push(bytes.as_slice())
             }
-            _ => Err(Error::InvalidArgumentError(Part::Values)),
+            _ => Err(Error::InvalidArgumentError(Part::Request)),
         }
     }
 

@@ -64,7 +64,7 @@ impl<T: FromCell> Marked<T> {
         match cell {
             Cell::Null => self.push(T::blank(), false),
             _ => match T::from_cell(cell) {
-                None => Err(Error::InvalidArgumentError(Part::Values)),
+                None => Err(Error::InvalidArgumentError(Part::Request)),
                 Some(value) => self.push(value, true),
             },
         }
