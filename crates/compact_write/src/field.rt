@@ -40,7 +40,7 @@ pub fn write_i32_field(
     write_signed(out, i64::from(number))
 }
 
-/// A number that is not negative.
+/// A number of 32 bits that is not negative.
 pub fn write_count_field(
     out: &mut Vec<u8>,
     previous: u8,
@@ -49,6 +49,7 @@ pub fn write_count_field(
 ) -> Result<(), AllocError>
     requires rises { previous < id }
     requires near { id ≤ previous + most_step }
+    requires fits { number < 2 ^ 31 }
     ensures written { Writes (count_field_bytes previous id i32_kind number) out.old result out.new }
 {
     write_field_header(out, previous, id, I32)?;

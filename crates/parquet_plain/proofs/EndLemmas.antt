@@ -17,9 +17,6 @@ use Rattle.parquet_plain.proofs.FooterLemmas.{footer-means, meta_data-is, footer
 use Rattle.parquet_plain.proofs.StructLemmas.{value_in-written}
 use Rattle.parquet_plain.specs.Fits.{HasChunks, IsPlainColumn}
 
-le_length : (n : ℕ) → length (to_le_bytes w32 n) ≡ 4
-le_length n = refl
-
 footer_length-written : (n : ℕ) → n < 2 ^ 32 → footer_length (to_le_bytes w32 n ++ magic) ≡ Some n
 unfolding footer_length
 footer_length-written n lt = rw (from_le_bytes-to_le_bytes_4 n lt) refl

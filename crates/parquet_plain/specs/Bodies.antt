@@ -6,7 +6,7 @@ use Rattle.compact_write.specs.Written.{varint_bytes}
 use Rattle.parquet_meta.specs.declared.metadata.PhysicalType.{PhysicalType}
 use Rattle.parquet_meta.specs.declared.metadata.PhysicalType.TheVariants as types
 use Rattle.parquet_meta.specs.declared.metadata.Repetition.{Repetition}
-use Rattle.parquet_meta.specs.declared.metadata.Repetition.TheVariants.{Optional}
+use Rattle.parquet_meta.specs.declared.metadata.Repetition.TheVariants.{Required, Optional, Repeated}
 use Rattle.parquet_page.specs.Stored.{Stored, Number, Truth, Octets}
 
 -- a number in so many bytes, the lowest first
@@ -53,19 +53,24 @@ truth_in _ = false
 abbrev pub with_length : List ℕ → List ℕ
 with_length bytes = number_bytes 4 (length bytes) ++ bytes
 
+-- (a plain file has no values of the three other types)
 unfoldable pub values_bytes : PhysicalType → List Stored → List ℕ
 values_bytes types.Boolean values = bits_bytes (map truth_in values)
 values_bytes types.Int32 values = flat_map (number_octets 4 (cast_unsigned w32)) values
 values_bytes types.Int64 values = flat_map (number_octets 8 (cast_unsigned w64)) values
 values_bytes types.ByteArray values = flat_map (λ value. with_length (octets_of value)) values
 values_bytes (types.FixedLenByteArray width) values = flat_map octets_of values
-values_bytes _ values = []
+values_bytes types.Int96 values = []
+values_bytes types.Float values = []
+values_bytes types.Double values = []
 
 -- ---- bodies
 
+-- (and no repeated column)
 abbrev pub levels_of : Repetition → List (Option Stored) → List ℕ
+levels_of Required items = []
 levels_of Optional items = with_length (level_bytes (map is_some items))
-levels_of _ items = []
+levels_of Repeated items = []
 
 abbrev pub present : List (Option Stored) → List Stored
 present items = filter_map (λ item. item) items

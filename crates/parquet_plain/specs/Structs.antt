@@ -125,7 +125,8 @@ chunk_statistics_field s more = struct_field 12 (statistics_fields s) more
 -- 0 of the values; a column that has levels has them by 3
 abbrev pub encodings_of : Repetition → Values
 encodings_of Required = values (number (pos 0)) no_values
-encodings_of _ = values (number (pos 0)) (values (number (pos 3)) no_values)
+encodings_of Optional = values (number (pos 0)) (values (number (pos 3)) no_values)
+encodings_of Repeated = values (number (pos 0)) (values (number (pos 3)) no_values)
 
 abbrev pub meta_data_fields : ColumnChunkMetaData → Fields
 meta_data_fields column =

@@ -1,6 +1,8 @@
 -- Lists of values, an element at a time.
-use Rattle.std.proofs.Common.{◌≡◌, ℕ, ◌+◌, ◌<◌, ◌≤◌, List, [], ◌∷◌, ◌++◌, refl, sym, ap, ◌∙◌, length, take, get_or, append_assoc, append-nil, map}
+use Rattle.std.proofs.Common.{◌≡◌, ℕ, ◌+◌, ◌<◌, ◌≤◌, List, [], ◌∷◌, ◌++◌, refl, sym, ap, ◌∙◌, length, take, get_or, append_assoc, append-nil, map, subst}
+use Rattle.std.specs.Prelude.{All}
 use Rattle.std.proofs.lemmas.List.{take_all, take_more}
+use Rattle.std.proofs.lemmas.List.Elements.{All-more}
 use Rattle.parquet_thrift.specs.Values.{Value}
 use Rattle.compact_write.specs.Fields.{values_of}
 use Rattle.compact_write.specs.Written.{element_bytes, elements_bytes}
@@ -41,3 +43,13 @@ all_written {A = A} value start out xs i done is = is.same ∙ ap (λ (ys : List
 
 pub all_written_of : {A B : Type 0} (value : B → Value) (f : A → B) (start out : List ℕ) (xs : List A) (i : ℕ) → length xs ≤ i → AreWritten (λ x. value (f x)) start out xs i → out ≡ start ++ elements_bytes (values_of value (map f xs))
 all_written_of {A = A} value f start out xs i done is = all_written (λ (x : A). value (f x)) start out xs i done is ∙ ap (λ vs. start ++ elements_bytes vs) (sym (values_of-map value f xs))
+
+-- ---- what each element has
+
+-- one more has it
+pub one_has : {A : Type 0} (Has : A → Type 0) (xs : List A) (i : ℕ) (x : A) → i < length xs → x ≡ get_or xs i x → All Has (take i xs) → Has x → All Has (take (i + 1) xs)
+one_has Has xs i x lt is before own = All-more Has xs i x lt before (subst Has is own)
+
+-- all have
+pub all_have : {A : Type 0} (Has : A → Type 0) (xs : List A) (i : ℕ) → length xs ≤ i → All Has (take i xs) → All Has xs
+all_have Has xs i done is = subst (All Has) (take_all i xs done) is

@@ -1,5 +1,5 @@
 -- What the facts of pages, chunks and groups say of a plain file.
-use Rattle.std.specs.Prelude.{◌≡◌, ℕ, ℤ, Bool, ◌+◌, pos, false, is_none, List, [], ◌∷◌, length, map, sum_by, Option, Some, None}
+use Rattle.std.specs.Prelude.{◌≡◌, ◌<◌, ◌^◌, ℕ, ℤ, Bool, ◌+◌, pos, false, is_none, List, [], ◌∷◌, length, map, sum_by, All, Option, Some, None, IfSome}
 use Rattle.parquet_thrift.specs.Values.{binary, number, truth}
 use Rattle.compact_write.specs.Fields.{values_of}
 use Rattle.compact_write.specs.Written.{element_bytes, elements_bytes, fields_bytes}
@@ -9,10 +9,11 @@ use Rattle.parquet_meta.specs.declared.metadata.ColumnChunkMetaData.{ColumnChunk
 use Rattle.parquet_meta.specs.declared.metadata.ColumnDescriptor.{ColumnDescriptor}
 use Rattle.parquet_meta.specs.declared.metadata.FileMetaData.{FileMetaData}
 use Rattle.parquet_meta.specs.declared.metadata.PageLocation.{PageLocation}
+use Rattle.parquet_meta.specs.declared.metadata.PrimitiveType.{PrimitiveType}
 use Rattle.parquet_meta.specs.declared.metadata.RowGroupMetaData.{RowGroupMetaData}
 use Rattle.parquet_plain.specs.Description.{PlainChunk, chunk_bytes, greatest_of, least_of, rows_of_chunk, statistics_from}
 use Rattle.parquet_plain.specs.File.{Starts, behind, chunk_index_bytes, chunk_locations_bytes, tail_bytes}
-use Rattle.parquet_plain.specs.Structs.{chunk_value, footer_bytes, group_value, location_value, meta_data_fields, statistics_fields}
+use Rattle.parquet_plain.specs.Structs.{chunk_value, footer_bytes, group_value, location_value, meta_data_fields, statistics_fields, width_of}
 use Rattle.parquet_plain.specs.declared.ends.Ends.{Ends}
 use Rattle.parquet_write.specs.declared.facts.Bases.{Bases}
 use Rattle.parquet_write.specs.declared.facts.ChunkFacts.{ChunkFacts}
@@ -23,6 +24,12 @@ use Rattle.parquet_write.specs.declared.facts.PageFacts.{PageFacts}
 
 abbrev pub location_told : PageFacts → PageLocation
 location_told page = record { offset = pos page.offset; compressed_page_size = pos page.size; first_row_index = pos page.first_row }
+
+-- Readers take each number of the page.
+pub record IsTellablePage (page : PageFacts) : Type 0 where
+  pub offset : page.offset < 2 ^ 63
+  pub size : page.size < 2 ^ 31
+  pub first_row : page.first_row < 2 ^ 63
 
 abbrev pub is_null_page : PageFacts → Bool
 is_null_page page = is_none page.ends
@@ -57,6 +64,21 @@ abbrev pub null_counts_bytes : List PageFacts → List ℕ
 null_counts_bytes pages = elements_bytes (values_of number (map nulls_told pages))
 
 -- ---- chunks
+
+-- Readers take what is told of the chunk itself.
+pub record HasTellableValues (chunk : ChunkFacts) : Type 0 where
+  pub start : chunk.start < 2 ^ 63
+  pub size : chunk.size < 2 ^ 63
+  pub rows : chunk.rows < 2 ^ 63
+  pub nulls : chunk.nulls < 2 ^ 63
+
+-- and of its indexes
+pub record IsTellableChunk (bases : Bases) (chunk : ChunkFacts) : Type 0 where
+  pub values : HasTellableValues chunk
+  pub index : bases.indexes + chunk.index < 2 ^ 63
+  pub index_size : chunk.index_size < 2 ^ 31
+  pub locations : bases.locations + chunk.locations < 2 ^ 63
+  pub locations_size : chunk.locations_size < 2 ^ 31
 
 -- what is told of a chunk that begins at a place, and whose indexes begin at places of their own
 abbrev pub facts_of : Starts → PlainChunk → ChunkFacts
@@ -109,6 +131,30 @@ file_told descriptors bases groups =
 -- a group has a chunk for each column
 abbrev pub HasColumns : ℕ → GroupFacts → Type 0
 HasColumns columns group = length group.chunks ≡ columns
+
+-- Readers take each number of the group.
+pub record IsTellableGroup (bases : Bases) (group : GroupFacts) : Type 0 where
+  pub chunks : All (IsTellableChunk bases) group.chunks
+  pub size : sum_by (λ (chunk : ChunkFacts). chunk.size) group.chunks < 2 ^ 63
+  pub rows : group.rows < 2 ^ 63
+
+-- the length of fixed bytes is one that they take
+abbrev pub IsTellableType : PrimitiveType → Type 0
+IsTellableType type = IfSome (width_of type.physical_type) (λ width. width < 2 ^ 31)
+
+abbrev pub IsTellableColumn : ColumnDescriptor → Type 0
+IsTellableColumn column = IsTellableType column.primitive_type
+
+-- Readers take each number of the columns.
+pub record AreTellableColumns (columns : List ColumnDescriptor) : Type 0 where
+  pub count : length columns < 2 ^ 31
+  pub each : All IsTellableColumn columns
+
+-- Readers take each number of the footer.
+pub record IsTellableFile (columns : List ColumnDescriptor) (bases : Bases) (groups : List GroupFacts) : Type 0 where
+  pub schema : AreTellableColumns columns
+  pub rows : sum_by (λ (group : GroupFacts). group.rows) groups < 2 ^ 63
+  pub each : All (IsTellableGroup bases) groups
 
 -- ---- the bytes of groups
 

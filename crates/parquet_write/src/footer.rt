@@ -1,9 +1,9 @@
 //! The footer, and the end of the file.
 
-ghost use Rattle.std.specs.Prelude.{◌≡◌, length, sum_by, All, IfOk};
+ghost use Rattle.std.specs.Prelude.{◌≡◌, ◌<◌, ◌^◌, length, sum_by, All, IfOk, OnOk};
 ghost use Rattle.compact_write.specs.Calls.{Writes};
 ghost use Rattle.parquet_plain.specs.Structs.{footer_bytes};
-ghost use Rattle.parquet_write.specs.Told.{HasColumns, end_of_file_bytes, file_told};
+ghost use Rattle.parquet_write.specs.Told.{HasColumns, IsTellableFile, end_of_file_bytes, file_told};
 
 use crate::facts::{Bases, GroupFacts};
 use crate::group::write_group;
@@ -36,6 +36,7 @@ fn write_footer(
 ) -> Result<(), AllocError>
     requires even { All (HasColumns (length columns.now)) groups.now }
     ensures written { Writes (footer_bytes (file_told columns.now bases groups.now)) out.old result out.new }
+    ensures few { OnOk result (IsTellableFile columns.now bases groups.now) }
 {
     write_count_field(out, 0, 1, 1)?;
     write_list_start(out, 1, 2, STRUCT, columns.len() + 1)?;
@@ -49,7 +50,8 @@ fn write_footer(
     Ok(())
 }
 
-/// The footer, its length, and the magic.
+/// The footer, its length, and the magic. A number that no reader takes counts as want of memory: 2^31 bytes of an index or a footer, 2^31 columns
+/// or fixed bytes, a place or count from 2^63 on.
 pub fn write_end_of_file(
     out: &mut Vec<u8>,
     columns: &[ColumnDescriptor],
@@ -58,6 +60,8 @@ pub fn write_end_of_file(
 ) -> Result<(), AllocError>
     requires even { All (HasColumns (length columns.now)) groups.now }
     ensures written { Writes (end_of_file_bytes columns.now bases groups.now) out.old result out.new }
+    ensures few { OnOk result (IsTellableFile columns.now bases groups.now) }
+    ensures length { OnOk result (length (footer_bytes (file_told columns.now bases groups.now)) < 2 ^ 31) }
 {
     let start = out.len();
     write_footer(out, columns, bases, groups)?;

@@ -1,15 +1,16 @@
 //! What the footer says of groups and their chunks.
 
-ghost use Rattle.std.specs.Prelude.{◌≡◌, length, sum_by, IfOk};
+ghost use Rattle.std.specs.Prelude.{◌≡◌, ◌<◌, ◌^◌, length, sum_by, All, IfOk, OnOk};
 ghost use Rattle.compact_write.specs.Calls.{Writes};
 ghost use Rattle.compact_write.specs.Fields.{values_of};
 ghost use Rattle.compact_write.specs.Written.{elements_bytes, value_count};
 ghost use Rattle.parquet_plain.specs.Structs.{encodings_of};
 ghost use Rattle.parquet_thrift.specs.Values.{binary};
+ghost use Rattle.parquet_write.specs.Told.{HasTellableValues, IsTellableChunk, IsTellableGroup};
 ghost use Rattle.parquet_write.specs.Told.{chunk_told_bytes, chunks_told_bytes, group_told_bytes, meta_data_bytes, statistics_bytes};
 
 use crate::facts::{Bases, ChunkFacts, GroupFacts};
-use crate::measure::{sum, write_measure};
+use crate::measure::{sum, write_measure, write_size};
 use crate::schema::code_of;
 use columns_core::Name;
 use compact_write::{
@@ -59,6 +60,7 @@ fn write_path(out: &mut Vec<u8>, path: &[Name]) -> Result<(), AllocError>
 /// The count of nulls, and the ends where an item is present.
 fn write_statistics(out: &mut Vec<u8>, nulls: u64, ends: &Option<Ends>) -> Result<(), AllocError>
     ensures written { Writes (statistics_bytes nulls ends.now) out.old result out.new }
+    ensures few { OnOk result (nulls < 2 ^ 63) }
 {
     write_measure(out, 0, 3, nulls)?;
     match ends {
@@ -84,6 +86,7 @@ fn write_meta_data(
     chunk: &ChunkFacts,
 ) -> Result<(), AllocError>
     ensures written { Writes (meta_data_bytes column.now bases chunk.now) out.old result out.new }
+    ensures few { OnOk result (HasTellableValues chunk.now) }
 {
     let type_ = column.primitive_type;
     let path = column.path_in_schema.as_slice();
@@ -110,14 +113,15 @@ fn write_chunk(
     chunk: &ChunkFacts,
 ) -> Result<(), AllocError>
     ensures written { Writes (chunk_told_bytes column.now bases chunk.now) out.old result out.new }
+    ensures few { OnOk result (IsTellableChunk bases chunk.now) }
 {
     write_measure(out, 0, 2, chunk.start)?;
     write_struct_start(out, 2, 3)?;
     write_meta_data(out, column, bases, chunk)?;
     write_measure(out, 3, 4, sum(bases.locations, chunk.locations)?)?;
-    write_count_field(out, 4, 5, chunk.locations_size)?;
+    write_size(out, 4, 5, chunk.locations_size)?;
     write_measure(out, 5, 6, sum(bases.indexes, chunk.index)?)?;
-    write_count_field(out, 6, 7, chunk.index_size)?;
+    write_size(out, 6, 7, chunk.index_size)?;
     write_end(out)?;
     Ok(())
 }
@@ -131,6 +135,7 @@ fn write_chunks(
 ) -> Result<(), AllocError>
     requires even { length chunks.now ≡ length columns.now }
     ensures written { Writes (chunks_told_bytes columns.now bases chunks.now) out.old result out.new }
+    ensures few { OnOk result (All (IsTellableChunk bases) chunks.now) }
 {
     for i in 0..chunks.len() {
         write_chunk(out, &columns[i], bases, &chunks[i])?;
@@ -157,6 +162,7 @@ pub(crate) fn write_group(
 ) -> Result<(), AllocError>
     requires even { length group.now.chunks ≡ length columns.now }
     ensures written { Writes (group_told_bytes columns.now bases group.now) out.old result out.new }
+    ensures few { OnOk result (IsTellableGroup bases group.now) }
 {
     let chunks = group.chunks.as_slice();
     write_list_start(out, 0, 1, STRUCT, chunks.len())?;

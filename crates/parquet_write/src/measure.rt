@@ -3,9 +3,9 @@
 
 ghost use Rattle.std.specs.Prelude.{◌≡◌, ◌<◌, ◌≤◌, ◌+◌, ◌^◌, IfOk, OnErr, OnOk};
 ghost use Rattle.compact_write.specs.Calls.{Writes};
-ghost use Rattle.compact_write.specs.Written.{count_field_bytes, i64_kind, most_step};
+ghost use Rattle.compact_write.specs.Written.{count_field_bytes, i32_kind, i64_kind, most_step};
 
-use compact_write::write_large_field;
+use compact_write::{write_count_field, write_large_field};
 use std::alloc::AllocError;
 
 /// The first number that is not stored.
@@ -16,11 +16,23 @@ pub fn write_measure(out: &mut Vec<u8>, previous: u8, id: u8, number: u64) -> Re
     requires rises { previous < id }
     requires near { id ≤ previous + most_step }
     ensures written { Writes (count_field_bytes previous id i64_kind number) out.old result out.new }
+    ensures few { OnOk result (number < 2 ^ 63) }
 {
     if number >= TOO_LARGE {
         return Err(AllocError);
     }
     write_large_field(out, previous, id, number)
+}
+
+/// A field of 32 bits: a size that is told below 2^31, as its readers ask for. A greater one counts as want of memory.
+pub fn write_size(out: &mut Vec<u8>, previous: u8, id: u8, size: u32) -> Result<(), AllocError>
+    requires rises { previous < id }
+    requires near { id ≤ previous + most_step }
+    ensures written { Writes (count_field_bytes previous id i32_kind size) out.old result out.new }
+    ensures few { OnOk result (size < 2 ^ 31) }
+{
+    let size = to_measure(size as usize)?;
+    write_count_field(out, previous, id, size)
 }
 
 /// The sum of two. One of more than 64 bits counts as want of memory.

@@ -10,6 +10,8 @@ use std::alloc::AllocError;
 
 /// A plain data page of so many rows with a body of so many bytes, whose levels are hybrid.
 fn write_page_header(out: &mut Vec<u8>, rows: u32, size: u32) -> Result<(), AllocError>
+    requires rows { rows < 2 ^ 31 }
+    requires size { size < 2 ^ 31 }
     ensures written { Writes (page_header_bytes rows size) out.old result out.new }
 {
     write_count_field(out, 0, 1, 0)?;

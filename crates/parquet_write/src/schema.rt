@@ -1,11 +1,12 @@
 //! The schema: its root, and an element for each column.
 
-ghost use Rattle.std.specs.Prelude.{◌≡◌};
+ghost use Rattle.std.specs.Prelude.{◌≡◌, ◌<◌, ◌^◌, OnOk};
 ghost use Rattle.compact_write.specs.Calls.{Writes};
 ghost use Rattle.compact_write.specs.Written.{element_bytes, elements_bytes, truth_kind};
 ghost use Rattle.parquet_plain.specs.Structs.{code_number, element_value, repetition_number, root_value};
 ghost use Rattle.parquet_plain.specs.Structs.{schema_values, single_name, unit_number};
 ghost use Rattle.parquet_write.specs.Elements.{logical_bytes, timestamp_bytes, type_bytes};
+ghost use Rattle.parquet_write.specs.Told.{AreTellableColumns, IsTellableColumn, IsTellableType};
 
 use crate::measure::to_measure;
 use columns_core::Name;
@@ -20,7 +21,8 @@ use parquet_thrift::{BINARY, FALSE, TRUE};
 use std::alloc::AllocError;
 
 pub(crate) fn code_of(type_: PhysicalType) -> u32
-    ensures { result ≡ code_number type_ }
+    ensures code { result ≡ code_number type_ }
+    ensures few { result < 8 }
 {
     match type_ {
         PhysicalType::Boolean => 0,
@@ -35,7 +37,8 @@ pub(crate) fn code_of(type_: PhysicalType) -> u32
 }
 
 fn repetition_code(repetition: Repetition) -> u32
-    ensures { result ≡ repetition_number repetition }
+    ensures code { result ≡ repetition_number repetition }
+    ensures few { result < 3 }
 {
     match repetition {
         Repetition::Required => 0,
@@ -64,6 +67,7 @@ fn kind_of(truth: bool) -> u8
 /// What is stored, the length of fixed bytes, and whether there may be nulls.
 fn write_type(out: &mut Vec<u8>, type_: PrimitiveType) -> Result<(), AllocError>
     ensures written { Writes (type_bytes type_) out.old result out.new }
+    ensures few { OnOk result (IsTellableType type_) }
 {
     let repetition = repetition_code(type_.repetition);
     write_count_field(out, 0, 1, code_of(type_.physical_type))?;
@@ -126,6 +130,7 @@ fn name_of(path: &[Name]) -> &[u8]
 
 fn write_element(out: &mut Vec<u8>, column: &ColumnDescriptor) -> Result<(), AllocError>
     ensures written { Writes (element_bytes (element_value column.now)) out.old result out.new }
+    ensures few { OnOk result (IsTellableColumn column.now) }
 {
     write_type(out, column.primitive_type)?;
     write_field_header(out, 3, 4, BINARY)?;
@@ -137,6 +142,7 @@ fn write_element(out: &mut Vec<u8>, column: &ColumnDescriptor) -> Result<(), All
 
 fn write_root(out: &mut Vec<u8>, columns: usize) -> Result<(), AllocError>
     ensures written { Writes (element_bytes (root_value columns)) out.old result out.new }
+    ensures few { OnOk result (columns < 2 ^ 31) }
 {
     write_field_header(out, 0, 4, BINARY)?;
     write_binary(out, b"schema")?;
@@ -150,6 +156,7 @@ pub(crate) fn write_schema(
     columns: &[ColumnDescriptor],
 ) -> Result<(), AllocError>
     ensures written { Writes (elements_bytes (schema_values columns.now)) out.old result out.new }
+    ensures few { OnOk result (AreTellableColumns columns.now) }
 {
     write_root(out, columns.len())?;
     for column in columns {

@@ -1,14 +1,15 @@
-use Rattle.std.proofs.Common.{◌≡◌, ℕ, suc, ◌+◌, add-one, List, ◌++◌, refl, sym, ap, ◌∙◌, length, map}
+use Rattle.std.proofs.Common.{◌≡◌, ◌<◌, ◌^◌, ℕ, suc, ◌+◌, add-one, List, ◌++◌, refl, sym, ap, subst, ◌∙◌, length, map}
 use Rattle.std.proofs.lemmas.List.{length-map}
+use Rattle.std.proofs.lemmas.List.Elements.{All-nil}
 use Rattle.compact_write.specs.Fields.{values_of}
 use Rattle.compact_write.specs.Written.{elements_bytes, fields_bytes, value_count}
 use Rattle.compact_write.proofs.FieldLemmas.{value_count-values}
 use Rattle.parquet_meta.specs.declared.metadata.ColumnDescriptor.{ColumnDescriptor}
 use Rattle.parquet_meta.specs.declared.metadata.FileMetaData.{FileMetaData}
 use Rattle.parquet_plain.specs.Structs.{element_value, footer_bytes, footer_fields, group_value, schema_values}
-use Rattle.parquet_write.specs.Told.{file_told, group_told}
+use Rattle.parquet_write.specs.Told.{IsTellableGroup, file_told, group_told}
 use Rattle.parquet_write.specs.declared.facts.GroupFacts.{GroupFacts}
-use Rattle.parquet_write.proofs.ListLemmas.{all_written_of, none_written, one_written}
+use Rattle.parquet_write.proofs.ListLemmas.{all_have, all_written_of, none_written, one_has, one_written}
 use Rattle.parquet_write.proofs.StepLemmas.{ends, large, list_begins, part, small}
 use Rattle.parquet_write.proofs.footer.write_footer.Goals as goal
 
@@ -16,12 +17,15 @@ count-schema : (columns : List ColumnDescriptor) → length columns + 1 ≡ valu
 count-schema columns = add-one (length columns) ∙ ap suc (sym (value_count-values element_value columns))
 
 pub loop-group-init : goal.loop-group-init
-loop-group-init c = none_written (λ group. group_value (group_told c.args.columns.now c.args.bases group)) c.write_list_start-2.new.out.items c.args.groups.now
+loop-group-init c = record { written = none_written (λ group. group_value (group_told c.args.columns.now c.args.bases group)) c.write_list_start-2.new.out.items c.args.groups.now; few = All-nil (IsTellableGroup c.args.bases) }
 
 pub loop-group-preserved : goal.loop-group-preserved
 loop-group-preserved c =
-    one_written (λ group. group_value (group_told c.args.columns.now c.args.bases group)) c.write_list_start-2.new.out.items c.loop-group.out.items _ c.args.groups.now c.loop-group.group-index c.group-item.result c.loop-group-test.true c.group-item.is
-    c.loop-group.invariant c.in_ok-write_group.ensures.written
+    record {
+      written = one_written (λ group. group_value (group_told c.args.columns.now c.args.bases group)) c.write_list_start-2.new.out.items c.loop-group.out.items _ c.args.groups.now c.loop-group.group-index c.group-item.result c.loop-group-test.true
+          c.group-item.is c.loop-group.invariant.written c.in_ok-write_group.ensures.written;
+      few = one_has (IsTellableGroup c.args.bases) c.args.groups.now c.loop-group.group-index c.group-item.result c.loop-group-test.true c.group-item.is c.loop-group.invariant.few c.in_ok-write_group.ensures.few;
+    }
 
 pub returns : goal.returns
 unfolding footer_bytes
@@ -38,5 +42,12 @@ returns c =
     let count : length groups ≡ value_count (values_of group_value (map own groups)) = sym (value_count-values group_value (map own groups) ∙ length-map groups own) in
     let s5 = list_begins 3 4 12 _ (values_of group_value (map own groups)) _ _ _ whole count s4 c.in_ok-write_list_start-2.ensures.written in
     let s6 = part (elements_bytes (values_of group_value (map own groups))) _ _ _ whole s5
-    (all_written_of group_value own c.write_list_start-2.new.out.items c.loop-group.out.items groups c.loop-group.group-index c.loop-group-test.false c.loop-group.invariant) in
-    record { written = ends 4 _ _ whole s6 c.in_ok-write_end.ensures.written }
+    (all_written_of group_value own c.write_list_start-2.new.out.items c.loop-group.out.items groups c.loop-group.group-index c.loop-group-test.false c.loop-group.invariant.written) in
+    record {
+      written = ends 4 _ _ whole s6 c.in_ok-write_end.ensures.written;
+      few = record {
+        schema = c.in_ok-write_schema.ensures.few;
+        rows = subst (λ (n : ℕ). n < 2 ^ 63) c.in_ok-rows_of.ensures c.in_ok-write_measure.ensures.few;
+        each = all_have (IsTellableGroup c.args.bases) groups c.loop-group.group-index c.loop-group-test.false c.loop-group.invariant.few;
+      };
+    }

@@ -1,10 +1,10 @@
-use Rattle.std.proofs.Common.{◌≡◌, ℕ, List, ◌++◌, refl, ap, ◌∙◌, length}
-use Rattle.std.specs.Prelude.{sum_by}
+use Rattle.std.proofs.Common.{◌≡◌, ◌<◌, ◌^◌, ℕ, List, ◌++◌, refl, ap, subst, ◌∙◌, length}
+use Rattle.std.specs.Prelude.{sum_by, All}
 use Rattle.compact_write.specs.Fields.{values_of}
 use Rattle.compact_write.specs.Written.{element_bytes, elements_bytes, fields_bytes}
 use Rattle.parquet_meta.specs.declared.metadata.RowGroupMetaData.{RowGroupMetaData}
 use Rattle.parquet_plain.specs.Structs.{chunk_value, group_fields, group_value}
-use Rattle.parquet_write.specs.Told.{columns_told, group_told}
+use Rattle.parquet_write.specs.Told.{IsTellableChunk, columns_told, group_told}
 use Rattle.parquet_write.specs.declared.facts.ChunkFacts.{ChunkFacts}
 use Rattle.parquet_write.proofs.GroupLemmas.{count-told, size-told}
 use Rattle.parquet_write.proofs.StepLemmas.{ends, large, list_begins, part, struct-bytes}
@@ -25,4 +25,11 @@ returns c =
     (c.in_ok-write_chunks.ensures.written ∙ ap (λ (fs : List ChunkFacts). c.write_list_start.new.out.items ++ elements_bytes (values_of chunk_value (columns_told c.args.columns.now c.args.bases fs))) own) in
     let s3 = large 1 2 _ _ _ _ _ whole (c.in_ok-size_of.ensures ∙ ap (sum_by (λ (chunk : ChunkFacts). chunk.size)) own ∙ size-told c.args.columns.now c.args.bases chunks c.requires.even) s2 c.in_ok-write_measure.ensures.written in
     let s4 = large 2 3 _ _ _ _ _ whole refl s3 c.in_ok-write_measure-2.ensures.written in
-    record { written = ends 3 _ _ whole s4 c.in_ok-write_end.ensures.written }
+    record {
+      written = ends 3 _ _ whole s4 c.in_ok-write_end.ensures.written;
+      few = record {
+        chunks = subst (All (IsTellableChunk c.args.bases)) own c.in_ok-write_chunks.ensures.few;
+        size = subst (λ (n : ℕ). n < 2 ^ 63) (c.in_ok-size_of.ensures ∙ ap (sum_by (λ (chunk : ChunkFacts). chunk.size)) own) c.in_ok-write_measure.ensures.few;
+        rows = c.in_ok-write_measure-2.ensures.few;
+      };
+    }

@@ -5,6 +5,7 @@ use Rattle.parquet_write.proofs.group.write_statistics.Goals as goal
 pub returns-in_ok-write_end-in-None : goal.returns-in_ok-write_end-in-None
 returns-in_ok-write_end-in-None c = record {
   written = rw ((c.in_ok-write_end-in-None).ensures.written, c.in_ok-write_measure.ensures.written, c.in-None.is, statistics-none c.args.nulls) (simp append_assoc);
+  few = c.in_ok-write_measure.ensures.few;
 }
 
 pub returns-in_ok-write_end-in-Some : goal.returns-in_ok-write_end-in-Some
@@ -22,4 +23,5 @@ returns-in_ok-write_end-in-Some c = record {
     (c.as_slice-in-Some).ensures,
   )
       (simp append_assoc);
+  few = c.in_ok-write_measure.ensures.few;
 }

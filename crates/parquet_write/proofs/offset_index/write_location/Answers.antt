@@ -8,8 +8,9 @@ returns c = record {
   written = rw (
     c.in_ok-write_end.ensures.written,
     c.in_ok-write_measure-2.ensures.written,
-    c.in_ok-write_count_field.ensures.written,
+    c.in_ok-write_size.ensures.written,
     c.in_ok-write_measure.ensures.written,
   )
       (simp append_assoc);
+  few = record { offset = c.in_ok-write_measure.ensures.few; size = c.in_ok-write_size.ensures.few; first_row = c.in_ok-write_measure-2.ensures.few };
 }

@@ -15,4 +15,5 @@ returns c = record {
     element-is c.args.column.now,
   )
       (simp append_assoc);
+  few = c.in_ok-write_type.ensures.few;
 }

@@ -13,4 +13,5 @@ returns c = record {
     c.in_ok-to_measure.ensures.same,
   )
       (simp append_assoc);
+  few = c.in_ok-to_measure.ensures.few;
 }
