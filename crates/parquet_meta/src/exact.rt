@@ -37,6 +37,7 @@ pub fn read_exact_at<S: Source>(
 pub fn read_range<S: Source>(alloc: Global, source: &mut S, range: Place) -> Result<Vec<u8>, Error>
     ensures keeps { Keeps S.Source source.old source.new }
     ensures quiet { OnOk result (S.faults source.new ≡ S.faults source.old) }
+    ensures length { IfOk result (λ bytes. vec_len bytes ≡ range.length) }
     ensures part { Finds (λ bytes. bytes.items) (λ file. part_at file range)
         (S.told source.old) (S.faults source.old) (S.faults source.new) result }
     ensures taken { S.taken source.new ≤ S.taken source.old + range.length }
@@ -53,6 +54,7 @@ pub(crate) fn read_as<S: Source>(
 ) -> Result<Vec<u8>, Error>
     ensures keeps { Keeps S.Source source.old source.new }
     ensures quiet { OnOk result (S.faults source.new ≡ S.faults source.old) }
+    ensures length { IfOk result (λ bytes. vec_len bytes ≡ place.length) }
     ensures part { Finds (λ bytes. bytes.items) (λ file. part_at file place)
         (S.told source.old) (S.faults source.old) (S.faults source.new) result }
     ensures taken { S.taken source.new ≤ S.taken source.old + place.length }

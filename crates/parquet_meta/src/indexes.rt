@@ -1,6 +1,6 @@
 //! Reads the indexes of columns.
 
-ghost use Rattle.std.specs.Prelude.{◌≡◌, ◌+◌, ◌≤◌, map, sum_by, true, OnOk};
+ghost use Rattle.std.specs.Prelude.{◌≡◌, ◌+◌, ◌≤◌, length, map, sum_by, true, IfOk, OnOk};
 ghost use Rattle.parquet_meta.specs.Fault.{MakesOr};
 ghost use Rattle.parquet_meta.specs.Indexes.{FindsIndex, FindsIndexes, column_index_length, field_columns, index_in, place_length, locations_at, locations_of, offset_index_length};
 ghost use Rattle.parquet_meta.specs.Lists.{all_of};
@@ -27,6 +27,7 @@ pub fn read_pages_locations<S: Source>(
 ) -> Result<Vec<Vec<PageLocation>>, Error>
     ensures keeps { Keeps S.Source source.old source.new }
     ensures quiet { OnOk result (S.faults source.new ≡ S.faults source.old) }
+    ensures each { IfOk result (λ lists. length lists.items ≡ length columns.now) }
     ensures found { Finds (λ lists. map (λ list. list.items) lists.items)
         (λ file. all_of (locations_of file) columns.now)
         (S.told source.old) (S.faults source.old) (S.faults source.new) result }
@@ -71,6 +72,8 @@ pub fn read_raw_indexes<S: Source>(
 ) -> Result<Vec<Index>, Error>
     ensures keeps { Keeps S.Source source.old source.new }
     ensures quiet { OnOk result (S.faults source.new ≡ S.faults source.old) }
+    ensures each { IfOk result (λ indexes. length indexes.items
+        ≡ length (field_columns field_name.now columns.now)) }
     ensures found { FindsIndexes (λ indexes. indexes.items) (field_columns field_name.now columns.now)
         (S.told source.old) (S.faults source.old) (S.faults source.new) result }
     ensures taken { S.taken source.new ≤ S.taken source.old

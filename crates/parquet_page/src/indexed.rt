@@ -2,6 +2,7 @@
 ghost use Rattle.std.specs.Prelude.{◌≡◌, ◌&&◌, length, map, option_map, true, IfOk, IfErr, Some};
 ghost use Rattle.parquet_base.specs.Reading.{given};
 ghost use Rattle.parquet_page.specs.Lent.{are_well_shaped, has_parts, lie_within as lie_within_by, located_chunk, located_parts, selected_count};
+ghost use Rattle.columns_core.specs.Causes.{IsWantOfMemory};
 ghost use Rattle.columns_core.specs.Refusals.{Refuses};
 
 use crate::entries::{count_selected, count_wanted, first_start, lie_within, wanted};
@@ -49,6 +50,7 @@ impl IndexedPageReader {
         ensures refusal { IfErr result
             (Refuses (are_well_shaped pages.items)
             (given (lie_within_by (length buffer.items) pages.items) pages.items)) }
+        ensures no_memory { IfErr result (λ e. IsWantOfMemory e → ⊥) }
     {
         let Some(count) = count_selected(&pages) else {
             return Err(Error::InvalidArgumentError(Part::Request));
@@ -90,6 +92,7 @@ impl IndexedPageReader {
         ensures refusal { IfErr result
             (Refuses (are_well_shaped pages.items
             && has_parts pages.items (map (λ body. body.items) bodies.items)) (Some pages.items)) }
+        ensures no_memory { IfErr result (λ e. IsWantOfMemory e → ⊥) }
     {
         let Some(count) = count_selected(&pages) else {
             return Err(Error::InvalidArgumentError(Part::Request));

@@ -1,5 +1,5 @@
-use Rattle.std.proofs.Common.{◌∙◌, ◌+◌, List, Vec, Global, drop, map, rules}
-use Rattle.std.proofs.lemmas.List.{drop_all, map_push}
+use Rattle.std.proofs.Common.{◌∙◌, ◌+◌, List, Vec, Global, ap, arith, drop, length, map, rules}
+use Rattle.std.proofs.lemmas.List.{drop_all, length_push, map_push}
 use Rattle.std.proofs.lemmas.Result.{err_from_is_err_and}
 use Rattle.parquet_meta.specs.Indexes.{locations_of, offset_index_length}
 use Rattle.parquet_meta.specs.declared.metadata.PageLocation.{PageLocation}
@@ -22,6 +22,7 @@ loop-column-preserved g c =
     let found = rw c.loop-column.invariant.keeps.same at c.in_ok-read_locations.ensures.found in
     record {
       keeps = search rules;
+      each = omega (arith, c.loop-column.invariant.each, ap length others, ap length c.in_ok-push.ensures.items, length_push c.loop-column.lists.items c.in_ok-read_locations.field-0);
       quiet = c.in_ok-read_locations.ensures.quiet ∙ c.loop-column.invariant.quiet;
       reading = rw (c.in_ok-push.ensures.items, map_push)
           (each_goes_on locations_of offset_index_length (g.S.Source.told c.args.source.now) c.args.columns.now (drop (c.loop-column.column-index + 1) c.args.columns.now) c.column-item.result _ c.in_ok-read_locations.field-0.items _ _ _ reading found c.in_ok-read_locations.ensures.taken);
@@ -31,3 +32,6 @@ pub returns-clause-found : goal.returns-clause-found
 returns-clause-found g c =
     let reading = rw (drop_all c.loop-column.column-index c.args.columns.now c.loop-column-test.false) at c.loop-column.invariant.reading in
     each_ends locations_of offset_index_length (g.S.Source.told c.args.source.now) c.args.columns.now _ _ _ reading
+
+pub returns-clause-each : goal.returns-clause-each
+returns-clause-each g c = omega (arith, c.loop-column.invariant.each, ap length (drop_all c.loop-column.column-index c.args.columns.now c.loop-column-test.false))

@@ -1,7 +1,8 @@
-use Rattle.std.proofs.Common.{◌∙◌, ◌+◌, Vec, Global, drop, sym, rules}
-use Rattle.std.proofs.lemmas.List.{drop_all}
+use Rattle.std.proofs.Common.{◌∙◌, ◌+◌, List, Vec, Global, ap, arith, drop, length, sym, rules}
+use Rattle.std.proofs.lemmas.List.{drop_all, length_push}
 use Rattle.std.proofs.lemmas.Result.{err_from_is_err_and}
 use Rattle.parquet_meta.specs.Indexes.{field_columns}
+use Rattle.parquet_meta.specs.declared.metadata.ColumnChunkMetaData.{ColumnChunkMetaData}
 use Rattle.parquet_meta.specs.declared.metadata.Index.{Index}
 use Rattle.parquet_meta.proofs.ListLemmas.{item_and_others}
 use Rattle.parquet_meta.proofs.RawIndexLemmas.{indexes_go_on, indexes_end, indexes_refused, of_the_field}
@@ -25,6 +26,7 @@ loop-column-preserved g c =
     let found = rw c.loop-column.invariant.keeps.same at c.in_ok-read_raw_index.ensures.found in
     record {
       keeps = search rules;
+      each = omega (arith, c.loop-column.invariant.each, ap length named, ap length c.in_ok-push.ensures.items, length_push c.loop-column.indexes.items c.in_ok-read_raw_index.field-0);
       quiet = c.in_ok-read_raw_index.ensures.quiet ∙ c.loop-column.invariant.quiet;
       reading = rw c.in_ok-push.ensures.items
           (indexes_go_on (g.S.Source.told c.args.source.now) (field_columns c.args.field_name.now c.args.columns.now) (field_columns c.args.field_name.now (drop (c.loop-column.column-index + 1) c.args.columns.now)) c.column-item.result _
@@ -35,3 +37,8 @@ pub returns-clause-found : goal.returns-clause-found
 returns-clause-found g c =
     let reading = rw (drop_all c.loop-column.column-index c.args.columns.now c.loop-column-test.false) at c.loop-column.invariant.reading in
     indexes_end (g.S.Source.told c.args.source.now) (field_columns c.args.field_name.now c.args.columns.now) _ _ _ reading
+
+pub returns-clause-each : goal.returns-clause-each
+returns-clause-each g c =
+    let left = ap (λ (columns : List ColumnChunkMetaData). length (field_columns c.args.field_name.now columns)) (drop_all c.loop-column.column-index c.args.columns.now c.loop-column-test.false) in
+    omega (arith, c.loop-column.invariant.each, left)
