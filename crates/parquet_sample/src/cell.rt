@@ -1,6 +1,6 @@
 //! The cells of the sample file.
 
-ghost use Rattle.std.specs.Prelude.{◌≡◌, ◌<◌, ◌+◌, string_bytes, IfErr, IfOk};
+ghost use Rattle.std.specs.Prelude.{◌≡◌, ◌<◌, ◌+◌, string_bytes, IfErr, IfOk, OnErr};
 ghost use Rattle.columns_core.specs.declared.error.Error.TheVariants.{OutOfMemory};
 ghost use Rattle.parquet_sample.specs.Sample.{sample_cell_at, name_text};
 
@@ -24,6 +24,7 @@ pub fn sample_cell(alloc: Global, seed: u32, column: usize, row: u32) -> Result<
     requires { column < 3 }
     ensures cell { IfOk result (λ cell. cell ≡ sample_cell_at column (seed + row)) }
     ensures memory { IfErr result (λ e. e ≡ OutOfMemory) }
+    ensures numbers { OnErr result (column ≡ 2) }
 {
     let number = u64::from(seed) + u64::from(row);
     match column {

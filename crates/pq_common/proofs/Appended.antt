@@ -55,7 +55,7 @@ pub front_of_more : (o p : Option (List ℕ)) (text comes : List ℕ) → IsFron
 front_of_more o p text comes is = record {
   count = is.count;
   within = omega (arith, is.within, length-append text comes);
-  appended = is.appended ∙ ap (λ (front : List ℕ). option_map (λ written. written ++ front) o) (sym (take-append-le is.count text comes is.within));
+  appended = is.appended ∙ ap (λ (front : List ℕ). option_map (λ written. written ++ front) o) (sym (take-append-le is.count text comes (omega (arith, is.within))));
 }
 
 -- the front before, and then a front of the bytes behind it

@@ -1,6 +1,7 @@
 -- Sinks in memory: what they were given, and which of their calls fail.
-use Rattle.std.specs.Prelude.{ℕ, ◌+◌, ◌-◌, ◌^◌, min, Bool, ◌&&◌, ◌||◌, ◌==◌, nat_lt, List, [], ◌++◌, length, take}
+use Rattle.std.specs.Prelude.{ℕ, ◌-◌, Bool, ◌&&◌, ◌||◌, ◌==◌, nat_lt, List, [], ◌++◌, length, take}
 use Rattle.std.specs.List.{list_any}
+use Rattle.parquet_meta.specs.Source.{raised}
 
 -- what it was given, how much it can take in all, and how often a call failed
 pub record Memory : Type 0 where
@@ -20,7 +21,7 @@ with_piece memory piece = record memory { bytes = memory.bytes ++ take (room mem
 
 -- one more, up to the greatest number that a count can show
 abbrev pub one_more : ℕ → ℕ
-one_more count = min (count + 1) (2 ^ 64 - 1)
+one_more count = raised count 1
 
 abbrev pub with_fault : Memory → Memory
 with_fault memory = record memory { faults = one_more memory.faults }

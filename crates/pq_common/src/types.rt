@@ -1,5 +1,5 @@
 //! The types that texts spell.
-ghost use Rattle.std.specs.Prelude.{◌≡◌, codes, option_map, IfOk};
+ghost use Rattle.std.specs.Prelude.{◌≡◌, codes, is_some, option_map, IfOk, IsTrue, OnErr};
 ghost use Rattle.std.specs.Option.{option_copied};
 ghost use Rattle.pq_common.specs.Spelled as spec;
 
@@ -9,7 +9,8 @@ use std::alloc::{AllocError, Global};
 
 /// The type that a text spells.
 pub fn data_type(alloc: Global, text: &str) -> Result<Option<DataType>, AllocError>
-    ensures { IfOk result (λ found. found ≡ spec.spelled_type text.now) }
+    ensures found { IfOk result (λ found. found ≡ spec.spelled_type text.now) }
+    ensures memory { OnErr result (IsTrue (is_some (spec.dictionary_type text.now))) }
 {
     match value_type(text) {
         None => dictionary_type(alloc, text),
@@ -19,7 +20,8 @@ pub fn data_type(alloc: Global, text: &str) -> Result<Option<DataType>, AllocErr
 
 /// The dictionary type that a text spells.
 fn dictionary_type(alloc: Global, text: &str) -> Result<Option<DataType>, AllocError>
-    ensures { IfOk result (λ found. found ≡ spec.dictionary_type text.now) }
+    ensures found { IfOk result (λ found. found ≡ spec.dictionary_type text.now) }
+    ensures memory { OnErr result (IsTrue (is_some (spec.dictionary_type text.now))) }
 {
     match name_and_argument(text) {
         Some(("Dictionary", argument)) => dictionary_of(alloc, argument),
@@ -28,7 +30,8 @@ fn dictionary_type(alloc: Global, text: &str) -> Result<Option<DataType>, AllocE
 }
 
 fn dictionary_of(alloc: Global, argument: &str) -> Result<Option<DataType>, AllocError>
-    ensures { IfOk result (λ found. found ≡ spec.spelled_dictionary argument.now) }
+    ensures found { IfOk result (λ found. found ≡ spec.spelled_dictionary argument.now) }
+    ensures memory { OnErr result (IsTrue (is_some (spec.spelled_dictionary argument.now))) }
 {
     match keys_and_values(argument) {
         None => Ok(None),

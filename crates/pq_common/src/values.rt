@@ -1,5 +1,5 @@
 //! The values that texts spell.
-ghost use Rattle.std.specs.Prelude.{◌≡◌, option_map, IfOk};
+ghost use Rattle.std.specs.Prelude.{◌≡◌, ◌||◌, option_map, IfOk, IsTrue, OnErr};
 ghost use Rattle.columns_core.specs.Types as types;
 ghost use Rattle.pq_common.specs.Spelled as spec;
 
@@ -9,7 +9,9 @@ use std::alloc::{AllocError, Global};
 
 /// The value of a type that a text spells.
 pub fn value(alloc: Global, data_type: &DataType, text: &str) -> Result<Option<Cell>, AllocError>
-    ensures { IfOk result (λ found. found ≡ spec.spelled_value data_type.now text.now) }
+    ensures found { IfOk result (λ found. found ≡ spec.spelled_value data_type.now text.now) }
+    ensures memory { let values = types.value_type data_type.now in
+        OnErr result (IsTrue (types.is_text values || types.is_byte_type values)) }
 {
     let data_type = entry_type(data_type);
     match data_type {

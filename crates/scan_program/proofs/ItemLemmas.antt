@@ -4,17 +4,13 @@ use Rattle.std.specs.Prelude.{Some, None, if◌then◌else◌}
 use Rattle.std.proofs.lemmas.List.{append-nil, drop_all, take_more}
 use Rattle.columns_core.specs.declared.data_type.Field.{Field}
 use Rattle.parquet_scan.specs.declared.bound.Bound.{Bound}
-use Rattle.scan_program.specs.Parsed.{bounds_behind, items_behind}
+use Rattle.scan_program.specs.Parsed.{bounds_behind}
 use Rattle.scan_program.specs.Words.{BoundEnd}
 
 -- no field is left
 pub no_more_bounds : (ends : List BoundEnd) (bounds : List Bound) (fields : List Field) (at : ℕ) → length fields ≤ at → bounds_behind ends bounds (take at fields) (drop at fields) ≡ Some bounds
 no_more_bounds ends bounds fields at h =
     ap (λ rest. bounds_behind ends bounds (take at fields) rest) (drop_all at fields h) ∙ ap Some (append-nil bounds)
-
--- no text is left
-pub no_more_items : (fields : List Field) (ends : List BoundEnd) → items_behind fields ends [] ≡ Some (fields, ends)
-no_more_items fields ends = λ i. Some (append-nil fields i, append-nil ends i)
 
 -- one field more is read
 pub bound_step : (ends : List BoundEnd) (old new : List Bound) (all : List Field) (i : ℕ) (field d : Field) (good : Bool) → i < length all → field ≡ get_or all i d

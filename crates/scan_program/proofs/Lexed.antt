@@ -98,9 +98,6 @@ Looks word plain = Unread word × ((begins_with_dash word && not (bytes_eq word 
 
 -- ---- what stands before an equals sign
 
-abbrev is_equals : ℕ → Bool
-is_equals x = x == 61
-
 abbrev tail : Option Text → Text
 tail None = []
 tail (Some value) = 61 ∷ value

@@ -1,5 +1,5 @@
 //! Runs of the program.
-ghost use Rattle.std.specs.Prelude.{◌≡◌, ◌≢◌, ◌⊎◌, ◌+◌, ◌≤◌, IfErr, IfNone, IfOk, IfSome, IsTrue, None, OnOk};
+ghost use Rattle.std.specs.Prelude.{◌≡◌, ◌≢◌, ◌⊎◌, ◌≤◌, IfErr, IfNone, IfOk, IfSome, IsTrue, None, OnOk};
 ghost use Rattle.std.specs.Result.{IsErrAnd};
 ghost use Rattle.parquet_base.specs.Failures.{MayFail};
 ghost use Rattle.parquet_meta.specs.Keeps.{Keeps};
@@ -41,7 +41,7 @@ pub fn run<S: Source, K: Sink, L: Ledger>(
     ensures no_words { IfNone (command_in words.now)
         ((result ≡ Status.Words) ⊎ (result ≡ Status.Memory)) }
 
-    // At the end the report on a scan that answers the request stands in the sink, and behind a failed write a front of it.
+    // At the end the report on a scan that answers the request stands in the sink, and behind a failed write a front of it, not all.
     ensures done { result ≡ Status.Done → IfSome (command_in words.now) (λ command.
         Reports command (told_by words.now (S.told source.old)) (lent_between steps.old steps.new)
         (IsAppended (K.written out.old) (K.written out.new))) }
