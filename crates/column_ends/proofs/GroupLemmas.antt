@@ -49,9 +49,6 @@ values_told (values.Fixed size fixed.Months) column = refl
 values_told (values.Fixed size fixed.DaysAndMillis) column = refl
 
 module _ (rule : ValueRule) (column : ColumnChunkMetaData) where
-  pub cells-damaged : statistics_of (type_of column) column.statistics_bytes ≡ None → told_causes (value_conversion rule) column ≡ ExternalFormat ∷ []
-  cells-damaged none = ap (λ ends. option_map_or (causes_of_ends (type_of column) (value_conversion rule)) ends (ExternalFormat ∷ [])) (values_told rule column ∙ ap (option_map ends_told) none)
-
   module _ (told : Option RawStatistics) (stored : statistics_of (type_of column) column.statistics_bytes ≡ Some told) where
     pub cells-told : told_cells (value_conversion rule) column ≡ Some (cell_ends (value_conversion rule) (ends_told told))
     cells-told = ap (option_map (cell_ends (value_conversion rule))) (values_told rule column ∙ ap (option_map ends_told) stored)

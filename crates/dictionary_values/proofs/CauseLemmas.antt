@@ -1,15 +1,14 @@
 -- What is wrong with pages of keys.
-use Rattle.std.proofs.Common.{◌≡◌, ℕ, ◌<◌, ◌≤◌, Bool, true, false, List, [], ◌∷◌, ◌++◌, ◌-◌, ◌^◌, Option, Some, None, refl, sym, ap, ◌∙◌, subst, arith, append-nil}
+use Rattle.std.proofs.Common.{◌≡◌, ℕ, ◌≤◌, Bool, true, false, List, [], ◌∷◌, ◌++◌, ◌-◌, ◌^◌, Option, Some, None, refl, sym, ap, ◌∙◌, subst, arith, append-nil}
 use Rattle.std.specs.Prelude.{◌&&◌, ◌||◌, not, min}
 use Rattle.std.specs.Option.{option_map_or}
-use Rattle.std.proofs.lemmas.List.Elements.{Contains-append_left, Contains-push}
+use Rattle.std.proofs.lemmas.List.Elements.{Contains-append_left}
 use Rattle.columns_core.specs.Causes.{Cause, ExternalFormat, IsOneOf, NotYetImplemented, OutOfSpec, Overflow, unless}
 use Rattle.parquet_base.specs.Reading.{◌>>=◌, given}
 use Rattle.parquet_page.specs.Content.{DataContent}
 use Rattle.parquet_page.specs.Opened.{goes_on_dictionary, key_causes, page_causes, spelling_causes}
 use Rattle.parquet_page.specs.Spelling.{has_readable_levels, header_encoding, is_keys, page_keys}
 use Rattle.parquet_page.specs.Values.{Encoding, Plain, Keys, DeltaPacked, DeltaLengths, encoding_of, goes_with, has_key_past}
-use Rattle.page_decoding.proofs.NextLemmas.{nothing_wrong}
 use Rattle.dictionary_values.proofs.KeyLemmas.{below-both, below-more}
 
 -- ---- keys
@@ -43,13 +42,6 @@ wrong-more most entries (Some keys) (Some cause) wrong =
     let own = unless (not (has_key_past entries keys)) OutOfSpec in
     let P : List Cause → Type 0 = λ causes. IsOneOf causes (Some cause) in
     Contains-append_left own (unless (not (has_key_past most keys)) Overflow) cause (subst P (append-nil own) wrong)
-
--- a key past its type is told of
-pub wrong-type : (most entries : ℕ) (keys : List ℕ) (o : Option Cause) → IsOneOf (key_causes None (Some most) keys) o → IsOneOf (key_causes (Some most) (Some entries) keys) (Some Overflow)
-wrong-type most entries keys o wrong = go (has_key_past most keys) wrong where
-  go : (b : Bool) → IsOneOf (unless (not b) OutOfSpec ++ unless (not false) Overflow) o → IsOneOf (unless (not (has_key_past entries keys)) OutOfSpec ++ unless (not b) Overflow) (Some Overflow)
-  go false wrong = absurd (nothing_wrong o wrong)
-  go true wrong = Contains-push (unless (not (has_key_past entries keys)) OutOfSpec) Overflow
 
 -- ---- pages
 
@@ -138,17 +130,3 @@ module _ (count most entries : ℕ) (told : most ≡ min count (2 ^ 64 - 1)) (fo
   judged-few few =
       ap (λ o. option_map_or (key_causes (Some count) (Some entries)) o (ExternalFormat ∷ [])) is
       ∙ fine-keys count entries keys entries-below (below-more entries count keys (omega (arith, few, told)) entries-below)
-
-  pub judged-many : option_map_or (key_causes None (Some most)) found (ExternalFormat ∷ []) ≡ [] → option_map_or (key_causes (Some count) (Some entries)) found (ExternalFormat ∷ []) ≡ []
-  judged-many fits =
-      let below = below-alone most keys (ap (λ o. option_map_or (key_causes None (Some most)) o (ExternalFormat ∷ [])) (sym is) ∙ fits) in
-      ap (λ o. option_map_or (key_causes (Some count) (Some entries)) o (ExternalFormat ∷ [])) is
-      ∙ fine-keys count entries keys entries-below (below-more most count keys (omega (arith, told)) below)
-
-  pub judged-past : (o : Option Cause) → most < entries → entries < 2 ^ 64 → IsOneOf (option_map_or (key_causes None (Some most)) found (ExternalFormat ∷ [])) o → IsOneOf (option_map_or (key_causes (Some count) (Some entries)) found (ExternalFormat ∷ [])) (Some Overflow)
-  judged-past o many fits wrong =
-      let all : most ≡ count = omega (arith, told, many, fits) in
-      let P : Option (List ℕ) → Type 0 = λ found. IsOneOf (option_map_or (key_causes (Some count) (Some entries)) found (ExternalFormat ∷ [])) (Some Overflow) in
-      let Q : Option (List ℕ) → Type 0 = λ found. IsOneOf (option_map_or (key_causes None (Some most)) found (ExternalFormat ∷ [])) o in
-      let R : ℕ → Type 0 = λ n. IsOneOf (key_causes None (Some n) keys) o in
-      subst P (sym is) (wrong-type count entries keys o (subst R all (subst Q is wrong)))

@@ -9,7 +9,6 @@ use Rattle.columns_core.specs.declared.cell.Cell.{Cell}
 use Rattle.columns_core.specs.declared.data_type.DataType.{DataType}
 use Rattle.columns_core.specs.declared.error.Error.{Error}
 use Rattle.parquet_page.specs.Content.{Content, DataContent, DictContent, is_data}
-use Rattle.parquet_page.specs.Lending.{has_data_behind}
 use Rattle.page_decoding.specs.Bytes.{IsCausedByChunks}
 use Rattle.page_decoding.specs.Chunks.{GivesFirstChunk, ReadsChunks}
 use Rattle.page_decoding.specs.Column.{rows}
@@ -18,7 +17,7 @@ use Rattle.page_decoding.specs.Standing.{NoneComes, Standing, after_pages, cause
 use Rattle.flat_values.specs.ColumnLeft.{ColumnLeft, GivesColumn}
 use Rattle.dictionary_values.specs.DictLeft.{IsKeyed}
 use Rattle.dictionary_values.specs.Keys.{NamesEntry, named_cell, named_row, named_standing}
-use Rattle.dictionary_values.proofs.NamedLemmas.{afters-named, chunks-named, data-alone, first-named, given-named, keyed-front, keyed-pages, names-data, names-pages, names_of, needed-named, ordered-back, wanted-named}
+use Rattle.dictionary_values.proofs.NamedLemmas.{afters-named, chunks-named, data-alone, first-named, given-named, keyed-front, keyed-pages, names-data, names-pages, names_of, needed-named, wanted-named}
 use Rattle.std.proofs.lemmas.List.{map-append}
 
 pub all-front : {A : Type 0} (P : A → Type 0) (xs ys : List A) → All P (xs ++ ys) → All P xs
@@ -191,20 +190,6 @@ module _ {X : Type 0} (shown : X → List Cell) (data_type : DataType) (size : O
     -- ---- an error
 
     module _ (error : Error) (read : KeysRead (Some (Err error))) where
-      behind-keyed : has_data_behind new ≡ true
-      behind-keyed = ordered-back read.pages.lent_pages new (lent-keyed (Some (Err error)) read).ordered
-
-      pub error-keyed : IsKeyed now new
-      error-keyed =
-          let none = sym read.pages.reached.0 in
-          let P : List Outcome → Type 0 = All (NamesEntry (unwrap_or now.dictionary [])) in
-          record {
-            named = subst P none (All-nil (NamesEntry (unwrap_or now.dictionary [])));
-            lent = λ gone. ap cells_in read.pages.reached.0;
-            still = inl read.pages.reached.0;
-            ordered = behind-keyed;
-          }
-
       module _ {Y : Type 0} (type_of : Y → DataType) (cells_of : Y → List Cell) where
         pub error-given : GivesCells type_of cells_of (Some (Err error)) now
         error-given =

@@ -119,18 +119,9 @@ data-front [] others alone = refl
 data-front (DataOf page ∷ pages) others alone = data-front pages others alone
 data-front (DictOf page ∷ pages) others alone = cc
 
-data-back : (pages others : List Content) → list_all is_data (pages ++ others) ≡ true → list_all is_data others ≡ true
-data-back [] others alone = alone
-data-back (DataOf page ∷ pages) others alone = data-back pages others alone
-data-back (DictOf page ∷ pages) others alone = cc
-
 ordered-front : (pages others : List Content) → has_data_behind (pages ++ others) ≡ true → has_data_behind pages ≡ true
 ordered-front [] others alone = refl
 ordered-front (page ∷ pages) others alone = data-front pages others alone
-
-pub ordered-back : (pages others : List Content) → has_data_behind (pages ++ others) ≡ true → has_data_behind others ≡ true
-ordered-back [] others alone = alone
-ordered-back (page ∷ pages) others alone = data-behind others (data-back pages others alone)
 
 still-front : (waiting : List Outcome) (pages others : List Content) → (waiting ≡ []) ⊎ (list_all is_data (pages ++ others) ≡ true) → (waiting ≡ []) ⊎ (list_all is_data pages ≡ true)
 still-front waiting pages others (inl none) = inl none

@@ -1,5 +1,5 @@
 //! Byte strings of one size of a page, and those that were decoded.
-ghost use Rattle.std.specs.Prelude.{◌≡◌, ◌↔◌, ◌++◌, ◌<◌, ◌*◌, [], ◌∷◌, ℕ, IsTrue, List, Option, length, map, take, drop, None, Some, refl, IfOk, IfErr, IfSome, OnOk, IsSome};
+ghost use Rattle.std.specs.Prelude.{◌≡◌, ◌↔◌, ◌++◌, ◌<◌, [], ◌∷◌, ℕ, IsTrue, List, Option, length, map, take, drop, None, Some, refl, IfOk, IfErr, IfSome, OnOk, IsSome};
 ghost use Rattle.std.specs.Option.{option_copied, option_map, option_map_or};
 ghost use Rattle.columns_core.specs.Causes.{ComesOf, ExternalFormat, IsWantOfMemory, OutOfSpec, cause_of, is_invalid_argument};
 ghost use Rattle.columns_core.specs.ElementType.{fixed_size};

@@ -35,7 +35,7 @@ impl KeyPlace {
         ensures cause { let found = dictionary_keys bytes.now count in
             TellsOf result (option_map_or (key_causes None entries) found (ExternalFormat ∷ [])) }
     {
-        let damaged = Error::ExternalFormat(Part::Values);
+        let damaged = Error::ExternalFormat(Part::Dictionary);
         let Some((width, rest)) = bytes.split_first() else {
             return Err(damaged);
         };

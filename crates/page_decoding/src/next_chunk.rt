@@ -1,5 +1,5 @@
 //! The next chunk of a column, over any pages and any decoder.
-ghost use Rattle.std.specs.Prelude.{◌≡◌, ◌⊎◌, ◌+◌, ◌-◌, ◌<◌, ◌≤◌, true, false, All, List, [], ◌++◌, length, take, map, Option, IfErr, IfOk, OnOk, IfSome, option_map};
+ghost use Rattle.std.specs.Prelude.{◌≡◌, ◌⊎◌, ◌-◌, ◌<◌, ◌≤◌, true, false, All, List, [], ◌++◌, length, take, map, Option, IfErr, IfOk, OnOk, IfSome, option_map};
 ghost use Rattle.std.specs.Option.{option_copied};
 ghost use Rattle.parquet_page.specs.Content.{DataOf, data_content, is_shaped};
 ghost use Rattle.parquet_page.specs.Lending.{HasEnded};

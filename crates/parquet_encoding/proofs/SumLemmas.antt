@@ -1,7 +1,7 @@
 -- Numbers that change by deltas.
 use Rattle.std.proofs.Common.{◌≡◌, ℕ, suc, ◌+◌, ◌%◌, ◌^◌, ◌<◌, ◌≤◌, List, [], ◌∷◌, ◌++◌, length, take, drop, set, get_or, replicate, refl, sym, ap, ◌∙◌, arith, ℤ, pos, ◌+ℤ◌, FitsSigned}
 use Rattle.std.specs.Int.{w64, int_wrap, cast_signed, cast_unsigned}
-use Rattle.std.proofs.lemmas.Int.{ints, to_z-of_z, of_z-to_z, wrapping_add-bits, wrapping_add_is, int_wrap-add_left, int_wrap-add_right, SFits-int_wrap}
+use Rattle.std.proofs.lemmas.Int.{ints, to_z-of_z, of_z-to_z, wrapping_add-bits, wrapping_add_is, int_wrap-add_left, int_wrap-add_right}
 use Rattle.std.proofs.Math.Seq.{take-add}
 use Rattle.std.proofs.lemmas.List.{take_more, take_more_set, map-append, get_or-replicate}
 use Rattle.std.proofs.lemmas.Slice.{take-put_mid}
@@ -46,12 +46,6 @@ pub length-before : (value : ℤ) (deltas : List ℤ) → length (numbers_before
 unfolding numbers_before
 length-before value [] = refl
 length-before value (delta ∷ deltas) = ap suc (length-before (int_wrap w64 (value +ℤ delta)) deltas)
-
--- the number behind deltas fits where the number before them does
-behind_fits : (value : ℤ) (deltas : List ℤ) → FitsSigned w64 value → FitsSigned w64 (number_behind value deltas)
-unfolding number_behind
-behind_fits value [] fits = fits
-behind_fits value (delta ∷ deltas) fits = behind_fits (int_wrap w64 (value +ℤ delta)) deltas (SFits-int_wrap w64 (value +ℤ delta))
 
 -- ---- numbers, one behind another
 

@@ -1,5 +1,5 @@
 //! Delta binary packed numbers.
-ghost use Rattle.std.specs.Prelude.{◌≡◌, ℕ, List, ◌≤◌, ◌<◌, ◌++◌, min, length, take, drop, slice_get, is_ok, is_some, Some, None, IsSome, IfSome, IfOk, OnErr, option_map};
+ghost use Rattle.std.specs.Prelude.{◌≡◌, ℕ, List, ◌≤◌, ◌++◌, min, length, take, drop, slice_get, is_ok, is_some, Some, None, IsSome, IfSome, IfOk, OnErr, option_map};
 ghost use Rattle.parquet_base.specs.Reading.{after};
 ghost use Rattle.parquet_encoding.specs.DeltaBinary.{delta_binary, is_block, running_sums};
 ghost use Rattle.parquet_encoding.specs.DeltaLeft.{numbers_left, HeaderAt, delta_left, numbers, delta_end};

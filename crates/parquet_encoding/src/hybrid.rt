@@ -1,5 +1,5 @@
 //! The hybrid of run-length runs and bit-packed runs.
-ghost use Rattle.std.specs.Prelude.{◌≡◌, ℕ, List, ◌+◌, ◌-◌, ◌^◌, ◌<◌, ◌≤◌, ◌++◌, [], min, length, take, drop, slice_get, is_ok, is_some, None, Some, IsSome, IfNone, IfSome, IfOk, OnErr};
+ghost use Rattle.std.specs.Prelude.{◌≡◌, ℕ, List, ◌+◌, ◌^◌, ◌<◌, ◌≤◌, ◌++◌, [], min, length, take, drop, slice_get, is_ok, is_some, None, Some, IsSome, IfNone, IfSome, IfOk, OnErr};
 ghost use Rattle.parquet_encoding.specs.Hybrid.{hybrid, runs, first_run};
 ghost use Rattle.parquet_encoding.specs.HybridRun.{count_of, run_values, IsIn, PassesRun};
 

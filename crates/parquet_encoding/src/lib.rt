@@ -20,6 +20,7 @@ pub use delta_binary::DeltaBinary;
 pub use delta_length::DeltaLength;
 pub use hybrid::HybridRle;
 pub use packed_run::PackedRun;
+pub use parquet_base::Unspelled;
 pub use plain_bits::PlainBits;
 pub use plain_bytes::PlainBytes;
 pub use plain_fixed::PlainFixed;

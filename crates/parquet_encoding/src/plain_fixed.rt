@@ -1,5 +1,5 @@
 //! Plain values of one size, one behind the other.
-ghost use Rattle.std.specs.Prelude.{◌≡◌, ℕ, List, ◌+◌, ◌*◌, ◌<◌, ◌≤◌, min, length, take, drop, map, slice_get, is_ok, is_some, Some, IsSome, IfSome, IfOk, option_map};
+ghost use Rattle.std.specs.Prelude.{◌≡◌, ℕ, List, ◌+◌, ◌*◌, ◌≤◌, min, length, take, drop, map, slice_get, is_ok, is_some, Some, IsSome, IfSome, IfOk, option_map};
 ghost use Rattle.std.specs.Simd.{first_chunks};
 ghost use Rattle.parquet_encoding.specs.Plain.{plain_fixed};
 ghost use Rattle.parquet_encoding.specs.Places.{bytes_in, places_of};

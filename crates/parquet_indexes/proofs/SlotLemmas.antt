@@ -1,7 +1,6 @@
 -- Ends that are appended one after another.
-use Rattle.std.proofs.Common.{◌≡◌, refl, sym, ◌∙◌, ap, subst, ℕ, zero, suc, ◌+◌, ◌<◌, ◌≤◌, Bool, true, false, List, [], ◌∷◌, ◌++◌, length, map, take, get_or, le_trans, arith}
+use Rattle.std.proofs.Common.{◌≡◌, refl, sym, ◌∙◌, ap, ℕ, ◌+◌, ◌<◌, ◌≤◌, Bool, true, false, List, [], ◌∷◌, ◌++◌, length, map, take, get_or, le_trans}
 use Rattle.std.specs.Prelude.{Option, Some, None, sum_by}
-use Rattle.std.specs.List.{AllByRecursion}
 use Rattle.std.proofs.lemmas.Bool.{leb-true, le-leb}
 use Rattle.std.proofs.lemmas.List.{map_more, map_push, take-map}
 use Rattle.std.proofs.lemmas.List.Sums.{sum_by-cons, sum_by-take-le}
@@ -10,30 +9,15 @@ use Rattle.columns_core.specs.declared.cell.Cell.{Cell}
 use Rattle.columns_core.specs.declared.data_type.DataType.{DataType}
 use Rattle.parquet_meta.specs.declared.metadata.PageIndex.{PageIndex}
 use Rattle.page_decoding.specs.Bytes.{cell_bytes, fits_most}
-use Rattle.flat_values.specs.CellTypes.{is_cell_of}
 use Rattle.flat_values.specs.MostBytes.{most_bytes}
 use Rattle.flat_builders.specs.Flat.{Flat, flatness}
 use Rattle.flat_builders.specs.Kept.{cells_fit}
 use Rattle.column_ends.specs.Converted.{array_causes, bytes_of_one_end, page_array_causes}
-use Rattle.column_ends.specs.Laws.{AreEndsOf, IsEndOf}
 use Rattle.parquet_indexes.specs.PageStatistics.{end_slot}
 use Rattle.parquet_indexes.specs.Sides.{end_on, ends_on}
 use Rattle.parquet_indexes.specs.declared.page_arrays.Side.{Side}
 use Rattle.parquet_indexes.specs.declared.page_arrays.Side.TheVariants.{Low, High}
 use Rattle.parquet_indexes.proofs.FlatTypes.{both_empty, own_value_type}
-
-all_at : {X : Type 0} (P : X → Type 0) (xs : List X) (i : ℕ) (d : X) → AllByRecursion P xs → i < length xs → P (get_or xs i d)
-all_at P [] i d all h = absurd (omega arith)
-all_at P (x ∷ xs) zero d all h = all.0
-all_at P (x ∷ xs) (suc i) d all h = all_at P xs i d all.1 (omega arith)
-
-slot_typed : (data_type : DataType) (end : Option Cell) → IsEndOf data_type end → is_cell_of data_type (end_slot end) ≡ true
-slot_typed data_type None typed = refl
-slot_typed data_type (Some cell) typed = typed
-
-on_side : (data_type : DataType) (side : Side) (page : PageIndex Cell) → AreEndsOf data_type page → IsEndOf data_type (end_on side page)
-on_side data_type Low page typed = typed.0
-on_side data_type High page typed = typed.1
 
 -- ---- bytes
 
@@ -85,8 +69,5 @@ module _ (pages : List (PageIndex Cell)) (side : Side) (i : ℕ) (page : PageInd
       ∙ sym (ap (map end_slot) (map_more (end_on side) pages i page within) ∙ map_push end_slot (ends_on side (take i pages)) (end_on side (get_or pages i page)))
 
   module _ (data_type : DataType) where
-    pub slot_is_typed : AllByRecursion (AreEndsOf data_type) pages → is_cell_of data_type (end_slot (end_on side page)) ≡ true
-    slot_is_typed typed = slot_typed data_type (end_on side page) (on_side data_type side page (subst (AreEndsOf data_type) (sym here) (all_at (AreEndsOf data_type) pages i page typed within)))
-
     pub slot_fits : flatness data_type ≡ Flat → page_array_causes data_type pages ≡ [] → cells_fit data_type (map end_slot (ends_on side (take i pages)) ++ end_slot (end_on side page) ∷ []) ≡ true
     slot_fits flat fit = ap (cells_fit data_type) slots-more ∙ first_fit data_type pages flat fit side (i + 1)

@@ -4,8 +4,7 @@ use Rattle.std.specs.Prelude.{◌&&◌, ◌==◌}
 use Rattle.std.specs.List.{list_all}
 use Rattle.std.proofs.lemmas.List.{length-map}
 use Rattle.std.proofs.lemmas.List.Folds.{list_all-map}
-use Rattle.parquet_read.specs.Asked.{PageLists, have_one_list}
-use Rattle.parquet_read.specs.GroupReader.{HeldLists, held_lists}
+use Rattle.parquet_read.specs.Asked.{HeldLists, PageLists, have_one_list, held_lists}
 use Rattle.parquet_read.specs.Groups.{have_all_lists}
 
 abbrev one_list : ℕ → PageLists → Bool

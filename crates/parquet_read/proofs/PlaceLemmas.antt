@@ -1,6 +1,6 @@
 -- Located pages: those within a limit, and where they lie.
 use Rattle.std.proofs.Common.{◌≡◌, ◌∙◌, ℕ, ◌+◌, ◌-◌, ◌≤◌, Bool, true, false, cond, List, [], ◌∷◌, map, refl, ap, arith, Option, Some, None}
-use Rattle.std.specs.Prelude.{◌&&◌, ◌==◌, nat_le, filter, is_some, sum_by, if◌then◌else◌, option_map}
+use Rattle.std.specs.Prelude.{◌&&◌, ◌==◌, nat_le, filter, sum_by, if◌then◌else◌, option_map}
 use Rattle.std.specs.List.{list_all}
 use Rattle.std.specs.Option.{option_map_or}
 use Rattle.std.proofs.lemmas.Bool.{and_parts, and_from, le-leb, leb-true}
@@ -8,15 +8,10 @@ use Rattle.std.proofs.lemmas.List.Folds.{list_all-map}
 use Rattle.std.proofs.lemmas.List.Sums.{sum_by-cons}
 use Rattle.columns_core.specs.declared.data_type.Field.{Field}
 use Rattle.parquet_base.specs.Intervals.{is_well_shaped, row_count}
-use Rattle.parquet_base.specs.Reading.{given}
 use Rattle.parquet_page.specs.Lent.{are_well_shaped, first_start, is_wanted, lie_within, selected_count}
 use Rattle.parquet_page.specs.declared.page.FilteredPage.{FilteredPage}
 use Rattle.parquet_read.specs.Asked.{AskedField, PageLists, are_shaped_pages, asked_fields, is_shaped_field, page_length, pages_up_to, pages_within}
 use Rattle.parquet_read.specs.Opening.{AreShaped, counted_from, lone}
-
-pub is_given : {A : Type 0} (b : Bool) (x : A) → is_some (given b x) ≡ b
-is_given true x = refl
-is_given false x = refl
 
 -- ---- pages within a limit
 

@@ -42,10 +42,14 @@ abbrev pub PageLists : Type 0
 PageLists = List (List (List FilteredPage))
 
 -- the lists as they are held
-abbrev pub lists_of : Option (Vec (Vec (Vec FilteredPage Global) Global) Global) → Option PageLists
-lists_of pages =
-    option_map (λ (all : Vec (Vec (Vec FilteredPage Global) Global) Global).
-    map (λ (own : Vec (Vec FilteredPage Global) Global). map (λ (one : Vec FilteredPage Global). one.items) own.items) all.items) pages
+abbrev pub HeldLists : Type 0
+HeldLists = Vec (Vec (Vec FilteredPage Global) Global) Global
+
+abbrev pub held_lists : HeldLists → PageLists
+held_lists all = map (λ (own : Vec (Vec FilteredPage Global) Global). map (λ (one : Vec FilteredPage Global). one.items) own.items) all.items
+
+abbrev pub lists_of : Option HeldLists → Option PageLists
+lists_of pages = option_map held_lists pages
 
 -- a field, and the located pages of its column where they are told
 abbrev pub AskedField : Type 0

@@ -6,19 +6,11 @@ use Rattle.std.specs.declared.vec.IntoIter.{IntoIter}
 use Rattle.columns_core.specs.declared.error.Error.{Error}
 use Rattle.parquet_meta.specs.Keeps.{Keeps}
 use Rattle.parquet_meta.specs.declared.source.Source.{Ghosts}
-use Rattle.parquet_page.specs.declared.page.FilteredPage.{FilteredPage}
-use Rattle.parquet_read.specs.Asked.{PageLists}
+use Rattle.parquet_read.specs.Asked.{HeldLists, PageLists, held_lists}
 use Rattle.parquet_read.specs.Groups.{GivesGroup, GroupsLeft, is_front_readable, length_of_front}
 use Rattle.parquet_read.specs.RowGroup.{group_left}
 use Rattle.parquet_read.specs.declared.group_reader.RowGroupReader.{RowGroupReader}
 use Rattle.parquet_read.specs.declared.row_group.RowGroupDeserializer.{RowGroupDeserializer}
-
--- the lists of a group as they are held
-abbrev pub HeldLists : Type 0
-HeldLists = Vec (Vec (Vec FilteredPage Global) Global) Global
-
-abbrev pub held_lists : HeldLists → PageLists
-held_lists all = map (λ (own : Vec (Vec FilteredPage Global) Global). map (λ (one : Vec FilteredPage Global). one.items) own.items) all.items
 
 abbrev pub lists_left : Option (IntoIter HeldLists Global) → Option (List PageLists)
 lists_left lists = option_map (λ (all : IntoIter HeldLists Global). map held_lists all.rest.items) lists

@@ -1,8 +1,8 @@
 //! What is left for a reader of row groups.
 ghost use Rattle.std.specs.Prelude.{◌≡◌, ◌-◌, ◌==◌, length, map, option_map};
 ghost use Rattle.std.specs.List.{list_all};
-ghost use Rattle.parquet_read.specs.Asked.{have_one_list, lists_of};
-ghost use Rattle.parquet_read.specs.GroupReader.{all_lists, held_lists, limit_behind as limit_behind_by, lists_left};
+ghost use Rattle.parquet_read.specs.Asked.{have_one_list, held_lists, lists_of};
+ghost use Rattle.parquet_read.specs.GroupReader.{all_lists, limit_behind as limit_behind_by, lists_left};
 ghost use Rattle.parquet_read.specs.Groups.{front_lists, have_all_lists, lists_behind};
 
 use crate::RowGroupDeserializer;

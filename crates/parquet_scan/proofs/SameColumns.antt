@@ -32,9 +32,9 @@ use Rattle.flat_values.specs.Conversion.{Item, Value}
 use Rattle.column_ends.specs.Converted.{as_cell, causes_of_index, index_cells, index_rule}
 use Rattle.parquet_scan.specs.declared.bound.Bound.{Bound}
 use Rattle.parquet_scan.specs.Bound.{KnownEnds}
-use Rattle.parquet_scan.specs.Causes.{causes_of_chunk, causes_of_column, causes_of_opened, causes_of_walk, chunk_read_causes, index_causes_of_bound, index_causes_of_group, is_opened, located_causes, offset_causes_of_field, opened_located, pair_causes, walked_causes}
+use Rattle.parquet_scan.specs.Causes.{causes_of_chunk, causes_of_column, causes_of_opened, causes_of_walk, chunk_read_causes, holds_any, index_causes_of_bound, index_causes_of_group, is_opened, located_causes, offset_causes_of_field, opened_located, pair_causes, walked_causes}
 use Rattle.parquet_scan.specs.Cells.{Reading, dictionary_by_locations, chunk_of, dictionary_before, first_location, given_cell, is_null_type, item_among, item_at, item_located, located_item, located_pages, located_reading, named_page, walked_item, walked_reading}
-use Rattle.parquet_scan.specs.Costs.{holds_any, names_some, opened_locations}
+use Rattle.parquet_scan.specs.Costs.{names_some, opened_locations}
 use Rattle.parquet_scan.specs.LookedAt.{AgreeAt, AgreeOn, bound_parts, chunk_parts, column_parts, dictionary_length, dictionary_part, front_of_part, index_parts_of_group, parts_by_locations, offset_parts, part_in_chunk, parts_if, walked_length, walked_parts, with_dictionary}
 use Rattle.parquet_scan.specs.Pages.{column_index_causes, count_causes, ends_of_page, location_rows, locations, locations_causes, rows_at}
 use Rattle.parquet_scan.specs.Request.{Request, bound_type, bounded_field}

@@ -173,9 +173,13 @@ walked_causes size bytes group rows data_type column place =
 
 -- ---- located pages
 
+-- some of these rows is one of an interval
+abbrev pub holds_any : List ℕ → Interval → Bool
+holds_any rows run = list_any (holds run) rows
+
 -- a page that holds one of these rows is opened
 abbrev pub is_opened : List ℕ → Interval × Option ChunkPage → Bool
-is_opened rows named = list_any (holds named.0) rows
+is_opened rows named = holds_any rows named.0
 
 abbrev pub opened_located : List ℕ → List (Interval × Option ChunkPage) → List (Option ChunkPage)
 opened_located rows pages = map (λ (named : Interval × Option ChunkPage). named.1) (filter (is_opened rows) pages)

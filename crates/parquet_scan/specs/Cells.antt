@@ -157,19 +157,19 @@ abbrev pub given_chunk : Bool → List Field → List ℕ → RowGroupMetaData �
 given_chunk by_pages fields bytes group rows = all_some (map (given_column by_pages bytes group rows) fields)
 
 -- the chunks of a group with the rows that it gives
+abbrev pub chunks_of_group : Bool → Option ℕ → List Field → List ℕ → RowGroupMetaData × List ℕ → List (Option (List (DataType × List Cell)))
+chunks_of_group by_pages size fields bytes group = map (given_chunk by_pages fields bytes group.0) (cut size group.1)
+
 abbrev pub group_chunks : Request → File → RowGroupMetaData × List ℕ → List (Option (List (DataType × List Cell)))
-group_chunks request file group = map (given_chunk (prunes_pages request (groups_of file)) request.fields file.bytes group.0) (cut request.chunk_size group.1)
+group_chunks request file = chunks_of_group (prunes_pages request (groups_of file)) request.chunk_size request.fields file.bytes
 
 -- the given rows in chunks, group by group
 abbrev pub given_chunks : Request → File → Option (List (List (DataType × List Cell)))
 given_chunks request file = all_some (flat_map (group_chunks request file) (given_groups request file))
 
 -- the given rows in chunks as they stand in the chunks' own order, whatever locations say
-abbrev pub file_chunks_of_group : Request → File → RowGroupMetaData × List ℕ → List (Option (List (DataType × List Cell)))
-file_chunks_of_group request file group = map (given_chunk false request.fields file.bytes group.0) (cut request.chunk_size group.1)
-
 abbrev pub file_chunks : Request → File → Option (List (List (DataType × List Cell)))
-file_chunks request file = all_some (flat_map (file_chunks_of_group request file) (given_groups request file))
+file_chunks request file = all_some (flat_map (chunks_of_group false request.chunk_size request.fields file.bytes) (given_groups request file))
 
 -- a chunk by its types and cells
 abbrev pub columns_of_chunk : List Array → List (DataType × List Cell)

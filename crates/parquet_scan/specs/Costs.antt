@@ -1,11 +1,9 @@
 -- How many pages a scan is lent, and at most, and how many bytes it reads at most.
 use Rattle.std.specs.Prelude.{ℕ, zero, suc, ◌+◌, ◌==◌, ◌||◌, Bool, List, [], ◌∷◌, length, map, filter, sum_by, unwrap_or, zip, Option, if◌then◌else◌}
-use Rattle.std.specs.List.{list_any}
 use Rattle.std.specs.Option.{option_map_or}
 use Rattle.columns_core.specs.declared.data_type.DataType.{DataType}
 use Rattle.columns_core.specs.declared.data_type.Field.{Field}
 use Rattle.parquet_base.specs.declared.interval.Interval.{Interval}
-use Rattle.parquet_base.specs.Intervals.{holds}
 use Rattle.parquet_meta.specs.Chunks.{chunk_range}
 use Rattle.parquet_meta.specs.File.{footer_place}
 use Rattle.parquet_meta.specs.Indexes.{column_index_length, place_length, offset_index_length}
@@ -16,15 +14,11 @@ use Rattle.parquet_page.specs.Chunk.{Dictionary, NoDictionary, Undefined, Define
 use Rattle.parquet_page.specs.Content.{header_values}
 use Rattle.parquet_page.specs.Locations.{part_of}
 use Rattle.parquet_scan.specs.declared.bound.Bound.{Bound}
-use Rattle.parquet_scan.specs.Causes.{begins_below}
+use Rattle.parquet_scan.specs.Causes.{begins_below, holds_any}
 use Rattle.parquet_scan.specs.Cells.{dictionary_by_locations, first_location, is_null_type, rows_of_placed, walked_dictionary, walked_pages}
 use Rattle.parquet_scan.specs.Pages.{location_rows, locations}
 use Rattle.parquet_scan.specs.Request.{Request}
 use Rattle.parquet_scan.specs.Rows.{File, column_named, group_counts, groups_of, groups_read, prunes_pages}
-
--- some of these rows is one of an interval
-abbrev pub holds_any : List ℕ → Interval → Bool
-holds_any rows run = list_any (holds run) rows
 
 -- ---- the pages of a chunk
 

@@ -9,7 +9,6 @@ use Rattle.columns_core.specs.declared.data_type.DataType.{DataType}
 use Rattle.columns_core.specs.declared.data_type.Field.{Field}
 use Rattle.parquet_base.specs.declared.interval.Interval.{Interval}
 use Rattle.parquet_base.specs.Intervals.{is_well_shaped, maximal_runs, row_count, rows_of}
-use Rattle.parquet_base.specs.Pieces.{cut}
 use Rattle.parquet_meta.specs.declared.metadata.ColumnChunkMetaData.{ColumnChunkMetaData}
 use Rattle.parquet_meta.specs.declared.metadata.Ends.{Ends}
 use Rattle.parquet_meta.specs.declared.metadata.PageLocation.{PageLocation}
@@ -19,11 +18,11 @@ use Rattle.column_ends.specs.Counted.{with_one_more, fit}
 use Rattle.parquet_scan.specs.declared.bound.Bound.{Bound}
 use Rattle.parquet_scan.specs.declared.scanning.GroupKept.{GroupKept}
 use Rattle.parquet_scan.specs.Causes.{causes_of_group, index_causes_of_group}
-use Rattle.parquet_scan.specs.Cells.{columns_of_chunk, given_chunk}
+use Rattle.parquet_scan.specs.Cells.{chunks_of_group, columns_of_chunk}
 use Rattle.parquet_scan.specs.Costs.{index_bytes_of, lent_of_group, location_bytes_of, taken_of_group}
 use Rattle.parquet_scan.specs.Pages.{locations}
 use Rattle.parquet_scan.specs.Request.{bound_type, bounded_field}
-use Rattle.parquet_scan.specs.Rows.{column_named, group_keeps, has_column_index, has_offset_index, pages_keep}
+use Rattle.parquet_scan.specs.Rows.{column_named, group_keeps, has_indexes_for, pages_keep}
 
 -- a group counts where it did by the bounds so far, and one more keeps it
 abbrev pub counts_by : List Field → Bound → RowGroupMetaData × Bool → Bool
@@ -37,10 +36,6 @@ with_ends bytes (Some ends) = with_one_more bytes ends.min_value ends.max_value
 -- what is wrong with so many bytes of a bound's ends
 abbrev pub causes_of_bytes : ℕ × ℕ → List Field → Bound → List Cause
 causes_of_bytes bytes fields bound = option_map_or (λ (field : Field). unless (fit (bound_type field) bytes) Overflow) (bounded_field fields bound) []
-
-abbrev pub has_indexes_for : List Bound → List Field → RowGroupMetaData → Bool
-has_indexes_for bounds fields group =
-    list_all (λ (bound : Bound). has_column_index group bound.field) bounds && list_all (λ (field : Field). has_offset_index group field.name) fields
 
 abbrev pub has_indexes_if_counting : List Bound → List Field → RowGroupMetaData × Bool → Bool
 has_indexes_if_counting bounds fields group = not group.1 || has_indexes_for bounds fields group.0
@@ -93,7 +88,7 @@ causes_of_groups by_pages size fields bytes groups given = flat_map (causes_if_r
 
 -- the chunks of a group
 abbrev pub chunks_if_read : Bool → Option ℕ → List Field → List ℕ → RowGroupMetaData × List Interval → List (Option (List (DataType × List Cell)))
-chunks_if_read by_pages size fields bytes group = map (given_chunk by_pages fields bytes group.0) (cut size (rows_of group.1))
+chunks_if_read by_pages size fields bytes group = chunks_of_group by_pages size fields bytes (group.0, rows_of group.1)
 
 abbrev pub chunks_of_groups : Bool → Option ℕ → List Field → List ℕ → List RowGroupMetaData → List (List Interval) → List (Option (List (DataType × List Cell)))
 chunks_of_groups by_pages size fields bytes groups given = flat_map (chunks_if_read by_pages size fields bytes) (zip groups given)

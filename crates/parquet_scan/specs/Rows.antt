@@ -90,10 +90,12 @@ abbrev pub group_counts : Request → RowGroupMetaData → Bool
 group_counts request group = list_all (group_keeps request.fields group) request.bounds
 
 -- each bounded column has a column index and each requested column an offset index
+abbrev pub has_indexes_for : List Bound → List Field → RowGroupMetaData → Bool
+has_indexes_for bounds fields group =
+    list_all (λ (bound : Bound). has_column_index group bound.field) bounds && list_all (λ (field : Field). has_offset_index group field.name) fields
+
 abbrev pub has_needed_indexes : Request → RowGroupMetaData → Bool
-has_needed_indexes request group =
-    list_all (λ (bound : Bound). has_column_index group bound.field) request.bounds
-    && list_all (λ (field : Field). has_offset_index group field.name) request.fields
+has_needed_indexes request group = has_indexes_for request.bounds request.fields group
 
 -- Rows are pruned by pages where there is a bound, and each group that counts has the indexes.
 abbrev pub prunes_pages : Request → List RowGroupMetaData → Bool

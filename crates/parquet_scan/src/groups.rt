@@ -3,7 +3,7 @@ ghost use Rattle.std.specs.Prelude.{◌≡◌, ◌&&◌, [], ◌∷◌, OnOk, If
 ghost use Rattle.std.specs.List.{list_all};
 ghost use Rattle.columns_core.specs.Causes.{ComesOf};
 ghost use Rattle.parquet_scan.specs.Causes.{bounded_causes, bounded_causes_of_group, bounded_cells, causes_of_bound, descriptor_causes, field_causes};
-ghost use Rattle.parquet_scan.specs.Counting.{causes_of_bytes, counts_by, with_ends, are_pruned as are_pruned_by, has_indexes_for, has_indexes_if_counting as has_indexes_if_counting_by};
+ghost use Rattle.parquet_scan.specs.Counting.{causes_of_bytes, counts_by, with_ends, are_pruned as are_pruned_by, has_indexes_if_counting as has_indexes_if_counting_by};
 ghost use Rattle.parquet_scan.specs.Rows as spec;
 
 use crate::Bound;
@@ -218,7 +218,7 @@ fn has_indexes_if_counting(
 }
 
 fn has_indexes(group: &RowGroupMetaData, fields: &[Field], bounds: &[Bound]) -> bool
-    ensures { result ≡ has_indexes_for bounds.now fields.now group.now }
+    ensures { result ≡ spec.has_indexes_for bounds.now fields.now group.now }
 {
     have_column_indexes(group, bounds) && have_offset_indexes(group, fields)
 }

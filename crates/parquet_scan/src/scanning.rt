@@ -1,5 +1,5 @@
 //! Scans.
-ghost use Rattle.std.specs.Prelude.{◌≡◌, ◌+◌, ◌-◌, ◌^◌, ◌≤◌, [], Some, min, map, true, IfOk, IfErr, IfSome, OnOk, All};
+ghost use Rattle.std.specs.Prelude.{◌≡◌, ◌-◌, ◌^◌, ◌≤◌, [], Some, min, map, true, IfOk, IfErr, IfSome, OnOk, All};
 ghost use Rattle.columns_core.specs.Causes.{ComesOf, and_then};
 ghost use Rattle.columns_core.specs.Chunk.{AreEqualLengths};
 ghost use Rattle.parquet_meta.specs.Keeps.{Keeps};

@@ -1,5 +1,5 @@
 -- What a field needs to have statistics, and what is wrong with it.
-use Rattle.std.proofs.Common.{◌≡◌, refl, sym, ◌∙◌, ap, subst, ℕ, Bool, true, false, List, [], ◌∷◌, ◌++◌, drop, take, length, map, Option, Some, None, Ok, Err, append_assoc, arith}
+use Rattle.std.proofs.Common.{◌≡◌, refl, sym, ◌∙◌, ap, subst, ℕ, Bool, true, false, List, [], ◌∷◌, ◌++◌, drop, take, length, map, Option, Some, None, Ok, Err}
 use Rattle.std.specs.Prelude.{Contains, IfOk, OnOk, Result, flat_map, is_some, unwrap_or}
 use Rattle.std.specs.List.{AllByRecursion, list_all}
 use Rattle.std.proofs.lemmas.Bool.{and_parts}
@@ -17,11 +17,11 @@ use Rattle.column_ends.specs.Converted.{group_array_causes, group_cells}
 use Rattle.column_ends.proofs.EndTypes.{group_ends_have_type}
 use Rattle.parquet_statistics.specs.BuiltTypes.{is_flat_shape}
 use Rattle.parquet_statistics.specs.CountType.{count_type}
-use Rattle.parquet_statistics.specs.Deserialized.{AreStatistics, IsMade, byte_causes, causes_of_refusal, columns_in, deserialize_causes, field_type_causes, fits_groups, group_causes_of_field, has_slots, length_causes, nothing_told, slot_count, told_columns, told_in, told_of_field}
+use Rattle.parquet_statistics.specs.Deserialized.{AreArraysOf, AreStatistics, IsMade, byte_causes, causes_of_arrays, causes_of_refusal, columns_in, deserialize_causes, field_type_causes, fits_groups, group_causes_of_field, has_slots, length_causes, nothing_told, side_causes_of_columns, slot_count, told_columns, told_in, told_of_field}
 use Rattle.parquet_statistics.specs.LeafTypes.{has_column, has_single_dictionaries, leaf_types}
 use Rattle.columns_core.specs.declared.array.Array.{Array}
 use Rattle.parquet_statistics.specs.Made.{Made}
-use Rattle.parquet_statistics.specs.Parts.{AreArraysOf, AreEachReady, HasEndsOf, HasSlots, causes_by_column, causes_of_arrays, end_array_causes, side_causes_of_columns, uneven_causes}
+use Rattle.parquet_statistics.specs.Parts.{AreEachReady, HasEndsOf, HasSlots, causes_by_column, uneven_causes}
 use Rattle.parquet_statistics.specs.declared.statistics.Statistics.{Statistics}
 use Rattle.parquet_statistics.proofs.CountedTypes.{as_many_numbers, has_numbers}
 use Rattle.parquet_statistics.proofs.PushedLemmas.{own_value_type}
@@ -44,12 +44,6 @@ module _ (first next : List Cause) where
     go [] e = refl
     go (cause ∷ causes) e = absurd cc
 
-  first_of_then : IsPartOf first (and_then first next)
-  first_of_then = go first where
-    go : (first : List Cause) → IsPartOf first (and_then first next)
-    go [] cause told = absurd (omega (arith, told.1))
-    go (own ∷ causes) cause told = told
-
 module _ (field : Field) (groups : List RowGroupMetaData) where
   abbrev first_causes : List Cause
   first_causes = field_type_causes field.data_type ++ flat_map (group_causes_of_field field) groups
@@ -57,15 +51,9 @@ module _ (field : Field) (groups : List RowGroupMetaData) where
   abbrev next_causes : List Cause
   next_causes = byte_causes field groups ++ causes_of_arrays field.data_type (told_of_field field groups)
 
-  -- the lengths of the four arrays, one after another
-  in_turn : deserialize_causes field groups ≡ and_then first_causes next_causes
-  in_turn =
-      ap (λ lengths. and_then first_causes (byte_causes field groups ++ lengths))
-      (sym (append_assoc _ _ (end_array_causes field.data_type (told_of_field field groups))))
-
   module _ (carried : field_type_causes field.data_type ≡ []) (well : flat_map (group_causes_of_field field) groups ≡ []) where
     all_next : deserialize_causes field groups ≡ next_causes
-    all_next = in_turn ∙ then_after first_causes next_causes (none_of_both _ _ carried well)
+    all_next = then_after first_causes next_causes (none_of_both _ _ carried well)
 
     pub byte_part : IsPartOf (byte_causes field groups) (deserialize_causes field groups)
     byte_part cause told = subst (λ causes. Contains causes cause) (sym all_next) (left_part (byte_causes field groups) _ cause told)
@@ -94,10 +82,7 @@ free_arrays (Err e) data_type told are = tt
 
 pub are_statistics : (r : Result Statistics Error) (field : Field) (groups : List RowGroupMetaData) (told : List (List (Ends Cell))) → told ≡ told_of_field field groups → IfOk r (AreArraysOf field.data_type told)
     → IfOk r (AreStatistics field groups)
-are_statistics (Err e) field groups told is are = tt
-are_statistics (Ok statistics) field groups told is are =
-    let own = subst (λ told. AreArraysOf field.data_type told statistics) is are in
-    record { nulls = own.nulls; distinct = own.distinct; low = own.low; high = own.high }
+are_statistics r field groups told is are = subst (λ told. IfOk r (AreArraysOf field.data_type told)) is are
 
 -- ---- the columns of each group
 

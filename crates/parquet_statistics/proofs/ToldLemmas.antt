@@ -15,9 +15,9 @@ use Rattle.parquet_meta.specs.declared.metadata.Ends.{Ends}
 use Rattle.parquet_meta.specs.declared.metadata.RowGroupMetaData.{RowGroupMetaData}
 use Rattle.parquet_meta.proofs.ListLemmas.{item_and_others}
 use Rattle.column_ends.specs.Converted.{group_array_causes, group_causes, group_cells}
-use Rattle.parquet_statistics.specs.Deserialized.{columns_in, group_causes_of_field, nothing_told, told_columns, told_in}
+use Rattle.parquet_statistics.specs.Deserialized.{columns_in, group_causes_of_field, nothing_told, side_causes_of_columns, told_columns, told_in}
 use Rattle.parquet_statistics.specs.LeafTypes.{leaf_types}
-use Rattle.parquet_statistics.specs.Parts.{causes_by_column, columns_in_place, side_causes_of_columns, uneven_causes}
+use Rattle.parquet_statistics.specs.Parts.{causes_by_column, columns_in_place, uneven_causes}
 
 -- ---- causes among others
 

@@ -105,28 +105,20 @@ all_taken (made, cells ∷ columns) = None
 abbrev pub array_of_slots : DataType → (Ends Cell → Cell) → List (List (Ends Cell)) → Option Made
 array_of_slots data_type slot columns = option_and_then all_taken (shaped data_type (map (map slot) columns))
 
-abbrev pub nulls_made : Field → List RowGroupMetaData → Option Made
-nulls_made field groups = array_of_slots (count_type field.data_type) nulls_slot (told_of_field field groups)
-
-abbrev pub distinct_made : Field → List RowGroupMetaData → Option Made
-distinct_made field groups = array_of_slots (count_type field.data_type) distinct_slot (told_of_field field groups)
-
-abbrev pub low_made : Field → List RowGroupMetaData → Option Made
-low_made field groups = array_of_slots field.data_type low_slot (told_of_field field groups)
-
-abbrev pub high_made : Field → List RowGroupMetaData → Option Made
-high_made field groups = array_of_slots field.data_type high_slot (told_of_field field groups)
-
 -- An array is what was made, nothing was refused, and a dictionary's keys are 0, 1, 2 and on.
 abbrev pub IsMade : Option Made → Array → Type 0
 IsMade None array = ⊥
 IsMade (Some made) array = (column_of array ≡ (made.data_type, made.cells)) × (made.refusals ≡ []) × HasKeysInTurn made.data_type array
 
-pub record AreStatistics (field : Field) (groups : List RowGroupMetaData) (statistics : Statistics) : Type 0 where
-  pub nulls : IsMade (nulls_made field groups) statistics.null_count
-  pub distinct : IsMade (distinct_made field groups) statistics.distinct_count
-  pub low : IsMade (low_made field groups) statistics.min_value
-  pub high : IsMade (high_made field groups) statistics.max_value
+-- of this type, of what its columns tell
+pub record AreArraysOf (data_type : DataType) (told : List (List (Ends Cell))) (statistics : Statistics) : Type 0 where
+  pub nulls : IsMade (array_of_slots (count_type data_type) nulls_slot told) statistics.null_count
+  pub distinct : IsMade (array_of_slots (count_type data_type) distinct_slot told) statistics.distinct_count
+  pub low : IsMade (array_of_slots data_type low_slot told) statistics.min_value
+  pub high : IsMade (array_of_slots data_type high_slot told) statistics.max_value
+
+abbrev pub AreStatistics : Field → List RowGroupMetaData → Statistics → Type 0
+AreStatistics field groups statistics = AreArraysOf field.data_type (told_of_field field groups) statistics
 
 -- ---- what is wrong
 
@@ -142,8 +134,11 @@ group_causes_of_field field group =
     (flat_map (λ typed. group_causes typed.0 typed.1) (zip (leaf_types field.data_type) (columns_in field group)))
 
 -- The least values of a column fit one array, and the greatest another.
+abbrev pub side_causes_of_columns : List DataType → List (List (Ends Cell)) → List Cause
+side_causes_of_columns types told = flat_map (λ typed. group_array_causes typed.0 typed.1) (zip types told)
+
 abbrev pub byte_causes : Field → List RowGroupMetaData → List Cause
-byte_causes field groups = flat_map (λ typed. group_array_causes typed.0 typed.1) (zip (leaf_types field.data_type) (told_of_field field groups))
+byte_causes field groups = side_causes_of_columns (leaf_types field.data_type) (told_of_field field groups)
 
 -- of what is refused, the cause; arguments fit by then
 abbrev pub causes_of_refusal : Refusal → List Cause
@@ -154,10 +149,17 @@ causes_of_refusal (Caused cause) = cause ∷ []
 abbrev pub length_causes : Option Made → List Cause
 length_causes made = option_map_or (λ all. flat_map causes_of_refusal all.refusals) made []
 
+abbrev pub count_array_causes : DataType → List (List (Ends Cell)) → List Cause
+count_array_causes data_type told = length_causes (array_of_slots data_type nulls_slot told) ++ length_causes (array_of_slots data_type distinct_slot told)
+
+abbrev pub end_array_causes : DataType → List (List (Ends Cell)) → List Cause
+end_array_causes data_type told = length_causes (array_of_slots data_type low_slot told) ++ length_causes (array_of_slots data_type high_slot told)
+
+abbrev pub causes_of_arrays : DataType → List (List (Ends Cell)) → List Cause
+causes_of_arrays data_type told = count_array_causes (count_type data_type) told ++ end_array_causes data_type told
+
 -- Bytes and lengths are asked where all else is well.
 abbrev pub deserialize_causes : Field → List RowGroupMetaData → List Cause
 deserialize_causes field groups =
     and_then (field_type_causes field.data_type ++ flat_map (group_causes_of_field field) groups)
-    (byte_causes field groups
-    ++ (length_causes (nulls_made field groups) ++ (length_causes (distinct_made field groups)
-    ++ (length_causes (low_made field groups) ++ length_causes (high_made field groups)))))
+    (byte_causes field groups ++ causes_of_arrays field.data_type (told_of_field field groups))

@@ -1,5 +1,5 @@
 -- What the parts of a call that makes statistics go by.
-use Rattle.std.specs.Prelude.{◌≡◌, ◌==◌, ℕ, List, [], ◌∷◌, ◌++◌, length, map, flat_map, take, drop, zip, IfSome, Option, Some}
+use Rattle.std.specs.Prelude.{◌≡◌, ◌==◌, ℕ, List, [], ◌∷◌, ◌++◌, length, map, flat_map, take, drop, IfSome, Option, Some}
 use Rattle.std.specs.List.{AllByRecursion, AllZip}
 use Rattle.columns_core.specs.Array.{data_type_of}
 use Rattle.columns_core.specs.Causes.{Cause, NotYetImplemented, unless}
@@ -15,7 +15,7 @@ use Rattle.flat_builders.specs.Flat.{Flat, flatness}
 use Rattle.column_ends.specs.Converted.{group_array_causes, group_causes}
 use Rattle.column_ends.specs.Laws.{IsEndOf}
 use Rattle.parquet_statistics.specs.CountType.{count_type}
-use Rattle.parquet_statistics.specs.Deserialized.{IsMade, array_of_slots, columns_in, count_slot, distinct_slot, high_slot, length_causes, low_slot, nulls_slot, slot_count}
+use Rattle.parquet_statistics.specs.Deserialized.{IsMade, array_of_slots, columns_in, count_slot, distinct_slot, high_slot, low_slot, nulls_slot, slot_count}
 use Rattle.parquet_statistics.specs.Made.{Made, made_refusals}
 use Rattle.parquet_statistics.specs.Refusal.{IsRefusedBy}
 use Rattle.parquet_statistics.specs.Shaped.{shaped, shaped_in_turn}
@@ -27,7 +27,6 @@ use Rattle.parquet_statistics.specs.declared.field_arrays.CountArrays.{CountArra
 use Rattle.parquet_statistics.specs.declared.field_arrays.EndArrays.{EndArrays}
 use Rattle.parquet_statistics.specs.declared.slots.Arrays.{Arrays}
 use Rattle.parquet_statistics.specs.declared.slots.Arrays.TheVariants as arrays
-use Rattle.parquet_statistics.specs.declared.statistics.Statistics.{Statistics}
 
 -- the type of arrays of the statistics of a field
 abbrev pub type_of_arrays : Arrays → DataType → DataType
@@ -93,10 +92,6 @@ abbrev pub causes_by_column : List DataType → List (List ColumnChunkMetaData) 
 causes_by_column [] groups = []
 causes_by_column (data_type ∷ types) groups = flat_map (group_causes data_type) (flat_map (take 1) groups) ++ causes_by_column types (map (drop 1) groups)
 
--- and with the bytes of ends, of columns of the types beside them
-abbrev pub side_causes_of_columns : List DataType → List (List (Ends Cell)) → List Cause
-side_causes_of_columns types told = flat_map (λ typed. group_array_causes typed.0 typed.1) (zip types told)
-
 -- ---- the arrays of a field
 
 -- The type comes to a number of slots over so many groups, and each column tells once of each.
@@ -114,18 +109,3 @@ pub record AreCountArrays (data_type : DataType) (told : List (List (Ends Cell))
 pub record AreEndArrays (data_type : DataType) (told : List (List (Ends Cell))) (arrays : EndArrays) : Type 0 where
   pub low : IsMade (array_of_slots data_type low_slot told) arrays.low
   pub high : IsMade (array_of_slots data_type high_slot told) arrays.high
-
-pub record AreArraysOf (data_type : DataType) (told : List (List (Ends Cell))) (statistics : Statistics) : Type 0 where
-  pub nulls : IsMade (array_of_slots (count_type data_type) nulls_slot told) statistics.null_count
-  pub distinct : IsMade (array_of_slots (count_type data_type) distinct_slot told) statistics.distinct_count
-  pub low : IsMade (array_of_slots data_type low_slot told) statistics.min_value
-  pub high : IsMade (array_of_slots data_type high_slot told) statistics.max_value
-
-abbrev pub count_array_causes : DataType → List (List (Ends Cell)) → List Cause
-count_array_causes data_type told = length_causes (array_of_slots data_type nulls_slot told) ++ length_causes (array_of_slots data_type distinct_slot told)
-
-abbrev pub end_array_causes : DataType → List (List (Ends Cell)) → List Cause
-end_array_causes data_type told = length_causes (array_of_slots data_type low_slot told) ++ length_causes (array_of_slots data_type high_slot told)
-
-abbrev pub causes_of_arrays : DataType → List (List (Ends Cell)) → List Cause
-causes_of_arrays data_type told = count_array_causes (count_type data_type) told ++ end_array_causes data_type told

@@ -36,7 +36,7 @@ pub(crate) fn dictionary_of(
         None => {
             drop(entries);
             drop(data_type);
-            Err(Error::InvalidArgumentError(Part::Dictionary))
+            Err(Error::InvalidArgumentError(Part::Request))
         }
     }
 }

@@ -3,7 +3,7 @@ ghost use Rattle.std.specs.Prelude.{◌≡◌, map, IfOk};
 ghost use Rattle.columns_core.specs.Causes.{ComesOf};
 ghost use Rattle.columns_core.specs.declared.data_type.DataType.{UInt64};
 ghost use Rattle.parquet_statistics.specs.CountType.{count_type};
-ghost use Rattle.parquet_statistics.specs.Deserialized.{IsMade, array_of_slots, length_causes};
+ghost use Rattle.parquet_statistics.specs.Deserialized.{AreArraysOf, IsMade, array_of_slots, causes_of_arrays, count_array_causes, end_array_causes, length_causes};
 ghost use Rattle.parquet_statistics.specs.LeafTypes.{leaf_types};
 ghost use Rattle.parquet_statistics.specs.Parts as part;
 
@@ -43,9 +43,9 @@ pub(crate) fn arrays_of_field(
     requires counts { part.HasSlots (count_type data_type.now) (map (λ column. column.items) told.now) }
     requires counted { leaf_types (count_type data_type.now) ≡ map (λ _. UInt64) told.now }
     ensures arrays { IfOk result
-        (part.AreArraysOf data_type.now (map (λ column. column.items) told.now)) }
+        (AreArraysOf data_type.now (map (λ column. column.items) told.now)) }
     ensures cause { ComesOf result
-        (part.causes_of_arrays data_type.now (map (λ column. column.items) told.now)) }
+        (causes_of_arrays data_type.now (map (λ column. column.items) told.now)) }
 {
     let counts = counts_of_field(alloc, data_type, told)?;
     match ends_of_field(alloc, data_type, types, told) {
@@ -82,7 +82,7 @@ fn counts_of_field(
     ensures arrays { IfOk result
         (part.AreCountArrays (count_type data_type.now) (map (λ column. column.items) told.now)) }
     ensures cause { ComesOf result
-        (part.count_array_causes (count_type data_type.now) (map (λ column. column.items) told.now)) }
+        (count_array_causes (count_type data_type.now) (map (λ column. column.items) told.now)) }
 {
     let counts = create_dt(alloc, data_type)?;
     counts_of_type(alloc, &counts, told)
@@ -98,7 +98,7 @@ fn counts_of_type(
     ensures arrays { IfOk result
         (part.AreCountArrays data_type.now (map (λ column. column.items) told.now)) }
     ensures cause { ComesOf result
-        (part.count_array_causes data_type.now (map (λ column. column.items) told.now)) }
+        (count_array_causes data_type.now (map (λ column. column.items) told.now)) }
 {
     let nulls = counts_in_shape(alloc, data_type, told, Count::Nulls)?;
     match counts_in_shape(alloc, data_type, told, Count::Distinct) {
@@ -123,7 +123,7 @@ fn ends_of_field(
         (map (λ t. t.now) types.now) (map (λ column. column.items) told.now) }
     ensures arrays { IfOk result (part.AreEndArrays data_type.now (map (λ column. column.items) told.now)) }
     ensures cause { ComesOf result
-        (part.end_array_causes data_type.now (map (λ column. column.items) told.now)) }
+        (end_array_causes data_type.now (map (λ column. column.items) told.now)) }
 {
     let low = ends_in_shape(alloc, data_type, types, told, End::Low)?;
     match ends_in_shape(alloc, data_type, types, told, End::High) {

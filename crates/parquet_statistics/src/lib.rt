@@ -29,6 +29,7 @@ pub use dyn_mutable::{
 };
 pub use field_columns::has_column;
 pub use field_statistics::deserialize;
+pub use flat_builders::FlatMutable;
 pub use statistics::Statistics;
 pub use time_units::timestamp;
 pub use types_inside::leaf_types;

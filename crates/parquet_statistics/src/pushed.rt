@@ -20,7 +20,7 @@ impl DynMutable {
             DynMutable::Dictionary(_)
             | DynMutable::List(_)
             | DynMutable::Map(_)
-            | DynMutable::Struct(_) => Err(Error::InvalidArgumentError(Part::Values)),
+            | DynMutable::Struct(_) => Err(Error::InvalidArgumentError(Part::Request)),
         }
     }
 }

@@ -3,8 +3,8 @@ ghost use Rattle.std.specs.Prelude.{◌≡◌, ◌<◌, [], ◌∷◌, drop, fla
 ghost use Rattle.std.specs.List.{AllByRecursion};
 ghost use Rattle.columns_core.specs.Causes.{ComesOf};
 ghost use Rattle.column_ends.specs.Converted.{group_array_causes, group_causes};
-ghost use Rattle.parquet_statistics.specs.Deserialized.{columns_in, told_columns, told_in};
-ghost use Rattle.parquet_statistics.specs.Parts.{causes_by_column, columns_in_place, side_causes_of_columns, uneven_causes};
+ghost use Rattle.parquet_statistics.specs.Deserialized.{columns_in, side_causes_of_columns, told_columns, told_in};
+ghost use Rattle.parquet_statistics.specs.Parts.{causes_by_column, columns_in_place, uneven_causes};
 
 use column_ends::{EndBytes, statistics_ends};
 use columns_core::{Cell, DataType, Error, Field, Part};

@@ -9,7 +9,7 @@ use Rattle.parquet_base.proofs.EndLemmas.{IsEnd_drop}
 use Rattle.parquet_base.specs.Varint.{varint_within, varint, zigzag}
 use Rattle.parquet_thrift.specs.Front.{IsAtFront, ReadsFront, SpellsOnce}
 use Rattle.parquet_thrift.specs.Numbers.{signed, signed_byte, raw, bytes_of_length}
-use Rattle.parquet_thrift.specs.Values.{Value, truth, number, double, binary, list, map, struct, Values, no_values, values, Fields, no_fields, fields, Context, in_struct, in_list, Header, header_of, id_after, is_kind, field_header, list_header, list_header_of, list_start, map_header, map_header_of, elements, entries, field_or_end, fields_within, fields_of, list_truth, truth_at, value_with, value_within, value, depth, keep}
+use Rattle.parquet_thrift.specs.Values.{Value, truth, number, double, binary, list, map, struct, Values, no_values, values, Fields, no_fields, fields, Context, in_struct, in_list, Header, header_of, id_after, is_kind, field_header, list_header, list_header_of, list_start, map_header, map_header_of, elements, entries, field_or_end, fields_within, fields_of, list_truth, truth_at, value_with, value_within, value}
 use Rattle.parquet_thrift.proofs.Lengths.{NeverGrows}
 use Rattle.parquet_thrift.proofs.FieldLemmas.{fields_of-next}
 use Rattle.parquet_thrift.proofs.ValueLemmas.{value-takes, value-next, value-list}
@@ -310,14 +310,6 @@ fields-front previous bytes = fields_within-front (value in_struct) (value in_st
 
 pub list_elements-front : (kind count : ℕ) → ReadsFront count (elements (value in_list kind) count)
 list_elements-front kind count bytes = elements-front (value in_list kind) (value in_list kind) (value-front in_list kind) count bytes
-
-keep-front : (most : ℕ) (read : Read Value) (least : ℕ) (bytes : List ℕ) (o : Option (Value × List ℕ)) → FrontOf least read bytes o → FrontOf least (λ bs. keep depth most (read bs)) bytes (keep depth most o)
-keep-front most read least bytes None p = tt
-keep-front most read least bytes (Some x) p = by_depth (nat_le (depth x.0) most) refl
-  where
-    by_depth : (b : Bool) → nat_le (depth x.0) most ≡ b → FrontOf least (λ bs. keep depth most (read bs)) bytes (cond b (Some x) None)
-    by_depth false e = tt
-    by_depth true e = front-through least read (keep depth most) bytes x x.0 (λ rest. rw e refl) p
 
 -- ---- what follows from it
 

@@ -90,10 +90,6 @@ bind-some : {A : Type 0} (o : Option A) → (o >>= λ x. Some x) ≡ o
 bind-some None = refl
 bind-some (Some x) = refl
 
-bind-after : {A B : Type 0} (o : Option (A × List ℕ)) (f : List ℕ → Option B) → (o >>= λ x. f x.1) ≡ (after o >>= f)
-bind-after None f = refl
-bind-after (Some x) f = refl
-
 -- one part is open
 pub opened : (inside : ℕ → Part) (bytes : List ℕ) → after_parts 1 inside bytes ≡ after_part 31 (inside 0) bytes
 unfolding after_parts

@@ -1,6 +1,6 @@
 //! Passes over a value that nobody reads.
 
-ghost use Rattle.std.specs.Prelude.{◌≡◌, ◌<◌, ℕ, suc, length, IfOk, slice_get, false};
+ghost use Rattle.std.specs.Prelude.{◌≡◌, ℕ, suc, length, IfOk, slice_get, false};
 ghost use Rattle.parquet_base.specs.Reading.{Gives, IsEnd, after};
 ghost use Rattle.parquet_thrift.specs.Values.{value_within, in_struct, most_depth};
 ghost use Rattle.parquet_thrift.specs.Skipping.{context_of, after_part, BeginsValue, GivesNext, PaysBegun, PaysNext};

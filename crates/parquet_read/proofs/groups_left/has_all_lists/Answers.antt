@@ -1,5 +1,6 @@
 use Rattle.std.proofs.Common.{◌∙◌, List, Option, Some, Vec, Global, ap, map, sym}
-use Rattle.parquet_read.specs.GroupReader.{HeldLists, all_lists, held_lists}
+use Rattle.parquet_read.specs.Asked.{HeldLists, held_lists}
+use Rattle.parquet_read.specs.GroupReader.{all_lists}
 use Rattle.parquet_read.specs.Groups.{have_all_lists}
 use Rattle.parquet_read.proofs.groups_left.has_all_lists.Goals as goal
 

@@ -3,8 +3,8 @@ use Rattle.std.specs.Global.{Global}
 use Rattle.std.specs.Prelude.{Vec}
 use Rattle.columns_core.specs.declared.cell.Cell.{Cell}
 use Rattle.parquet_meta.specs.declared.metadata.Ends.{Ends}
+use Rattle.parquet_statistics.specs.Deserialized.{causes_of_arrays, count_array_causes, end_array_causes}
 use Rattle.parquet_statistics.specs.CountType.{count_type}
-use Rattle.parquet_statistics.specs.Parts.{causes_of_arrays, count_array_causes, end_array_causes}
 use Rattle.parquet_statistics.proofs.ToldLemmas.{right_part, told_of_part}
 use Rattle.parquet_statistics.proofs.field_arrays.arrays_of_field.Goals as goal
 

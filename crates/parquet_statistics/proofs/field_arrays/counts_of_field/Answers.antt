@@ -4,8 +4,9 @@ use Rattle.std.specs.Prelude.{IfOk, Vec}
 use Rattle.columns_core.specs.Causes.{ComesOf}
 use Rattle.columns_core.specs.declared.cell.Cell.{Cell}
 use Rattle.parquet_meta.specs.declared.metadata.Ends.{Ends}
+use Rattle.parquet_statistics.specs.Deserialized.{count_array_causes}
 use Rattle.parquet_statistics.specs.LeafTypes.{leaf_types}
-use Rattle.parquet_statistics.specs.Parts.{AreCountArrays, HasSlots, count_array_causes}
+use Rattle.parquet_statistics.specs.Parts.{AreCountArrays, HasSlots}
 use Rattle.parquet_statistics.proofs.field_arrays.counts_of_field.Goals as goal
 
 abbrev items : Vec (Ends Cell) Global → List (Ends Cell)

@@ -7,9 +7,9 @@ use Rattle.columns_core.specs.declared.cell.Cell.{Cell}
 use Rattle.columns_core.specs.declared.data_type.DataType.{DataType}
 use Rattle.parquet_meta.specs.declared.metadata.Ends.{Ends}
 use Rattle.parquet_statistics.specs.CountType.{count_type}
-use Rattle.parquet_statistics.specs.Deserialized.{byte_causes, columns_in, deserialize_causes, told_of_field}
+use Rattle.parquet_statistics.specs.Deserialized.{byte_causes, causes_of_arrays, columns_in, deserialize_causes, side_causes_of_columns, told_of_field}
 use Rattle.parquet_statistics.specs.LeafTypes.{leaf_types}
-use Rattle.parquet_statistics.specs.Parts.{AreEachReady, HasSlots, causes_of_arrays, side_causes_of_columns}
+use Rattle.parquet_statistics.specs.Parts.{AreEachReady, HasSlots}
 use Rattle.parquet_statistics.proofs.FieldLemmas.{are_statistics, byte_part, comes_more, counts_are_numbers, field_ready, free_arrays, has_count_slots, has_end_slots, length_part, no_causes, ok_so}
 use Rattle.parquet_statistics.proofs.ToldLemmas.{IsPartOf, as_many_told, told_of_part}
 use Rattle.parquet_statistics.proofs.field_statistics.statistics_of_groups.Goals as goal

@@ -6,7 +6,7 @@ use Rattle.columns_core.specs.declared.cell.Cell.{Cell}
 use Rattle.columns_core.specs.declared.data_type.DataType.{DataType}
 use Rattle.parquet_meta.specs.declared.metadata.Ends.{Ends}
 use Rattle.column_ends.specs.Converted.{group_array_causes}
-use Rattle.parquet_statistics.specs.Parts.{side_causes_of_columns}
+use Rattle.parquet_statistics.specs.Deserialized.{side_causes_of_columns}
 use Rattle.parquet_statistics.proofs.ToldLemmas.{part_front, side_next, told_of_part}
 use Rattle.parquet_statistics.proofs.told.check_bytes.Goals as goal
 

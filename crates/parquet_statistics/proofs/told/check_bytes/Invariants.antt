@@ -1,5 +1,5 @@
 use Rattle.std.proofs.Common.{◌≡◌, drop, map}
-use Rattle.parquet_statistics.specs.Parts.{side_causes_of_columns}
+use Rattle.parquet_statistics.specs.Deserialized.{side_causes_of_columns}
 use Rattle.parquet_statistics.proofs.told.check_bytes.Given as goal
 
 -- nothing is wrong so far
