@@ -1,8 +1,11 @@
 pub mod CellText
+pub mod Edge
 pub mod Endings
 pub mod Memory
 pub mod Pieces
 pub mod Rows
 pub mod Spelled
 pub mod Taken
+pub mod Texts
+pub mod TypeText
 pub mod Written

@@ -1,11 +1,13 @@
 //! How a run ends.
-ghost use Rattle.std.specs.Prelude.{◌≡◌};
-ghost use Rattle.pq_common.specs.Endings.{status_number, text_for};
+ghost use Rattle.std.specs.Prelude.{◌≡◌, codes};
+ghost use Rattle.pq_common.specs.Endings.{status_number, status_of_error, text_for};
+
+use columns_core::Error;
 
 /// One for each ending.
 #[derive(Clone, Copy, Debug, PartialEq, Eq)]
 pub enum Status {
-    /// The report was written.
+    /// All was written.
     Done,
     /// The words spell no request.
     Words,
@@ -47,13 +49,28 @@ impl Status {
     }
 }
 
-/// What the program says of a run that ended so.
-pub fn status_text(status: Status) -> &'static str
-    ensures { result.now ≡ text_for status }
+/// How a run ends that an error ends.
+pub fn status_of(error: &Error) -> Status
+    ensures { result ≡ status_of_error error.now }
+{
+    match error {
+        Error::InvalidArgumentError(_) => Status::Argument,
+        Error::NotYetImplemented(_) => Status::NotCarried,
+        Error::ExternalFormat(_) => Status::Damaged,
+        Error::OutOfSpec(_) => Status::NotValid,
+        Error::Overflow => Status::Range,
+        Error::Io => Status::Reading,
+        Error::OutOfMemory => Status::Memory,
+    }
+}
+
+/// What a tool says of a run that ended so; of faulty words, how it is used.
+pub fn tool_text(status: Status, usage: &'static str) -> &'static str
+    ensures { result.now ≡ text_for usage.now status }
 {
     match status {
         Status::Done => "ok",
-        Status::Words => "usage: pqscan FILE ITEM... [--chunk N] [--limit N] [--summary]",
+        Status::Words => usage,
         Status::Argument => "the request does not fit the file",
         Status::NotCarried => "not carried",
         Status::Damaged => "the file is damaged",
@@ -63,4 +80,15 @@ pub fn status_text(status: Status) -> &'static str
         Status::Writing => "writing failed",
         Status::Memory => "out of memory",
     }
+}
+
+/// What `pqscan` says of a run that ended so.
+pub fn status_text(status: Status) -> &'static str
+    ensures { let usage = codes "usage: pqscan FILE ITEM... [--chunk N] [--limit N] [--summary]" in
+        result.now ≡ text_for usage status }
+{
+    tool_text(
+        status,
+        "usage: pqscan FILE ITEM... [--chunk N] [--limit N] [--summary]",
+    )
 }

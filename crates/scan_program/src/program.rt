@@ -5,18 +5,18 @@ ghost use Rattle.parquet_base.specs.Failures.{MayFail};
 ghost use Rattle.parquet_meta.specs.Keeps.{Keeps};
 ghost use Rattle.parquet_scan.specs.Causes.{IsValid};
 ghost use Rattle.parquet_scan.specs.Scan.{ScanCosts};
+ghost use Rattle.pq_common.specs.Endings.{has_answer, is_refusal};
 ghost use Rattle.pq_common.specs.Written.{IsAppended, IsFrontAppended};
-ghost use Rattle.scan_program.specs.Program.{command_in, has_scanned, is_refusal, lent_between, report_of, status_of_error};
+ghost use Rattle.scan_program.specs.Program.{command_in, lent_between, report_of};
 ghost use Rattle.scan_program.specs.Program.{IsLegal, IsStatusOfRefusal, OnCommand, Reports};
 ghost use Rattle.scan_program.specs.Sampled.{faults_by, is_too_great, sample_in, told_by};
 
 use crate::command::read_words;
 use crate::report::write_report;
 use crate::scanned::{Scanned, scan_file};
-use columns_core::Error;
 use parquet_base::Steps;
 use parquet_meta::Source;
-use pq_common::{Sink, Status};
+use pq_common::{Sink, Status, status_of};
 use std::alloc::Global;
 use std::sync::ledger::Ledger;
 
@@ -51,7 +51,7 @@ pub fn run<S: Source, K: Sink, L: Ledger>(
 
     // What it costs.
     ensures costs { let told = told_by words.now (S.told source.old) in
-        IsTrue (has_scanned result) → IfSome (command_in words.now) (λ command.
+        IsTrue (has_answer result) → IfSome (command_in words.now) (λ command.
         ScanCosts command.request told steps.old steps.new (S.taken source.old) (S.taken source.new)) }
 
     // A run ends otherwise only where the scan refuses the request; memory may run out at any time.
@@ -73,7 +73,7 @@ pub fn run<S: Source, K: Sink, L: Ledger>(
         (result ≡ Status.Argument) ⊎ (result ≡ Status.Memory))) }
 
     // Nothing is written but where all is read without a failure, and writing fails only where the sink may fail.
-    ensures read { IsTrue (has_scanned result) → S.faults source.new ≡ S.faults source.old }
+    ensures read { IsTrue (has_answer result) → S.faults source.new ≡ S.faults source.old }
     ensures nothing { result ≢ Status.Done → result ≢ Status.Writing →
         K.written out.new ≡ K.written out.old }
     ensures writing { result ≡ Status.Writing → MayFail (K.faults out.old) (K.faults out.new) }
@@ -134,20 +134,5 @@ fn scan_for<S: Source, L: Ledger>(
             }),
             Err(error) => Err(status_of(&error)),
         },
-    }
-}
-
-/// How a run ends that a scan refuses.
-fn status_of(error: &Error) -> Status
-    ensures { result ≡ status_of_error error.now }
-{
-    match error {
-        Error::InvalidArgumentError(_) => Status::Argument,
-        Error::NotYetImplemented(_) => Status::NotCarried,
-        Error::ExternalFormat(_) => Status::Damaged,
-        Error::OutOfSpec(_) => Status::NotValid,
-        Error::Overflow => Status::Range,
-        Error::Io => Status::Reading,
-        Error::OutOfMemory => Status::Memory,
     }
 }

@@ -1,0 +1,36 @@
+-- What a file says of itself, as text, and what may be wrong with the parts that it is told from.
+use Rattle.std.specs.Prelude.{◌≡◌, ℕ, ◌+◌, List, [], ◌∷◌, ◌++◌, flat_map, sum_by, Option, Some, IsSome, option_map}
+use Rattle.std.specs.List.{enumerate_from}
+use Rattle.std.specs.Option.{option_map_or}
+use Rattle.columns_core.specs.Causes.{Cause, ExternalFormat}
+use Rattle.parquet_meta.specs.File.{footer, most_taken}
+use Rattle.parquet_meta.specs.declared.metadata.FileMetaData.{FileMetaData}
+use Rattle.inspect_program.specs.Columns.{columns_text}
+use Rattle.inspect_program.specs.Groups.{are_single, group_causes_told, group_indexes_length, group_text}
+
+-- a line for each column, and then the lines of each group
+abbrev pub metadata_text : List ℕ → FileMetaData → List ℕ
+metadata_text bytes metadata =
+    columns_text metadata.columns
+    ++ flat_map (group_text (are_single metadata.columns) bytes) (enumerate_from 0 metadata.row_groups)
+
+-- of bytes without a cause
+abbrev pub inspection : List ℕ → Option (List ℕ)
+inspection bytes = option_map (metadata_text bytes) (footer bytes)
+
+abbrev pub metadata_causes : List ℕ → FileMetaData → List Cause
+metadata_causes bytes metadata = flat_map (group_causes_told (are_single metadata.columns) bytes) metadata.row_groups
+
+-- The footer has to be spelled, and all that is told of each group to be without a cause.
+abbrev pub inspection_causes : List ℕ → List Cause
+inspection_causes bytes = option_map_or (metadata_causes bytes) (footer bytes) (ExternalFormat ∷ [])
+
+-- the footer, and the indexes that are told of
+abbrev pub most_inspected : List ℕ → ℕ
+most_inspected bytes =
+    most_taken (Some bytes)
+    + option_map_or (λ metadata. sum_by (group_indexes_length (are_single metadata.columns)) metadata.row_groups) (footer bytes) 0
+
+-- Bytes without a cause have a text.
+abbrev pub SoundBytesAreTold : Type 0
+SoundBytesAreTold = (bytes : List ℕ) → inspection_causes bytes ≡ [] → IsSome (inspection bytes)

@@ -1,0 +1,9 @@
+pub mod Calls
+pub mod Columns
+pub mod Groups
+pub mod Guess
+pub mod Inspection
+pub mod Pages
+pub mod Program
+pub mod Sections
+pub mod Singles

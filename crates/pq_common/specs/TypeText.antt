@@ -1,0 +1,94 @@
+-- Types as text: what spells them.
+use Rattle.std.specs.Prelude.{◌<◌, ◌^◌, ◌≡◌, ℕ, List, [], ◌++◌, codes, decimal, Some}
+use Rattle.columns_core.specs.Types.{Layer}
+use Rattle.columns_core.specs.declared.data_type.DataType.{DataType, out-DataType}
+use Rattle.columns_core.specs.declared.data_type.DataType.TheOpen.{DataType-F}
+use Rattle.columns_core.specs.declared.data_type.IntegerType.{IntegerType}
+use Rattle.columns_core.specs.declared.data_type.IntegerType.TheVariants as key
+use Rattle.columns_core.specs.declared.data_type.IntervalUnit.{IntervalUnit}
+use Rattle.columns_core.specs.declared.data_type.IntervalUnit.TheVariants.{YearMonth, DayTime}
+use Rattle.columns_core.specs.declared.data_type.TimeUnit.{TimeUnit}
+use Rattle.columns_core.specs.declared.data_type.TimeUnit.TheVariants.{Second, Millisecond, Microsecond, Nanosecond}
+
+abbrev pub unit_text : TimeUnit → List ℕ
+unit_text Second = codes "s"
+unit_text Millisecond = codes "ms"
+unit_text Microsecond = codes "us"
+unit_text Nanosecond = codes "ns"
+
+abbrev pub interval_unit_text : IntervalUnit → List ℕ
+interval_unit_text YearMonth = codes "YearMonth"
+interval_unit_text DayTime = codes "DayTime"
+
+abbrev pub key_text : IntegerType → List ℕ
+key_text key.Int8 = codes "Int8"
+key_text key.Int16 = codes "Int16"
+key_text key.Int32 = codes "Int32"
+key_text key.Int64 = codes "Int64"
+key_text key.UInt8 = codes "UInt8"
+key_text key.UInt16 = codes "UInt16"
+key_text key.UInt32 = codes "UInt32"
+key_text key.UInt64 = codes "UInt64"
+
+-- the name of a type, with no argument; one that holds fields has none
+abbrev pub name_text : Layer → List ℕ
+name_text DataType-F.Null = codes "Null"
+name_text DataType-F.Boolean = codes "Boolean"
+name_text DataType-F.Int8 = codes "Int8"
+name_text DataType-F.Int16 = codes "Int16"
+name_text DataType-F.Int32 = codes "Int32"
+name_text DataType-F.Int64 = codes "Int64"
+name_text DataType-F.UInt8 = codes "UInt8"
+name_text DataType-F.UInt16 = codes "UInt16"
+name_text DataType-F.UInt32 = codes "UInt32"
+name_text DataType-F.UInt64 = codes "UInt64"
+name_text DataType-F.Date32 = codes "Date32"
+name_text DataType-F.Date64 = codes "Date64"
+name_text (DataType-F.Time32 unit) = codes "Time32"
+name_text (DataType-F.Time64 unit) = codes "Time64"
+name_text (DataType-F.Duration unit) = codes "Duration"
+name_text (DataType-F.Timestamp unit zone) = codes "Timestamp"
+name_text (DataType-F.Interval unit) = codes "Interval"
+name_text (DataType-F.Decimal precision scale) = codes "Decimal"
+name_text DataType-F.Utf8 = codes "Utf8"
+name_text DataType-F.LargeUtf8 = codes "LargeUtf8"
+name_text DataType-F.Binary = codes "Binary"
+name_text DataType-F.LargeBinary = codes "LargeBinary"
+name_text (DataType-F.FixedSizeBinary size) = codes "FixedSizeBinary"
+name_text (DataType-F.Dictionary keys values ordered) = codes "Dictionary"
+name_text (DataType-F.List field) = []
+name_text (DataType-F.LargeList field) = []
+name_text (DataType-F.Struct fields) = []
+name_text (DataType-F.Map field ordered) = []
+
+-- an argument in parentheses
+abbrev pub in_parentheses : List ℕ → List ℕ
+in_parentheses argument = codes "(" ++ (argument ++ codes ")")
+
+-- two arguments with a comma between them
+abbrev pub both_texts : List ℕ → List ℕ → List ℕ
+both_texts first second = first ++ (codes "," ++ second)
+
+-- What stands behind the name of a type that is no dictionary: units and numbers. A time zone is left out.
+abbrev pub argument_text : Layer → List ℕ
+argument_text (DataType-F.Time32 unit) = in_parentheses (unit_text unit)
+argument_text (DataType-F.Time64 unit) = in_parentheses (unit_text unit)
+argument_text (DataType-F.Duration unit) = in_parentheses (unit_text unit)
+argument_text (DataType-F.Timestamp unit zone) = in_parentheses (unit_text unit)
+argument_text (DataType-F.Interval unit) = in_parentheses (interval_unit_text unit)
+argument_text (DataType-F.Decimal precision scale) = in_parentheses (both_texts (decimal precision) (decimal scale))
+argument_text (DataType-F.FixedSizeBinary size) = in_parentheses (decimal size)
+argument_text layer = []
+
+-- a type that is no dictionary
+abbrev pub value_type_text : Layer → List ℕ
+value_type_text layer = name_text layer ++ argument_text layer
+
+-- of a dictionary the types of its keys and of its entries
+abbrev pub type_text_at : Layer → List ℕ
+type_text_at (DataType-F.Dictionary keys values ordered) =
+    codes "Dictionary" ++ in_parentheses (both_texts (key_text keys) (value_type_text (out-DataType values)))
+type_text_at layer = value_type_text layer
+
+abbrev pub type_text : DataType → List ℕ
+type_text data_type = type_text_at (out-DataType data_type)
