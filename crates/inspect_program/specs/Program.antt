@@ -1,5 +1,5 @@
 -- What a run of the program shows, and how it is refused.
-use Rattle.std.specs.Prelude.{◌≡◌, ◌≢◌, ℕ, ◌≤◌, List, Option, Some, IfSome, IsTrue}
+use Rattle.std.specs.Prelude.{◌≡◌, ◌≢◌, ℕ, ◌≤◌, List, [], Option, Some, IfSome, IsTrue}
 use Rattle.columns_core.specs.declared.error.Error.{Error}
 use Rattle.parquet_base.specs.Failures.{MayFail}
 use Rattle.parquet_meta.specs.Source.{IsReadFailure}
@@ -9,10 +9,11 @@ use Rattle.pq_common.specs.declared.status.Status.TheVariants.{Writing}
 use Rattle.inspect_program.specs.Calls.{IsOfInspection}
 use Rattle.inspect_program.specs.Inspection.{inspection, inspection_causes}
 
--- This holds of a text, which is that of the bytes where they are told.
+-- This holds of a text, which is that of the bytes where they are told; then nothing is wrong with them.
 pub record Shows (told : Option (List ℕ)) (P : List ℕ → Type 0) : Type 0 where
   pub text : List ℕ
   pub of_bytes : IfSome told (λ bytes. inspection bytes ≡ Some text)
+  pub sound : IfSome told (λ bytes. inspection_causes bytes ≡ [])
   pub holds : P text
 
 -- The status is that of an error by which a read, or the bytes where they are told, refuse to be shown.
