@@ -5,7 +5,7 @@ use Rattle.columns_core.specs.declared.error.Error.{Error}
 use Rattle.columns_core.specs.declared.error.Error.TheVariants as error
 use Rattle.parquet_meta.specs.Reads.{ReadsFile}
 use Rattle.parquet_meta.specs.declared.source.Source.{Ghosts}
-use Rattle.pq_common.specs.Texts.{Adds}
+use Rattle.pq_common.specs.Texts.{AddsText}
 
 -- Damage, a value out of range, a failed read or want of memory: each guess is carried, and no text is looked at.
 abbrev pub IsOfInspection : Error → Type 0
@@ -26,6 +26,6 @@ pub record Section : Type 0 where
 -- The section's text is added. What the text is behind an error is not told.
 pub record Tells {S T : Type 0} (g : Ghosts S) (old new : S) (section : Section) (before after : List ℕ) (result : Result T Error) : Type 0 where
   pub reads : ReadsFile g old new section.causes result
-  pub adds : IfSome (g.told old) (λ bytes. Adds (section.text bytes) before result after)
+  pub adds : IfSome (g.told old) (λ bytes. AddsText (section.text bytes) before result after)
   pub carried : IfErr result IsOfInspection
   pub taken : g.taken new ≤ g.taken old + section.length

@@ -30,13 +30,13 @@ statistics_line number ends =
     line (codes "stats " ++ decimal number ++ told_text ends.min_value ends.max_value ends.null_count)
 
 -- what its statistics tell, of a chunk without a cause, and then its pages
-abbrev pub chunk_text : ℕ → List ℕ → ToldChunk → List ℕ
-chunk_text rows bytes chunk =
+abbrev pub told_chunk_text : ℕ → List ℕ → ToldChunk → List ℕ
+told_chunk_text rows bytes chunk =
     statistics_line chunk.number (unwrap_or (group_cells chunk.data_type chunk.column) no_ends)
     ++ pages_text chunk.number rows chunk.data_type bytes chunk.column
 
-abbrev pub chunk_causes : ℕ → List ℕ → ToldChunk → List Cause
-chunk_causes rows bytes chunk =
+abbrev pub told_chunk_causes : ℕ → List ℕ → ToldChunk → List Cause
+told_chunk_causes rows bytes chunk =
     group_causes chunk.data_type chunk.column ++ pages_causes rows chunk.data_type bytes chunk.column
 
 -- ---- groups
@@ -57,18 +57,18 @@ told_chunks singles chunks = filter_map told_chunk (enumerate_from 0 (zip single
 abbrev pub are_single : List ColumnDescriptor → List Bool
 are_single columns = map (is_single columns) columns
 
-abbrev pub group_line : ℕ → ℕ → List ℕ
-group_line number rows = line (codes "group " ++ decimal number ++ codes " " ++ decimal rows)
+abbrev pub rows_line : ℕ → ℕ → List ℕ
+rows_line number rows = line (codes "group " ++ decimal number ++ codes " " ++ decimal rows)
 
 -- the number of the group from 0 on, how many rows it has, and its chunks
 abbrev pub group_text : List Bool → List ℕ → ℕ × RowGroupMetaData → List ℕ
 group_text singles bytes group =
-    group_line group.0 (group.1).num_rows
-    ++ flat_map (chunk_text (group.1).num_rows bytes) (told_chunks singles (group.1).columns)
+    rows_line group.0 (group.1).num_rows
+    ++ flat_map (told_chunk_text (group.1).num_rows bytes) (told_chunks singles (group.1).columns)
 
 abbrev pub group_causes_told : List Bool → List ℕ → RowGroupMetaData → List Cause
 group_causes_told singles bytes group =
-    flat_map (chunk_causes group.num_rows bytes) (told_chunks singles group.columns)
+    flat_map (told_chunk_causes group.num_rows bytes) (told_chunks singles group.columns)
 
 -- how many bytes the indexes have that are read
 abbrev pub group_indexes_length : List Bool → RowGroupMetaData → ℕ

@@ -19,15 +19,15 @@ use Rattle.parquet_meta.specs.declared.metadata.Repetition.TheVariants.{Optional
 
 -- ---- of a column alone
 
-abbrev pub unit_of : ParquetTimeUnit → TimeUnit
-unit_of Milliseconds = Millisecond
-unit_of Microseconds = Microsecond
-unit_of Nanoseconds = Nanosecond
+abbrev pub time_unit_of : ParquetTimeUnit → TimeUnit
+time_unit_of Milliseconds = Millisecond
+time_unit_of Microseconds = Microsecond
+time_unit_of Nanoseconds = Nanosecond
 
 -- times are in the unit that the column tells, without a zone
 abbrev pub long_type : Option PrimitiveLogicalType → DataType
 long_type None = type.Int64
-long_type (Some (Timestamp unit utc)) = type.Timestamp (unit_of unit) None
+long_type (Some (Timestamp unit utc)) = type.Timestamp (time_unit_of unit) None
 
 abbrev pub type_for : PhysicalType → Option PrimitiveLogicalType → Option DataType
 type_for types.Boolean logical = Some type.Boolean

@@ -9,21 +9,21 @@ use Rattle.inspect_program.specs.Columns.{columns_text}
 use Rattle.inspect_program.specs.Groups.{are_single, group_causes_told, group_indexes_length, group_text}
 
 -- a line for each column, and then the lines of each group
-abbrev pub metadata_text : List ℕ → FileMetaData → List ℕ
-metadata_text bytes metadata =
+abbrev pub told_metadata : List ℕ → FileMetaData → List ℕ
+told_metadata bytes metadata =
     columns_text metadata.columns
     ++ flat_map (group_text (are_single metadata.columns) bytes) (enumerate_from 0 metadata.row_groups)
 
 -- of bytes without a cause
 abbrev pub inspection : List ℕ → Option (List ℕ)
-inspection bytes = option_map (metadata_text bytes) (footer bytes)
+inspection bytes = option_map (told_metadata bytes) (footer bytes)
 
-abbrev pub metadata_causes : List ℕ → FileMetaData → List Cause
-metadata_causes bytes metadata = flat_map (group_causes_told (are_single metadata.columns) bytes) metadata.row_groups
+abbrev pub told_groups_causes : List ℕ → FileMetaData → List Cause
+told_groups_causes bytes metadata = flat_map (group_causes_told (are_single metadata.columns) bytes) metadata.row_groups
 
 -- The footer has to be spelled, and all that is told of each group to be without a cause.
 abbrev pub inspection_causes : List ℕ → List Cause
-inspection_causes bytes = option_map_or (metadata_causes bytes) (footer bytes) (ExternalFormat ∷ [])
+inspection_causes bytes = option_map_or (told_groups_causes bytes) (footer bytes) (ExternalFormat ∷ [])
 
 -- the footer, and the indexes that are told of
 abbrev pub most_inspected : List ℕ → ℕ

@@ -20,15 +20,15 @@ use Rattle.pq_common.specs.Rows.{line}
 -- ---- what is told of values
 
 -- what is known, or a question mark, behind a blank
-abbrev pub told_end : Option Cell → List ℕ
-told_end end = codes " " ++ option_map_or cell_text end (codes "?")
+abbrev pub end_text : Option Cell → List ℕ
+end_text end = codes " " ++ option_map_or cell_text end (codes "?")
 
-abbrev pub told_count : Option ℕ → List ℕ
-told_count count = codes " " ++ option_map_or decimal count (codes "?")
+abbrev pub nulls_text : Option ℕ → List ℕ
+nulls_text count = codes " " ++ option_map_or decimal count (codes "?")
 
 -- two ends and a number of nulls
 abbrev pub told_text : Option Cell → Option Cell → Option ℕ → List ℕ
-told_text low high nulls = told_end low ++ told_end high ++ told_count nulls
+told_text low high nulls = end_text low ++ end_text high ++ nulls_text nulls
 
 -- ---- pages
 

@@ -5,7 +5,7 @@ use Rattle.columns_core.specs.declared.data_type.DataType.{DataType}
 use Rattle.parquet_meta.specs.declared.metadata.ColumnChunkMetaData.{ColumnChunkMetaData}
 use Rattle.parquet_meta.specs.declared.metadata.RowGroupMetaData.{RowGroupMetaData}
 use Rattle.inspect_program.specs.Calls.{Section}
-use Rattle.inspect_program.specs.Groups.{ToldChunk, chunk_causes, chunk_text, group_causes_told, group_indexes_length, group_text, told_chunks}
+use Rattle.inspect_program.specs.Groups.{ToldChunk, told_chunk_causes, told_chunk_text, group_causes_told, group_indexes_length, group_text, told_chunks}
 use Rattle.inspect_program.specs.Pages.{both_indexes_length, indexes_causes, indexes_length, page_line, pages_causes, pages_text, told_pages}
 
 -- of the pages of a chunk, in a group of so many rows, where it has lines of pages
@@ -26,8 +26,8 @@ pages_section rows chunk = record {
 -- of chunks in a group of so many rows
 abbrev pub chunks_section : ℕ → List ToldChunk → Section
 chunks_section rows chunks = record {
-  causes = λ bytes. flat_map (chunk_causes rows bytes) chunks;
-  text = λ bytes. flat_map (chunk_text rows bytes) chunks;
+  causes = λ bytes. flat_map (told_chunk_causes rows bytes) chunks;
+  text = λ bytes. flat_map (told_chunk_text rows bytes) chunks;
   length = sum_by (λ (chunk : ToldChunk). indexes_length chunk.column) chunks;
 }
 

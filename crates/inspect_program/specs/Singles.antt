@@ -8,9 +8,9 @@ use Rattle.parquet_meta.specs.declared.metadata.ColumnDescriptor.{ColumnDescript
 use Rattle.inspect_program.specs.Guess.{is_begun}
 
 -- how many columns the map has for a name
-abbrev pub count_at : BTreeMap (Bor (List ℕ)) ℕ → List ℕ → ℕ
-count_at counts name = unwrap_or (get_by (λ (key : Bor (List ℕ)). slice_cmp nat_cmp name key.now) counts) 0
+abbrev pub begun_count : BTreeMap (Bor (List ℕ)) ℕ → List ℕ → ℕ
+begun_count counts name = unwrap_or (get_by (λ (key : Bor (List ℕ)). slice_cmp nat_cmp name key.now) counts) 0
 
 -- The map tells of each name how many columns have a path that begins with it.
 abbrev pub IsCountOf : List ColumnDescriptor → BTreeMap (Bor (List ℕ)) ℕ → Type 0
-IsCountOf columns counts = (name : List ℕ) → count_at counts name ≡ count_by (is_begun name) columns
+IsCountOf columns counts = (name : List ℕ) → begun_count counts name ≡ count_by (is_begun name) columns

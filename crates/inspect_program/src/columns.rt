@@ -1,7 +1,7 @@
 //! The lines of columns.
 ghost use Rattle.std.specs.Prelude.{◌≡◌, ◌++◌, codes, if◌then◌else◌, IfOk, None};
 ghost use Rattle.std.specs.List.{join_by};
-ghost use Rattle.pq_common.specs.Texts.{Adds};
+ghost use Rattle.pq_common.specs.Texts.{AddsText};
 ghost use Rattle.inspect_program.specs.Columns.{column_end, columns_text};
 ghost use Rattle.inspect_program.specs.Groups.{are_single};
 ghost use Rattle.inspect_program.specs.Guess.{guessed_type as guessed_by};
@@ -12,7 +12,7 @@ use parquet_meta::ColumnDescriptor;
 use pq_common::Text;
 use std::alloc::{AllocError, Global};
 
-/// Adds a line for each column, of which these begin as no other does.
+/// AddsText a line for each column, of which these begin as no other does.
 pub(crate) fn push_columns(
     alloc: Global,
     text: &mut Text,
@@ -20,7 +20,7 @@ pub(crate) fn push_columns(
     singles: &[bool],
 ) -> Result<(), AllocError>
     requires { singles.now ≡ are_single columns.now }
-    ensures { Adds (columns_text columns.now) text.old result text.new }
+    ensures { AddsText (columns_text columns.now) text.old result text.new }
 {
     let mut path = Vec::new(alloc);
     for i in 0..columns.len() {
@@ -32,7 +32,7 @@ pub(crate) fn push_columns(
     Ok(())
 }
 
-/// Adds names to a path, with a dot between each two.
+/// AddsText names to a path, with a dot between each two.
 fn join_names(path: &mut Vec<u8>, names: &[Name]) -> Result<(), AllocError>
     ensures { let joined = join_by (λ name. name) (codes ".") names.now in
         IfOk result (λ _. path.new.items ≡ path.old.items ++ joined) }
@@ -46,7 +46,7 @@ fn join_names(path: &mut Vec<u8>, names: &[Name]) -> Result<(), AllocError>
     Ok(())
 }
 
-/// Adds the path of a column, and its guess or a dash.
+/// AddsText the path of a column, and its guess or a dash.
 fn push_column(
     text: &mut Text,
     path: &[u8],
@@ -54,7 +54,7 @@ fn push_column(
     is_single: bool,
 ) -> Result<(), AllocError>
     ensures { let guess = if is_single then guessed_by column.now else None in
-        Adds (column_end path.now guess) text.old result text.new }
+        AddsText (column_end path.now guess) text.old result text.new }
 {
     text.push(b" ")?;
     text.push_quoted(path)?;

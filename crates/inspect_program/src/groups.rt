@@ -3,11 +3,11 @@ ghost use Rattle.std.specs.Prelude.{◌≡◌, ◌∷◌, [], filter_map, if◌t
 ghost use Rattle.columns_core.specs.Causes.{ComesOf};
 ghost use Rattle.column_ends.specs.Converted.{group_causes, group_cells};
 ghost use Rattle.pq_common.specs.Rows.{line};
-ghost use Rattle.pq_common.specs.Texts.{Adds};
+ghost use Rattle.pq_common.specs.Texts.{AddsText};
 ghost use Rattle.inspect_program.specs.Calls.{IsOfInspection, Tells};
-ghost use Rattle.inspect_program.specs.Groups.{group_line, no_ends, statistics_line, told_as, told_chunk, told_chunks};
+ghost use Rattle.inspect_program.specs.Groups.{rows_line, no_ends, statistics_line, told_as, told_chunk, told_chunks};
 ghost use Rattle.inspect_program.specs.Guess.{guessed_type as guessed_by};
-ghost use Rattle.inspect_program.specs.Pages.{told_end, told_text};
+ghost use Rattle.inspect_program.specs.Pages.{end_text, told_text};
 ghost use Rattle.inspect_program.specs.Sections.{chunks_section, groups_section};
 
 use crate::guess::guessed_type;
@@ -18,7 +18,7 @@ use parquet_meta::{ColumnChunkMetaData, Ends, RowGroupMetaData, Source};
 use pq_common::Text;
 use std::alloc::{AllocError, Global};
 
-/// Adds the line of a group, and then those of its chunks.
+/// AddsText the line of a group, and then those of its chunks.
 pub(crate) fn push_group<S: Source>(
     alloc: Global,
     source: &mut S,
@@ -35,14 +35,14 @@ pub(crate) fn push_group<S: Source>(
 }
 
 fn push_group_line(text: &mut Text, number: usize, rows: usize) -> Result<(), AllocError>
-    ensures { Adds (group_line number rows) text.old result text.new }
+    ensures { AddsText (rows_line number rows) text.old result text.new }
 {
     text.push_labelled(b"group ", number)?;
     text.push_labelled(b" ", rows)?;
     text.push(b"\n")
 }
 
-/// Adds the lines of the chunks of a group whose columns have a guess.
+/// AddsText the lines of the chunks of a group whose columns have a guess.
 fn push_chunks<S: Source>(
     alloc: Global,
     source: &mut S,
@@ -62,7 +62,7 @@ fn push_chunks<S: Source>(
     Ok(())
 }
 
-/// Adds the lines of a chunk, if it has a guess.
+/// AddsText the lines of a chunk, if it has a guess.
 fn push_chunk<S: Source>(
     alloc: Global,
     source: &mut S,
@@ -92,7 +92,7 @@ fn chunk_guess(is_single: bool, column: &ColumnChunkMetaData) -> Option<DataType
     }
 }
 
-/// Adds the lines of a chunk that is read as its guess.
+/// AddsText the lines of a chunk that is read as its guess.
 fn push_guessed<S: Source>(
     alloc: Global,
     source: &mut S,
@@ -111,7 +111,7 @@ fn push_guessed<S: Source>(
     push_pages(alloc, source, text, number, column, rows, data_type)
 }
 
-/// Adds the line of what the statistics of a chunk tell.
+/// AddsText the line of what the statistics of a chunk tell.
 fn push_statistics(
     alloc: Global,
     text: &mut Text,
@@ -121,7 +121,7 @@ fn push_statistics(
 ) -> Result<(), Error>
     requires { guessed_by column.now.descriptor ≡ Some data_type.now }
     ensures told { let ends = unwrap_or (group_cells data_type.now column.now) no_ends in
-        Adds (statistics_line number ends) text.old result text.new }
+        AddsText (statistics_line number ends) text.old result text.new }
     ensures ok { OnOk result (group_causes data_type.now column.now ≡ []) }
     ensures cause { ComesOf result (group_causes data_type.now column.now) }
     ensures carried { IfErr result IsOfInspection }
@@ -132,20 +132,20 @@ fn push_statistics(
 }
 
 fn push_ends(text: &mut Text, number: usize, ends: &Ends<Cell>) -> Result<(), AllocError>
-    ensures { Adds (statistics_line number ends.now) text.old result text.new }
+    ensures { AddsText (statistics_line number ends.now) text.old result text.new }
 {
     text.push_labelled(b"stats ", number)?;
     push_told(text, &ends.min_value, &ends.max_value, ends.null_count)
 }
 
-/// Adds two ends and a number of nulls, and ends the line.
+/// AddsText two ends and a number of nulls, and ends the line.
 pub(crate) fn push_told(
     text: &mut Text,
     low: &Option<Cell>,
     high: &Option<Cell>,
     nulls: Option<u64>,
 ) -> Result<(), AllocError>
-    ensures { Adds (line (told_text low.now high.now nulls)) text.old result text.new }
+    ensures { AddsText (line (told_text low.now high.now nulls)) text.old result text.new }
 {
     push_end(text, low)?;
     push_end(text, high)?;
@@ -156,9 +156,9 @@ pub(crate) fn push_told(
     text.push(b"\n")
 }
 
-/// Adds an end behind a blank.
+/// AddsText an end behind a blank.
 fn push_end(text: &mut Text, end: &Option<Cell>) -> Result<(), AllocError>
-    ensures { Adds (told_end end.now) text.old result text.new }
+    ensures { AddsText (end_text end.now) text.old result text.new }
 {
     text.push(b" ")?;
     match end {

@@ -72,7 +72,7 @@ fn long_type(logical_type: Option<PrimitiveLogicalType>) -> DataType
 }
 
 fn unit_of(unit: ParquetTimeUnit) -> TimeUnit
-    ensures { result ≡ spec.unit_of unit }
+    ensures { result ≡ spec.time_unit_of unit }
 {
     match unit {
         ParquetTimeUnit::Milliseconds => TimeUnit::Millisecond,

@@ -5,7 +5,7 @@ ghost use Rattle.parquet_meta.specs.Indexes.{FindsIndex, column_index_length, lo
 ghost use Rattle.parquet_meta.specs.Keeps.{Keeps};
 ghost use Rattle.parquet_meta.specs.Reads.{ReadsFile};
 ghost use Rattle.parquet_meta.specs.Source.{Finds};
-ghost use Rattle.pq_common.specs.Texts.{Adds};
+ghost use Rattle.pq_common.specs.Texts.{AddsText};
 ghost use Rattle.inspect_program.specs.Calls.{IsOfInspection, Tells};
 ghost use Rattle.inspect_program.specs.Groups.{told_as};
 ghost use Rattle.inspect_program.specs.Guess.{guessed_type as guessed_by};
@@ -26,7 +26,7 @@ use pq_common::Text;
 use std::alloc::{AllocError, Global};
 use std::slice;
 
-/// Adds a line for each page of a chunk that tells its pages.
+/// AddsText a line for each page of a chunk that tells its pages.
 pub(crate) fn push_pages<S: Source>(
     alloc: Global,
     source: &mut S,
@@ -46,7 +46,7 @@ pub(crate) fn push_pages<S: Source>(
     push_told_pages(alloc, source, text, number, column, rows, data_type)
 }
 
-/// Adds a line for each page of a chunk.
+/// AddsText a line for each page of a chunk.
 fn push_told_pages<S: Source>(
     alloc: Global,
     source: &mut S,
@@ -173,7 +173,7 @@ fn index_of<S: Source>(
     }
 }
 
-/// Adds the lines of pages.
+/// AddsText the lines of pages.
 fn push_lines(
     text: &mut Text,
     number: usize,
@@ -181,7 +181,7 @@ fn push_lines(
     ends: &[PageIndex<Cell>],
 ) -> Result<(), AllocError>
     requires { length rows.now ≡ length ends.now }
-    ensures { Adds (flat_map (page_line number) (zip rows.now ends.now)) text.old result text.new }
+    ensures { AddsText (flat_map (page_line number) (zip rows.now ends.now)) text.old result text.new }
 {
     for i in 0..rows.len() {
         push_page(text, number, rows[i], &ends[i])?;
@@ -195,7 +195,7 @@ fn push_page(
     rows: Interval,
     page: &PageIndex<Cell>,
 ) -> Result<(), AllocError>
-    ensures { Adds (page_line number (rows, page.now)) text.old result text.new }
+    ensures { AddsText (page_line number (rows, page.now)) text.old result text.new }
 {
     text.push_labelled(b"page ", number)?;
     text.push_labelled(b" ", rows.start)?;

@@ -31,35 +31,35 @@ key_text key.UInt32 = codes "UInt32"
 key_text key.UInt64 = codes "UInt64"
 
 -- the name of a type, with no argument; one that holds fields has none
-abbrev pub name_text : Layer → List ℕ
-name_text DataType-F.Null = codes "Null"
-name_text DataType-F.Boolean = codes "Boolean"
-name_text DataType-F.Int8 = codes "Int8"
-name_text DataType-F.Int16 = codes "Int16"
-name_text DataType-F.Int32 = codes "Int32"
-name_text DataType-F.Int64 = codes "Int64"
-name_text DataType-F.UInt8 = codes "UInt8"
-name_text DataType-F.UInt16 = codes "UInt16"
-name_text DataType-F.UInt32 = codes "UInt32"
-name_text DataType-F.UInt64 = codes "UInt64"
-name_text DataType-F.Date32 = codes "Date32"
-name_text DataType-F.Date64 = codes "Date64"
-name_text (DataType-F.Time32 unit) = codes "Time32"
-name_text (DataType-F.Time64 unit) = codes "Time64"
-name_text (DataType-F.Duration unit) = codes "Duration"
-name_text (DataType-F.Timestamp unit zone) = codes "Timestamp"
-name_text (DataType-F.Interval unit) = codes "Interval"
-name_text (DataType-F.Decimal precision scale) = codes "Decimal"
-name_text DataType-F.Utf8 = codes "Utf8"
-name_text DataType-F.LargeUtf8 = codes "LargeUtf8"
-name_text DataType-F.Binary = codes "Binary"
-name_text DataType-F.LargeBinary = codes "LargeBinary"
-name_text (DataType-F.FixedSizeBinary size) = codes "FixedSizeBinary"
-name_text (DataType-F.Dictionary keys values ordered) = codes "Dictionary"
-name_text (DataType-F.List field) = []
-name_text (DataType-F.LargeList field) = []
-name_text (DataType-F.Struct fields) = []
-name_text (DataType-F.Map field ordered) = []
+abbrev pub bare_name : Layer → List ℕ
+bare_name DataType-F.Null = codes "Null"
+bare_name DataType-F.Boolean = codes "Boolean"
+bare_name DataType-F.Int8 = codes "Int8"
+bare_name DataType-F.Int16 = codes "Int16"
+bare_name DataType-F.Int32 = codes "Int32"
+bare_name DataType-F.Int64 = codes "Int64"
+bare_name DataType-F.UInt8 = codes "UInt8"
+bare_name DataType-F.UInt16 = codes "UInt16"
+bare_name DataType-F.UInt32 = codes "UInt32"
+bare_name DataType-F.UInt64 = codes "UInt64"
+bare_name DataType-F.Date32 = codes "Date32"
+bare_name DataType-F.Date64 = codes "Date64"
+bare_name (DataType-F.Time32 unit) = codes "Time32"
+bare_name (DataType-F.Time64 unit) = codes "Time64"
+bare_name (DataType-F.Duration unit) = codes "Duration"
+bare_name (DataType-F.Timestamp unit zone) = codes "Timestamp"
+bare_name (DataType-F.Interval unit) = codes "Interval"
+bare_name (DataType-F.Decimal precision scale) = codes "Decimal"
+bare_name DataType-F.Utf8 = codes "Utf8"
+bare_name DataType-F.LargeUtf8 = codes "LargeUtf8"
+bare_name DataType-F.Binary = codes "Binary"
+bare_name DataType-F.LargeBinary = codes "LargeBinary"
+bare_name (DataType-F.FixedSizeBinary size) = codes "FixedSizeBinary"
+bare_name (DataType-F.Dictionary keys values ordered) = codes "Dictionary"
+bare_name (DataType-F.List field) = []
+bare_name (DataType-F.LargeList field) = []
+bare_name (DataType-F.Struct fields) = []
+bare_name (DataType-F.Map field ordered) = []
 
 -- an argument in parentheses
 abbrev pub in_parentheses : List ℕ → List ℕ
@@ -82,7 +82,7 @@ argument_text layer = []
 
 -- a type that is no dictionary
 abbrev pub value_type_text : Layer → List ℕ
-value_type_text layer = name_text layer ++ argument_text layer
+value_type_text layer = bare_name layer ++ argument_text layer
 
 -- of a dictionary the types of its keys and of its entries
 abbrev pub type_text_at : Layer → List ℕ

@@ -4,7 +4,7 @@ ghost use Rattle.columns_core.specs.Causes.{IsWantOfMemory};
 ghost use Rattle.columns_core.specs.Lent.{cell_lent};
 ghost use Rattle.pq_common.specs.CellText as spec;
 ghost use Rattle.pq_common.specs.CellText.{quoted};
-ghost use Rattle.pq_common.specs.Texts.{Adds};
+ghost use Rattle.pq_common.specs.Texts.{AddsText};
 
 use crate::block::Block;
 use crate::cells::{push_lent, push_quoted};
@@ -39,41 +39,41 @@ impl Text {
         }
     }
 
-    /// Adds a piece.
+    /// AddsText a piece.
     pub fn push(&mut self, piece: &[u8]) -> Result<(), AllocError>
-        ensures { Adds piece.now self.old result self.new }
+        ensures { AddsText piece.now self.old result self.new }
     {
         self.block.push(&mut self.out, piece).map_err(|_| AllocError)
     }
 
-    /// Adds the decimal digits of a count.
+    /// AddsText the decimal digits of a count.
     pub fn push_count(&mut self, number: usize) -> Result<(), AllocError>
-        ensures { Adds (decimal number) self.old result self.new }
+        ensures { AddsText (decimal number) self.old result self.new }
     {
         self.block
             .push_unsigned(&mut self.out, number)
             .map_err(|_| AllocError)
     }
 
-    /// Adds a label, and the decimal digits of a count behind it.
+    /// AddsText a label, and the decimal digits of a count behind it.
     pub fn push_labelled(&mut self, label: &[u8], number: usize) -> Result<(), AllocError>
-        ensures { Adds (label.now ++ decimal number) self.old result self.new }
+        ensures { AddsText (label.now ++ decimal number) self.old result self.new }
     {
         self.block
             .push_labelled(&mut self.out, label, number)
             .map_err(|_| AllocError)
     }
 
-    /// Adds a text in quotes.
+    /// AddsText a text in quotes.
     pub fn push_quoted(&mut self, bytes: &[u8]) -> Result<(), AllocError>
-        ensures { Adds (quoted bytes.now) self.old result self.new }
+        ensures { AddsText (quoted bytes.now) self.old result self.new }
     {
         push_quoted(&mut self.block, &mut self.out, bytes).map_err(|_| AllocError)
     }
 
-    /// Adds a cell.
+    /// AddsText a cell.
     pub fn push_cell(&mut self, cell: &Cell) -> Result<(), AllocError>
-        ensures { Adds (spec.cell_text cell.now) self.old result self.new }
+        ensures { AddsText (spec.cell_text cell.now) self.old result self.new }
     {
         match lent_of(cell) {
             Some(lent) => push_lent(&mut self.block, &mut self.out, lent).map_err(|_| AllocError),

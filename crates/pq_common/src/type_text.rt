@@ -2,9 +2,9 @@
 ghost use Rattle.std.specs.Prelude.{◌≡◌, ◌++◌, codes, decimal, IfErr, IfOk};
 ghost use Rattle.columns_core.specs.Causes.{IsWantOfMemory};
 ghost use Rattle.columns_core.specs.declared.data_type.DataType.{out-DataType};
-ghost use Rattle.pq_common.specs.Texts.{Adds};
+ghost use Rattle.pq_common.specs.Texts.{AddsText};
 ghost use Rattle.pq_common.specs.TypeText as spec;
-ghost use Rattle.pq_common.specs.TypeText.{argument_text, both_texts, in_parentheses, interval_unit_text, key_text, name_text, unit_text, value_type_text};
+ghost use Rattle.pq_common.specs.TypeText.{argument_text, both_texts, in_parentheses, interval_unit_text, key_text, bare_name, unit_text, value_type_text};
 
 use crate::text::Text;
 use columns_core::{DataType, Error, IntegerType, IntervalUnit, TimeUnit};
@@ -21,9 +21,9 @@ pub fn type_text(alloc: Global, data_type: &DataType) -> Result<Vec<u8>, Error>
 }
 
 impl Text {
-    /// Adds the text that spells a type.
+    /// AddsText the text that spells a type.
     pub fn push_type(&mut self, data_type: &DataType) -> Result<(), AllocError>
-        ensures { Adds (spec.type_text data_type.now) self.old result self.new }
+        ensures { AddsText (spec.type_text data_type.now) self.old result self.new }
     {
         match data_type {
             DataType::Dictionary(keys, values, _) => self.push_dictionary(*keys, values.get()),
@@ -33,7 +33,7 @@ impl Text {
 
     fn push_dictionary(&mut self, keys: IntegerType, values: &DataType) -> Result<(), AllocError>
         ensures { let argument = both_texts (key_text keys) (value_type_text (out-DataType values.now)) in
-            Adds (codes "Dictionary" ++ in_parentheses argument) self.old result self.new }
+            AddsText (codes "Dictionary" ++ in_parentheses argument) self.old result self.new }
     {
         self.push(b"Dictionary(")?;
         self.push(key_name(keys).as_bytes())?;
@@ -42,17 +42,17 @@ impl Text {
         self.push(b")")
     }
 
-    /// Adds the text of a type that is no dictionary.
+    /// AddsText the text of a type that is no dictionary.
     fn push_value_type(&mut self, data_type: &DataType) -> Result<(), AllocError>
-        ensures { Adds (value_type_text (out-DataType data_type.now)) self.old result self.new }
+        ensures { AddsText (value_type_text (out-DataType data_type.now)) self.old result self.new }
     {
         self.push(type_name(data_type).as_bytes())?;
         self.push_argument(data_type)
     }
 
-    /// Adds what stands behind the name of a type that is no dictionary.
+    /// AddsText what stands behind the name of a type that is no dictionary.
     fn push_argument(&mut self, data_type: &DataType) -> Result<(), AllocError>
-        ensures { Adds (argument_text (out-DataType data_type.now)) self.old result self.new }
+        ensures { AddsText (argument_text (out-DataType data_type.now)) self.old result self.new }
     {
         match data_type {
             DataType::Time32(unit)
@@ -67,7 +67,7 @@ impl Text {
     }
 
     fn push_in_parentheses(&mut self, argument: &str) -> Result<(), AllocError>
-        ensures { Adds (in_parentheses argument.now) self.old result self.new }
+        ensures { AddsText (in_parentheses argument.now) self.old result self.new }
     {
         self.push(b"(")?;
         self.push(argument.as_bytes())?;
@@ -76,7 +76,7 @@ impl Text {
 
     fn push_digits_of(&mut self, precision: usize, scale: usize) -> Result<(), AllocError>
         ensures { let argument = both_texts (decimal precision) (decimal scale) in
-            Adds (in_parentheses argument) self.old result self.new }
+            AddsText (in_parentheses argument) self.old result self.new }
     {
         self.push_labelled(b"(", precision)?;
         self.push_labelled(b",", scale)?;
@@ -84,7 +84,7 @@ impl Text {
     }
 
     fn push_size(&mut self, size: usize) -> Result<(), AllocError>
-        ensures { Adds (in_parentheses (decimal size)) self.old result self.new }
+        ensures { AddsText (in_parentheses (decimal size)) self.old result self.new }
     {
         self.push_labelled(b"(", size)?;
         self.push(b")")
@@ -128,7 +128,7 @@ fn key_name(keys: IntegerType) -> &'static str
 
 /// The name of a type, with no argument.
 fn type_name(data_type: &DataType) -> &'static str
-    ensures { result.now ≡ name_text (out-DataType data_type.now) }
+    ensures { result.now ≡ bare_name (out-DataType data_type.now) }
 {
     match data_type {
         DataType::Null => "Null",
