@@ -17,11 +17,11 @@ use crate::groups::push_told;
 use column_ends::index_ends;
 use columns_core::{Cell, DataType, Error, Part};
 use parquet_base::Interval;
-use parquet_indexes::compute_page_row_intervals;
 use parquet_meta::{
     ColumnChunkMetaData, Index, PageIndex, PageLocation, PhysicalType, Source,
     read_pages_locations, read_raw_indexes,
 };
+use parquet_page::page_row_intervals;
 use pq_common::Text;
 use std::alloc::{AllocError, Global};
 use std::slice;
@@ -110,7 +110,7 @@ fn rows_of_pages<S: Source>(
     ensures taken { S.taken source.new ≤ S.taken source.old + offset_index_length column.now }
 {
     let locations = locations_of(alloc, source, column)?;
-    compute_page_row_intervals(alloc, &locations, rows)
+    page_row_intervals(alloc, &locations, rows)
 }
 
 /// Where the pages of a chunk stand.
