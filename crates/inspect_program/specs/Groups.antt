@@ -1,5 +1,5 @@
 -- The lines of row groups, and what may be wrong with the parts of the file that they are told from.
-use Rattle.std.specs.Prelude.{ℕ, Bool, List, [], ◌++◌, filter_map, flat_map, map, zip, codes, decimal, sum_by, if◌then◌else◌, unwrap_or, Option, None, option_map}
+use Rattle.std.specs.Prelude.{ℕ, Bool, List, ◌++◌, filter_map, flat_map, map, zip, codes, decimal, sum_by, if◌then◌else◌, unwrap_or, Option, None, option_map}
 use Rattle.std.specs.List.{enumerate_from}
 use Rattle.columns_core.specs.Causes.{Cause}
 use Rattle.columns_core.specs.declared.cell.Cell.{Cell}
@@ -10,7 +10,7 @@ use Rattle.parquet_meta.specs.declared.metadata.ColumnDescriptor.{ColumnDescript
 use Rattle.parquet_meta.specs.declared.metadata.Ends.{Ends}
 use Rattle.parquet_meta.specs.declared.metadata.RowGroupMetaData.{RowGroupMetaData}
 use Rattle.pq_common.specs.Rows.{line}
-use Rattle.inspect_program.specs.Guess.{guessed_type, is_single}
+use Rattle.inspect_program.specs.Guess.{chunk_type, is_single}
 use Rattle.inspect_program.specs.Pages.{indexes_length, pages_causes, pages_text, told_text}
 
 -- ---- chunks
@@ -48,7 +48,7 @@ told_as number data_type column = record { number = number; data_type = data_typ
 abbrev pub told_chunk : ℕ × (Bool × ColumnChunkMetaData) → Option ToldChunk
 told_chunk chunk =
     option_map (λ data_type. told_as chunk.0 data_type (chunk.1).1)
-    (if (chunk.1).0 then guessed_type ((chunk.1).1).descriptor else None)
+    (if (chunk.1).0 then chunk_type ((chunk.1).1).descriptor else None)
 
 -- the chunks of columns with a guess; the chunks of a group stand in the order of the columns
 abbrev pub told_chunks : List Bool → List ColumnChunkMetaData → List ToldChunk

@@ -1,5 +1,5 @@
 -- The type that a column is read as where nobody says one.
-use Rattle.std.specs.Prelude.{ℕ, Bool, true, false, ◌==◌, count_by, List, [], ◌∷◌, if◌then◌else◌, Option, Some, None, option_and_then, option_map}
+use Rattle.std.specs.Prelude.{ℕ, Bool, true, false, ◌==◌, ◌&&◌, nat_lt, count_by, List, [], ◌∷◌, if◌then◌else◌, is_some, Option, Some, None, option_and_then, option_map}
 use Rattle.std.specs.Option.{option_map_or}
 use Rattle.std.specs.Str.{bytes_eq}
 use Rattle.columns_core.specs.declared.data_type.DataType.{DataType}
@@ -70,7 +70,21 @@ is_begun name column = option_map_or (bytes_eq name) (first_name column.path_in_
 
 -- no other column's path begins with the name that this one's begins with
 abbrev pub is_single : List ColumnDescriptor → ColumnDescriptor → Bool
-is_single columns column = option_map_or (λ name. count_by (λ other. is_begun name other) columns == 1) (first_name column.path_in_schema) false
+is_single columns column =
+    option_map_or (λ name. count_by (is_begun name) columns == 1) (first_name column.path_in_schema) false
 
 abbrev pub guess_in : List ColumnDescriptor → ColumnDescriptor → Option DataType
 guess_in columns column = if is_single columns column then guessed_type column else None
+
+-- ---- of the column of a chunk
+
+abbrev pub has_length : PhysicalType → Bool
+has_length (types.FixedLenByteArray size) = nat_lt 0 size
+has_length type = true
+
+-- The path of a column in a file has a name, and its fixed bytes have a length.
+abbrev pub is_of_file : ColumnDescriptor → Bool
+is_of_file column = is_some (first_name column.path_in_schema) && has_length column.primitive_type.physical_type
+
+abbrev pub chunk_type : ColumnDescriptor → Option DataType
+chunk_type column = if is_of_file column then guessed_type column else None

@@ -1,11 +1,8 @@
 -- The sections of an inspection that calls tell.
-use Rattle.std.specs.Prelude.{ℕ, Bool, List, flat_map, sum_by, if◌then◌else◌}
-use Rattle.std.specs.List.{enumerate_from}
-use Rattle.columns_core.specs.declared.data_type.DataType.{DataType}
-use Rattle.parquet_meta.specs.declared.metadata.ColumnChunkMetaData.{ColumnChunkMetaData}
+use Rattle.std.specs.Prelude.{ℕ, Bool, List, flat_map, sum_by}
 use Rattle.parquet_meta.specs.declared.metadata.RowGroupMetaData.{RowGroupMetaData}
 use Rattle.inspect_program.specs.Calls.{Section}
-use Rattle.inspect_program.specs.Groups.{ToldChunk, told_chunk_causes, told_chunk_text, group_causes_told, group_indexes_length, group_text, told_chunks}
+use Rattle.inspect_program.specs.Groups.{ToldChunk, told_chunk_causes, told_chunk_text, group_causes_told, group_indexes_length, group_text}
 use Rattle.inspect_program.specs.Pages.{both_indexes_length, indexes_causes, indexes_length, page_line, pages_causes, pages_text, told_pages}
 
 -- of the pages of a chunk, in a group of so many rows, where it has lines of pages

@@ -12,7 +12,7 @@ use parquet_meta::ColumnDescriptor;
 use pq_common::Text;
 use std::alloc::{AllocError, Global};
 
-/// AddsText a line for each column, of which these begin as no other does.
+/// Adds a line for each column, of which these begin as no other does.
 pub(crate) fn push_columns(
     alloc: Global,
     text: &mut Text,
@@ -32,7 +32,7 @@ pub(crate) fn push_columns(
     Ok(())
 }
 
-/// AddsText names to a path, with a dot between each two.
+/// Adds names to a path, with a dot between each two.
 fn join_names(path: &mut Vec<u8>, names: &[Name]) -> Result<(), AllocError>
     ensures { let joined = join_by (λ name. name) (codes ".") names.now in
         IfOk result (λ _. path.new.items ≡ path.old.items ++ joined) }
@@ -46,7 +46,7 @@ fn join_names(path: &mut Vec<u8>, names: &[Name]) -> Result<(), AllocError>
     Ok(())
 }
 
-/// AddsText the path of a column, and its guess or a dash.
+/// Adds the path of a column, and its guess or a dash.
 fn push_column(
     text: &mut Text,
     path: &[u8],

@@ -3,6 +3,7 @@ ghost use Rattle.std.specs.Prelude.{◌≡◌, ◌≤◌, ◌+◌, Some, IfErr, 
 ghost use Rattle.parquet_meta.specs.Reads.{ReadsFile};
 ghost use Rattle.inspect_program.specs.Calls.{IsOfInspection};
 ghost use Rattle.inspect_program.specs.Inspection.{inspection, inspection_causes, most_inspected};
+ghost use Rattle.inspect_program.specs.Inspection.{told_groups_causes, told_indexes_length, told_metadata};
 
 use crate::columns::push_columns;
 use crate::groups::push_group;
@@ -34,6 +35,12 @@ fn text_of<S: Source>(
     source: &mut S,
     metadata: &FileMetaData,
 ) -> Result<Text, Error>
+    ensures reads { ReadsFile S.Source source.old source.new (λ bytes.
+        told_groups_causes bytes metadata.now) result }
+    ensures text { IfOk result (λ text. IfSome (S.told source.old) (λ bytes.
+        text ≡ told_metadata bytes metadata.now)) }
+    ensures carried { IfErr result IsOfInspection }
+    ensures taken { S.taken source.new ≤ S.taken source.old + told_indexes_length metadata.now }
 {
     let columns = metadata.columns.as_slice();
     let singles = are_single(alloc, columns)?;

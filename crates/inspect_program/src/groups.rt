@@ -6,11 +6,11 @@ ghost use Rattle.pq_common.specs.Rows.{line};
 ghost use Rattle.pq_common.specs.Texts.{AddsText};
 ghost use Rattle.inspect_program.specs.Calls.{IsOfInspection, Tells};
 ghost use Rattle.inspect_program.specs.Groups.{rows_line, no_ends, statistics_line, told_as, told_chunk, told_chunks};
-ghost use Rattle.inspect_program.specs.Guess.{guessed_type as guessed_by};
+ghost use Rattle.inspect_program.specs.Guess.{chunk_type as chunk_type_by};
 ghost use Rattle.inspect_program.specs.Pages.{end_text, told_text};
 ghost use Rattle.inspect_program.specs.Sections.{chunks_section, groups_section};
 
-use crate::guess::guessed_type;
+use crate::guess::chunk_type;
 use crate::pages::push_pages;
 use column_ends::statistics_ends;
 use columns_core::{Cell, DataType, Error};
@@ -18,7 +18,7 @@ use parquet_meta::{ColumnChunkMetaData, Ends, RowGroupMetaData, Source};
 use pq_common::Text;
 use std::alloc::{AllocError, Global};
 
-/// AddsText the line of a group, and then those of its chunks.
+/// Adds the line of a group, and then those of its chunks.
 pub(crate) fn push_group<S: Source>(
     alloc: Global,
     source: &mut S,
@@ -42,7 +42,7 @@ fn push_group_line(text: &mut Text, number: usize, rows: usize) -> Result<(), Al
     text.push(b"\n")
 }
 
-/// AddsText the lines of the chunks of a group whose columns have a guess.
+/// Adds the lines of the chunks of a group whose columns have a guess.
 fn push_chunks<S: Source>(
     alloc: Global,
     source: &mut S,
@@ -62,7 +62,7 @@ fn push_chunks<S: Source>(
     Ok(())
 }
 
-/// AddsText the lines of a chunk, if it has a guess.
+/// Adds the lines of a chunk, if it has a guess.
 fn push_chunk<S: Source>(
     alloc: Global,
     source: &mut S,
@@ -83,16 +83,16 @@ fn push_chunk<S: Source>(
 }
 
 fn chunk_guess(is_single: bool, column: &ColumnChunkMetaData) -> Option<DataType>
-    ensures { result ≡ (if is_single then guessed_by column.now.descriptor else None) }
+    ensures { result ≡ (if is_single then chunk_type_by column.now.descriptor else None) }
 {
     if is_single {
-        guessed_type(&column.descriptor)
+        chunk_type(&column.descriptor)
     } else {
         None
     }
 }
 
-/// AddsText the lines of a chunk that is read as its guess.
+/// Adds the lines of a chunk that is read as its guess.
 fn push_guessed<S: Source>(
     alloc: Global,
     source: &mut S,
@@ -102,7 +102,7 @@ fn push_guessed<S: Source>(
     rows: usize,
     data_type: &DataType,
 ) -> Result<(), Error>
-    requires { guessed_by column.now.descriptor ≡ Some data_type.now }
+    requires { chunk_type_by column.now.descriptor ≡ Some data_type.now }
     ensures { let chunk = told_as number data_type.now column.now in
         let section = chunks_section rows (chunk ∷ []) in
         Tells S.Source source.old source.new section text.old text.new result }
@@ -111,7 +111,7 @@ fn push_guessed<S: Source>(
     push_pages(alloc, source, text, number, column, rows, data_type)
 }
 
-/// AddsText the line of what the statistics of a chunk tell.
+/// Adds the line of what the statistics of a chunk tell.
 fn push_statistics(
     alloc: Global,
     text: &mut Text,
@@ -119,7 +119,7 @@ fn push_statistics(
     column: &ColumnChunkMetaData,
     data_type: &DataType,
 ) -> Result<(), Error>
-    requires { guessed_by column.now.descriptor ≡ Some data_type.now }
+    requires { chunk_type_by column.now.descriptor ≡ Some data_type.now }
     ensures told { let ends = unwrap_or (group_cells data_type.now column.now) no_ends in
         AddsText (statistics_line number ends) text.old result text.new }
     ensures ok { OnOk result (group_causes data_type.now column.now ≡ []) }
@@ -138,7 +138,7 @@ fn push_ends(text: &mut Text, number: usize, ends: &Ends<Cell>) -> Result<(), Al
     push_told(text, &ends.min_value, &ends.max_value, ends.null_count)
 }
 
-/// AddsText two ends and a number of nulls, and ends the line.
+/// Adds two ends and a number of nulls, and ends the line.
 pub(crate) fn push_told(
     text: &mut Text,
     low: &Option<Cell>,
@@ -156,7 +156,7 @@ pub(crate) fn push_told(
     text.push(b"\n")
 }
 
-/// AddsText an end behind a blank.
+/// Adds an end behind a blank.
 fn push_end(text: &mut Text, end: &Option<Cell>) -> Result<(), AllocError>
     ensures { AddsText (end_text end.now) text.old result text.new }
 {

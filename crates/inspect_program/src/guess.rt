@@ -46,6 +46,39 @@ pub(crate) fn guessed_type(column: &ColumnDescriptor) -> Option<DataType>
     }
 }
 
+/// The type that a chunk of a column is read as. The path of a column in a file has a name, and its fixed bytes have a length.
+pub(crate) fn chunk_type(column: &ColumnDescriptor) -> Option<DataType>
+    ensures { result ≡ spec.chunk_type column.now }
+{
+    if is_of_file(column) {
+        guessed_type(column)
+    } else {
+        None
+    }
+}
+
+fn is_of_file(column: &ColumnDescriptor) -> bool
+    ensures { result ≡ spec.is_of_file column.now }
+{
+    column.path_in_schema.as_slice().first().is_some()
+        && has_length(column.primitive_type.physical_type)
+}
+
+fn has_length(stored: PhysicalType) -> bool
+    ensures { result ≡ spec.has_length stored }
+{
+    match stored {
+        PhysicalType::FixedLenByteArray(size) => size > 0,
+        PhysicalType::Boolean
+        | PhysicalType::Int32
+        | PhysicalType::Int64
+        | PhysicalType::Int96
+        | PhysicalType::Float
+        | PhysicalType::Double
+        | PhysicalType::ByteArray => true,
+    }
+}
+
 fn type_for(stored: PrimitiveType) -> Option<DataType>
     ensures { result ≡ spec.type_for stored.physical_type stored.logical_type }
 {

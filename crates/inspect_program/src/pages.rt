@@ -1,5 +1,5 @@
 //! The lines of pages, of what their indexes tell.
-ghost use Rattle.std.specs.Prelude.{◌≡◌, ◌≤◌, ◌+◌, zip, flat_map, length, option_and_then, IfErr, IfOk, IfSome, OnOk, Some};
+ghost use Rattle.std.specs.Prelude.{◌≡◌, ◌≤◌, ◌+◌, zip, flat_map, length, option_and_then, IfErr, IfOk, IfSome, IsSome, OnOk, Some};
 ghost use Rattle.parquet_meta.specs.Code.{not_negative};
 ghost use Rattle.parquet_meta.specs.Indexes.{FindsIndex, column_index_length, locations_of as locations_by, offset_index_length};
 ghost use Rattle.parquet_meta.specs.Keeps.{Keeps};
@@ -8,7 +8,7 @@ ghost use Rattle.parquet_meta.specs.Source.{Finds};
 ghost use Rattle.pq_common.specs.Texts.{AddsText};
 ghost use Rattle.inspect_program.specs.Calls.{IsOfInspection, Tells};
 ghost use Rattle.inspect_program.specs.Groups.{told_as};
-ghost use Rattle.inspect_program.specs.Guess.{guessed_type as guessed_by};
+ghost use Rattle.inspect_program.specs.Guess.{chunk_type as chunk_type_by, first_name};
 ghost use Rattle.inspect_program.specs.Pages as spec;
 ghost use Rattle.inspect_program.specs.Pages.{ends_causes, page_cells, page_line, page_rows, rows_causes};
 ghost use Rattle.inspect_program.specs.Sections.{indexes_section, pages_section};
@@ -26,7 +26,7 @@ use pq_common::Text;
 use std::alloc::{AllocError, Global};
 use std::slice;
 
-/// AddsText a line for each page of a chunk that tells its pages.
+/// Adds a line for each page of a chunk that tells its pages.
 pub(crate) fn push_pages<S: Source>(
     alloc: Global,
     source: &mut S,
@@ -36,7 +36,7 @@ pub(crate) fn push_pages<S: Source>(
     rows: usize,
     data_type: &DataType,
 ) -> Result<(), Error>
-    requires { guessed_by column.now.descriptor ≡ Some data_type.now }
+    requires { chunk_type_by column.now.descriptor ≡ Some data_type.now }
     ensures { let section = pages_section rows (told_as number data_type.now column.now) in
         Tells S.Source source.old source.new section text.old text.new result }
 {
@@ -46,7 +46,7 @@ pub(crate) fn push_pages<S: Source>(
     push_told_pages(alloc, source, text, number, column, rows, data_type)
 }
 
-/// AddsText a line for each page of a chunk.
+/// Adds a line for each page of a chunk.
 fn push_told_pages<S: Source>(
     alloc: Global,
     source: &mut S,
@@ -56,7 +56,7 @@ fn push_told_pages<S: Source>(
     rows: usize,
     data_type: &DataType,
 ) -> Result<(), Error>
-    requires { guessed_by column.now.descriptor ≡ Some data_type.now }
+    requires { chunk_type_by column.now.descriptor ≡ Some data_type.now }
     ensures { let section = indexes_section rows (told_as number data_type.now column.now) in
         Tells S.Source source.old source.new section text.old text.new result }
 {
@@ -139,7 +139,7 @@ fn ends_of_pages<S: Source>(
     column: &ColumnChunkMetaData,
     data_type: &DataType,
 ) -> Result<Vec<PageIndex<Cell>>, Error>
-    requires { guessed_by column.now.descriptor ≡ Some data_type.now }
+    requires { chunk_type_by column.now.descriptor ≡ Some data_type.now }
     ensures reads { ReadsFile S.Source source.old source.new (λ bytes.
         ends_causes data_type.now bytes column.now) result }
     ensures ends { IfOk result (λ found. IfSome (S.told source.old) (λ bytes.
@@ -157,6 +157,7 @@ fn index_of<S: Source>(
     source: &mut S,
     column: &ColumnChunkMetaData,
 ) -> Result<Index, Error>
+    requires { IsSome (first_name column.now.descriptor.path_in_schema) }
     ensures keeps { Keeps S.Source source.old source.new }
     ensures quiet { OnOk result (S.faults source.new ≡ S.faults source.old) }
     ensures found { FindsIndex column.now
@@ -173,7 +174,7 @@ fn index_of<S: Source>(
     }
 }
 
-/// AddsText the lines of pages.
+/// Adds the lines of pages.
 fn push_lines(
     text: &mut Text,
     number: usize,

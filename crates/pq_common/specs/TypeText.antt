@@ -1,5 +1,5 @@
 -- Types as text: what spells them.
-use Rattle.std.specs.Prelude.{◌<◌, ◌^◌, ◌≡◌, ℕ, List, [], ◌++◌, codes, decimal, Some}
+use Rattle.std.specs.Prelude.{ℕ, List, [], ◌++◌, codes, decimal}
 use Rattle.columns_core.specs.Types.{Layer}
 use Rattle.columns_core.specs.declared.data_type.DataType.{DataType, out-DataType}
 use Rattle.columns_core.specs.declared.data_type.DataType.TheOpen.{DataType-F}
@@ -78,7 +78,28 @@ argument_text (DataType-F.Timestamp unit zone) = in_parentheses (unit_text unit)
 argument_text (DataType-F.Interval unit) = in_parentheses (interval_unit_text unit)
 argument_text (DataType-F.Decimal precision scale) = in_parentheses (both_texts (decimal precision) (decimal scale))
 argument_text (DataType-F.FixedSizeBinary size) = in_parentheses (decimal size)
-argument_text layer = []
+argument_text DataType-F.Null = []
+argument_text DataType-F.Boolean = []
+argument_text DataType-F.Int8 = []
+argument_text DataType-F.Int16 = []
+argument_text DataType-F.Int32 = []
+argument_text DataType-F.Int64 = []
+argument_text DataType-F.UInt8 = []
+argument_text DataType-F.UInt16 = []
+argument_text DataType-F.UInt32 = []
+argument_text DataType-F.UInt64 = []
+argument_text DataType-F.Date32 = []
+argument_text DataType-F.Date64 = []
+argument_text DataType-F.Utf8 = []
+argument_text DataType-F.LargeUtf8 = []
+argument_text DataType-F.Binary = []
+argument_text DataType-F.LargeBinary = []
+-- a type inside a type is none that a text spells
+argument_text (DataType-F.Dictionary keys values ordered) = []
+argument_text (DataType-F.List field) = []
+argument_text (DataType-F.LargeList field) = []
+argument_text (DataType-F.Struct fields) = []
+argument_text (DataType-F.Map field ordered) = []
 
 -- a type that is no dictionary
 abbrev pub value_type_text : Layer → List ℕ

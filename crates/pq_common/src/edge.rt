@@ -1,6 +1,8 @@
 //! The edge of a tool: the words of its process, the file that the first of them names, standard output, and how the process ends.
-ghost use Rattle.std.specs.Prelude.{◌≡◌, ◌⊎◌, IfErr, IfOk, map, string_bytes};
-ghost use Rattle.pq_common.specs.Edge.{EndsAtTheEdge, first_word};
+ghost use Rattle.std.specs.Prelude.{◌≡◌, IfErr, IfOk, map, string_bytes};
+ghost use Rattle.std.specs.Process.{exit_status};
+ghost use Rattle.pq_common.specs.Edge.{EndsAtTheEdge, ending_without_words, first_word};
+ghost use Rattle.pq_common.specs.Endings.{status_number};
 
 use crate::sink::StdSink;
 use crate::status::{Status, tool_text};
@@ -49,15 +51,13 @@ fn words_of<R: Env + AllocGlobal>(rt: &R) -> Result<Vec<String>, Status>
     }
 }
 
-/// A word that is not UTF-8 is a faulty command line. It is told apart from want of memory, and from words that the
-/// system does not hand out.
+/// A word that is not UTF-8 is a faulty command line, which is told apart from want of memory. The system hands out no words in no other way.
 fn status_without_words(kind: ErrorKind) -> Status
-    ensures { EndsAtTheEdge result }
+    ensures { result ≡ ending_without_words kind }
 {
     match kind {
         ErrorKind::InvalidData => Status::Words,
-        ErrorKind::OutOfMemory => Status::Memory,
-        _ => Status::Reading,
+        _ => Status::Memory,
     }
 }
 
@@ -73,7 +73,9 @@ fn path_of(alloc: Global, words: &[String]) -> Result<String, Status>
 }
 
 /// Says on standard error how a run of a tool ended, unless all is done, and gives the exit status of its process.
-pub fn end<R: Eprint>(rt: &R, tool: &str, usage: &'static str, status: Status) -> ExitCode {
+pub fn end<R: Eprint>(rt: &R, tool: &str, usage: &'static str, status: Status) -> ExitCode
+    ensures { exit_status result ≡ status_number status }
+{
     if status != Status::Done {
         let _ = eprintln!(rt; "{tool}: {}", tool_text(status, usage));
     }

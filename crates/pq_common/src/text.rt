@@ -39,23 +39,14 @@ impl Text {
         }
     }
 
-    /// AddsText a piece.
+    /// Adds a piece.
     pub fn push(&mut self, piece: &[u8]) -> Result<(), AllocError>
         ensures { AddsText piece.now self.old result self.new }
     {
         self.block.push(&mut self.out, piece).map_err(|_| AllocError)
     }
 
-    /// AddsText the decimal digits of a count.
-    pub fn push_count(&mut self, number: usize) -> Result<(), AllocError>
-        ensures { AddsText (decimal number) self.old result self.new }
-    {
-        self.block
-            .push_unsigned(&mut self.out, number)
-            .map_err(|_| AllocError)
-    }
-
-    /// AddsText a label, and the decimal digits of a count behind it.
+    /// Adds a label, and the decimal digits of a count behind it.
     pub fn push_labelled(&mut self, label: &[u8], number: usize) -> Result<(), AllocError>
         ensures { AddsText (label.now ++ decimal number) self.old result self.new }
     {
@@ -64,14 +55,14 @@ impl Text {
             .map_err(|_| AllocError)
     }
 
-    /// AddsText a text in quotes.
+    /// Adds a text in quotes.
     pub fn push_quoted(&mut self, bytes: &[u8]) -> Result<(), AllocError>
         ensures { AddsText (quoted bytes.now) self.old result self.new }
     {
         push_quoted(&mut self.block, &mut self.out, bytes).map_err(|_| AllocError)
     }
 
-    /// AddsText a cell.
+    /// Adds a cell.
     pub fn push_cell(&mut self, cell: &Cell) -> Result<(), AllocError>
         ensures { AddsText (spec.cell_text cell.now) self.old result self.new }
     {

@@ -21,7 +21,7 @@ pub fn type_text(alloc: Global, data_type: &DataType) -> Result<Vec<u8>, Error>
 }
 
 impl Text {
-    /// AddsText the text that spells a type.
+    /// Adds the text that spells a type.
     pub fn push_type(&mut self, data_type: &DataType) -> Result<(), AllocError>
         ensures { AddsText (spec.type_text data_type.now) self.old result self.new }
     {
@@ -42,7 +42,7 @@ impl Text {
         self.push(b")")
     }
 
-    /// AddsText the text of a type that is no dictionary.
+    /// Adds the text of a type that is no dictionary.
     fn push_value_type(&mut self, data_type: &DataType) -> Result<(), AllocError>
         ensures { AddsText (value_type_text (out-DataType data_type.now)) self.old result self.new }
     {
@@ -50,7 +50,7 @@ impl Text {
         self.push_argument(data_type)
     }
 
-    /// AddsText what stands behind the name of a type that is no dictionary.
+    /// Adds what stands behind the name of a type that is no dictionary.
     fn push_argument(&mut self, data_type: &DataType) -> Result<(), AllocError>
         ensures { AddsText (argument_text (out-DataType data_type.now)) self.old result self.new }
     {
