@@ -1,3 +1,4 @@
+pub mod AddLemmas
 pub mod Appended
 mod Examples
 pub mod HexLemmas

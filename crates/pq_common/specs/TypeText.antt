@@ -47,7 +47,7 @@ bare_name DataType-F.Date64 = codes "Date64"
 bare_name (DataType-F.Time32 unit) = codes "Time32"
 bare_name (DataType-F.Time64 unit) = codes "Time64"
 bare_name (DataType-F.Duration unit) = codes "Duration"
-bare_name (DataType-F.Timestamp unit zone) = codes "Timestamp"
+bare_name (DataType-F.Timestamp unit time_zone) = codes "Timestamp"
 bare_name (DataType-F.Interval unit) = codes "Interval"
 bare_name (DataType-F.Decimal precision scale) = codes "Decimal"
 bare_name DataType-F.Utf8 = codes "Utf8"
@@ -74,7 +74,7 @@ abbrev pub argument_text : Layer → List ℕ
 argument_text (DataType-F.Time32 unit) = in_parentheses (unit_text unit)
 argument_text (DataType-F.Time64 unit) = in_parentheses (unit_text unit)
 argument_text (DataType-F.Duration unit) = in_parentheses (unit_text unit)
-argument_text (DataType-F.Timestamp unit zone) = in_parentheses (unit_text unit)
+argument_text (DataType-F.Timestamp unit time_zone) = in_parentheses (unit_text unit)
 argument_text (DataType-F.Interval unit) = in_parentheses (interval_unit_text unit)
 argument_text (DataType-F.Decimal precision scale) = in_parentheses (both_texts (decimal precision) (decimal scale))
 argument_text (DataType-F.FixedSizeBinary size) = in_parentheses (decimal size)

@@ -59,7 +59,11 @@ pub fn push_cell<K: Sink>(
 }
 
 /// Takes a cell, which is read where it lies.
-pub(crate) fn push_lent<K: Sink>(block: &mut Block, out: &mut K, cell: Lent<'_>) -> Result<(), Failed>
+pub(crate) fn push_lent<K: Sink>(
+    block: &mut Block,
+    out: &mut K,
+    cell: Lent<'_>,
+) -> Result<(), Failed>
     ensures { let text = cell_text (cell_lent cell.entry) in
         TakesBytes K.Sink out.old out.new (block.old ++ text) block.new result }
 {

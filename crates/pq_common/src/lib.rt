@@ -14,7 +14,7 @@ mod sink;
 mod status;
 mod text;
 mod text_column;
-mod type_text;
+mod type_names;
 mod types;
 mod values;
 
@@ -25,11 +25,13 @@ pub use edge::{Edge, end};
 pub use numbers::{count, signed_number};
 pub use parquet_meta::Failed as OutFailed;
 pub use rows::push_row_lines;
-pub use sink::{FailingSink, MemorySink, Sink, StdSink, write_all};
-pub use sink::{FailingSink as FailingOut, MemorySink as MemoryOut, Sink as Out, StdSink as StdOut};
+pub use sink::{
+    FailingSink, FailingSink as FailingOut, MemorySink, MemorySink as MemoryOut, Sink, Sink as Out,
+    StdSink, StdSink as StdOut, write_all,
+};
 pub use status::{Status, Status as ToolStatus, status_of, status_text, tool_text};
 pub use text::{Text, cell_text};
 pub use text_column::push_text_lines;
-pub use type_text::type_text;
+pub use type_names::type_text;
 pub use types::data_type;
 pub use values::value;

@@ -43,7 +43,9 @@ impl Text {
     pub fn push(&mut self, piece: &[u8]) -> Result<(), AllocError>
         ensures { AddsText piece.now self.old result self.new }
     {
-        self.block.push(&mut self.out, piece).map_err(|_| AllocError)
+        self.block
+            .push(&mut self.out, piece)
+            .map_err(|_| AllocError)
     }
 
     /// Adds a label, and the decimal digits of a count behind it.

@@ -36,10 +36,22 @@ impl Text {
             AddsText (codes "Dictionary" ++ in_parentheses argument) self.old result self.new }
     {
         self.push(b"Dictionary(")?;
+        self.push_keys_and_values(keys, values)?;
+        self.push(b")")
+    }
+
+    /// Adds the type of the keys of a dictionary and that of its entries, with a comma between them.
+    fn push_keys_and_values(
+        &mut self,
+        keys: IntegerType,
+        values: &DataType,
+    ) -> Result<(), AllocError>
+        ensures { let text = both_texts (key_text keys) (value_type_text (out-DataType values.now)) in
+            AddsText text self.old result self.new }
+    {
         self.push(key_name(keys).as_bytes())?;
         self.push(b",")?;
-        self.push_value_type(values)?;
-        self.push(b")")
+        self.push_value_type(values)
     }
 
     /// Adds the text of a type that is no dictionary.
@@ -155,6 +167,7 @@ fn type_name(data_type: &DataType) -> &'static str
         DataType::LargeBinary => "LargeBinary",
         DataType::FixedSizeBinary(_) => "FixedSizeBinary",
         DataType::Dictionary(_, _, _) => "Dictionary",
-        DataType::List(_) | DataType::LargeList(_) | DataType::Struct(_) | DataType::Map(_, _) => "",
+        DataType::List(_) | DataType::LargeList(_) | DataType::Struct(_) | DataType::Map(_, _) =>
+            "",
     }
 }
