@@ -1,1 +1,4 @@
+pub mod ListLemmas
+pub mod SectionLemmas
+pub mod SingleLemmas
 pub mod TellsLemmas

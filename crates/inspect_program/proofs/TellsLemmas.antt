@@ -76,25 +76,28 @@ text_as None part whole s t r same adds = tt
 text_as (Some bytes) part whole s t (Ok x) same adds = adds ∙ ap (λ text. s ++ text) (sym (same bytes))
 text_as (Some bytes) part whole s t (Err e) same adds = tt
 
-no_text_told : {T E : Type 0} (told : Option (List ℕ)) (text : List ℕ → List ℕ) (s t : List ℕ) (e : E) → IfSome told (λ bytes. AddsText {T = T} (text bytes) s (Err e) t)
-no_text_told None text s t e = tt
-no_text_told (Some bytes) text s t e = tt
+no_text_told : (T : Type 0) (told : Option (List ℕ)) (text : List ℕ → List ℕ) (s t : List ℕ) (e : Error) → IfSome told (λ bytes. AddsText {T = T} {E = Error} (text bytes) s (Err e) t)
+no_text_told T None text s t e = tt
+no_text_told T (Some bytes) text s t e = tt
 
 -- ---- calls
+
+abbrev no_causes : List ℕ → List Cause
+no_causes bytes = []
+
+clean : (told : Option (List ℕ)) → IfSome told (λ bytes. no_causes bytes ≡ [])
+clean None = tt
+clean (Some bytes) = refl
 
 -- nothing is read or added
 pub tells_nothing : {S T : Type 0} {g : Ghosts S} (old : S) (section : Section) (t : List ℕ) (x : T) → ((bytes : List ℕ) → section.causes bytes ≡ []) → ((bytes : List ℕ) → section.text bytes ≡ [])
     → Tells g old old section t t (Ok x)
 tells_nothing {S} {T} {g} old section t x none nothing = record {
-  reads = record { keeps = keeps_itself; quiet = refl; ok = none_as (g.told old) (λ _. []) section.causes none (clean (g.told old)); fails = tt };
+  reads = record { keeps = keeps_itself; quiet = refl; ok = none_as (g.told old) no_causes section.causes none (clean (g.told old)); fails = tt };
   adds = text_as {T = T} {E = Error} (g.told old) (λ _. []) section.text t t (Ok x) nothing (no_text (g.told old) t);
   carried = tt;
   taken = omega arith;
-} where
-  clean : (told : Option (List ℕ)) → IfSome told (λ bytes. [] {A = Cause} ≡ [])
-  clean None = tt
-  clean (Some bytes) = refl
-
+}
 -- two calls in turn
 pub tells_both : {S T U V : Type 0} {g : Ghosts S} {old mid new : S} {first second : Section} {s t u : List ℕ} {x : T} {y : U} (z : V)
     → Tells g old mid first s t (Ok x) → Tells g mid new second t u (Ok y) → Tells g old new (beside first second) s u (Ok z)
@@ -120,7 +123,7 @@ tells_failed {S} {T} {U} {g} {old} {new} {part} {whole} {s} {t} u v {e} within o
     ok = tt;
     fails = fails_more (g.told old) (g.faults old) (g.faults old) (g.faults new) part.causes whole.causes e (omega arith) (within_told (g.told old) part.causes whole.causes within.causes) one.reads.fails;
   };
-  adds = no_text_told {T = U} (g.told old) whole.text u v e;
+  adds = no_text_told U (g.told old) whole.text u v e;
   carried = one.carried;
   taken = omega (arith, one.taken, within.length);
 }
@@ -137,7 +140,7 @@ tells_then_failed {S} {T} {U} {V} {g} {old} {mid} {new} {first} {second} {s} {t}
         (within_told (g.told old) second.causes (λ bytes. first.causes bytes ++ second.causes bytes) (λ bytes o is. one_of-right (first.causes bytes) (second.causes bytes) o is))
         (subst (λ (told : Option (List ℕ)). IsReadFailure told (g.faults mid) (g.faults new) second.causes e) one.reads.keeps.same other.reads.fails);
   };
-  adds = no_text_told {T = V} (g.told old) (λ bytes. first.text bytes ++ second.text bytes) s v e;
+  adds = no_text_told V (g.told old) (λ bytes. first.text bytes ++ second.text bytes) s v e;
   carried = other.carried;
   taken = omega (arith, one.taken, other.taken);
 }

@@ -1,16 +1,15 @@
 -- The lines of row groups, and what may be wrong with the parts of the file that they are told from.
-use Rattle.std.specs.Prelude.{ℕ, Bool, List, ◌++◌, filter_map, flat_map, map, zip, codes, decimal, sum_by, if◌then◌else◌, unwrap_or, Option, None, option_map}
+use Rattle.std.specs.Prelude.{ℕ, Bool, List, ◌++◌, filter_map, flat_map, zip, codes, decimal, sum_by, if◌then◌else◌, unwrap_or, Option, None, option_map}
 use Rattle.std.specs.List.{enumerate_from}
 use Rattle.columns_core.specs.Causes.{Cause}
 use Rattle.columns_core.specs.declared.cell.Cell.{Cell}
 use Rattle.columns_core.specs.declared.data_type.DataType.{DataType}
 use Rattle.column_ends.specs.Converted.{group_causes, group_cells}
 use Rattle.parquet_meta.specs.declared.metadata.ColumnChunkMetaData.{ColumnChunkMetaData}
-use Rattle.parquet_meta.specs.declared.metadata.ColumnDescriptor.{ColumnDescriptor}
 use Rattle.parquet_meta.specs.declared.metadata.Ends.{Ends}
 use Rattle.parquet_meta.specs.declared.metadata.RowGroupMetaData.{RowGroupMetaData}
 use Rattle.pq_common.specs.Rows.{line}
-use Rattle.inspect_program.specs.Guess.{chunk_type, is_single}
+use Rattle.inspect_program.specs.Guess.{chunk_type}
 use Rattle.inspect_program.specs.Pages.{indexes_length, pages_causes, pages_text, told_text}
 
 -- ---- chunks
@@ -53,9 +52,6 @@ told_chunk chunk =
 -- the chunks of columns with a guess; the chunks of a group stand in the order of the columns
 abbrev pub told_chunks : List Bool → List ColumnChunkMetaData → List ToldChunk
 told_chunks singles chunks = filter_map told_chunk (enumerate_from 0 (zip singles chunks))
-
-abbrev pub are_single : List ColumnDescriptor → List Bool
-are_single columns = map (is_single columns) columns
 
 abbrev pub rows_line : ℕ → ℕ → List ℕ
 rows_line number rows = line (codes "group " ++ decimal number ++ codes " " ++ decimal rows)

@@ -1,5 +1,5 @@
 -- The type that a column is read as where nobody says one.
-use Rattle.std.specs.Prelude.{ℕ, Bool, true, false, ◌==◌, ◌&&◌, nat_lt, count_by, List, [], ◌∷◌, if◌then◌else◌, is_some, Option, Some, None, option_and_then, option_map}
+use Rattle.std.specs.Prelude.{ℕ, Bool, true, false, ◌==◌, ◌&&◌, nat_lt, count_by, List, [], ◌∷◌, if◌then◌else◌, is_some, map, Option, Some, None, option_and_then, option_map}
 use Rattle.std.specs.Option.{option_map_or}
 use Rattle.std.specs.Str.{bytes_eq}
 use Rattle.columns_core.specs.declared.data_type.DataType.{DataType}
@@ -72,6 +72,10 @@ is_begun name column = option_map_or (bytes_eq name) (first_name column.path_in_
 abbrev pub is_single : List ColumnDescriptor → ColumnDescriptor → Bool
 is_single columns column =
     option_map_or (λ name. count_by (is_begun name) columns == 1) (first_name column.path_in_schema) false
+
+-- of each column
+abbrev pub are_single : List ColumnDescriptor → List Bool
+are_single columns = map (is_single columns) columns
 
 abbrev pub guess_in : List ColumnDescriptor → ColumnDescriptor → Option DataType
 guess_in columns column = if is_single columns column then guessed_type column else None

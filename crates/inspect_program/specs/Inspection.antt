@@ -6,7 +6,8 @@ use Rattle.columns_core.specs.Causes.{Cause, ExternalFormat, is_empty}
 use Rattle.parquet_meta.specs.File.{footer, most_taken}
 use Rattle.parquet_meta.specs.declared.metadata.FileMetaData.{FileMetaData}
 use Rattle.inspect_program.specs.Columns.{columns_text}
-use Rattle.inspect_program.specs.Groups.{are_single, group_causes_told, group_indexes_length, group_text}
+use Rattle.inspect_program.specs.Groups.{group_causes_told, group_indexes_length, group_text}
+use Rattle.inspect_program.specs.Guess.{are_single}
 
 -- a line for each column, and then the lines of each group
 abbrev pub told_metadata : List ℕ → FileMetaData → List ℕ

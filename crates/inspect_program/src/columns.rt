@@ -1,10 +1,9 @@
 //! The lines of columns.
-ghost use Rattle.std.specs.Prelude.{◌≡◌, ◌++◌, codes, if◌then◌else◌, IfOk, None};
+ghost use Rattle.std.specs.Prelude.{◌≡◌, ◌++◌, codes, flat_map, if◌then◌else◌, IfOk, None};
 ghost use Rattle.std.specs.List.{join_by};
 ghost use Rattle.pq_common.specs.Texts.{AddsText};
 ghost use Rattle.inspect_program.specs.Columns.{column_end, columns_text};
-ghost use Rattle.inspect_program.specs.Groups.{are_single};
-ghost use Rattle.inspect_program.specs.Guess.{guessed_type as guessed_by};
+ghost use Rattle.inspect_program.specs.Guess.{are_single, guessed_type as guessed_by};
 
 use crate::guess::guessed_type;
 use columns_core::Name;
@@ -37,11 +36,23 @@ fn join_names(path: &mut Vec<u8>, names: &[Name]) -> Result<(), AllocError>
     ensures { let joined = join_by (λ name. name) (codes ".") names.now in
         IfOk result (λ _. path.new.items ≡ path.old.items ++ joined) }
 {
-    for i in 0..names.len() {
-        if i > 0 {
-            path.push(b'.')?;
+    match names.split_first() {
+        None => Ok(()),
+        Some((first, others)) => {
+            path.extend_from_slice(first.as_str().as_bytes())?;
+            join_others(path, others)
         }
-        path.extend_from_slice(names[i].as_str().as_bytes())?;
+    }
+}
+
+/// Adds names to a path, each behind a dot.
+fn join_others(path: &mut Vec<u8>, names: &[Name]) -> Result<(), AllocError>
+    ensures { let joined = flat_map (λ name. codes "." ++ name) names.now in
+        IfOk result (λ _. path.new.items ≡ path.old.items ++ joined) }
+{
+    for name in names {
+        path.push(b'.')?;
+        path.extend_from_slice(name.as_str().as_bytes())?;
     }
     Ok(())
 }

@@ -1,8 +1,8 @@
 //! Columns whose path begins as that of no other column does.
 ghost use Rattle.std.specs.Prelude.{◌≡◌, List, option_copied, IfOk};
 ghost use Rattle.parquet_meta.specs.declared.metadata.ColumnDescriptor.{ColumnDescriptor as Descriptor};
-ghost use Rattle.inspect_program.specs.Groups.{are_single as are_single_by};
-ghost use Rattle.inspect_program.specs.Guess.{first_name as first_name_by, is_single as is_single_by};
+ghost use Rattle.inspect_program.specs.Guess.{are_single as are_single_by, first_name as first_name_by};
+ghost use Rattle.inspect_program.specs.Guess.{is_single as is_single_by};
 ghost use Rattle.inspect_program.specs.Singles.{IsCountOf};
 
 use parquet_meta::ColumnDescriptor;
@@ -10,10 +10,7 @@ use std::alloc::{AllocError, Global};
 use std::collections::BTreeMap;
 
 /// Of each column whether no other column's path begins with the name that its own begins with.
-pub(crate) fn are_single(
-    alloc: Global,
-    columns: &[ColumnDescriptor],
-) -> Result<Vec<bool>, AllocError>
+pub(crate) fn are_single(alloc: Global, columns: &[ColumnDescriptor]) -> Result<Vec<bool>, AllocError>
     ensures { IfOk result (λ singles. singles.items ≡ are_single_by columns.now) }
 {
     let counts = counts_of(alloc, columns)?;
