@@ -1,3 +1,7 @@
+pub mod EndLemmas
+pub mod FileLemmas
+pub mod GroupLemmas
+pub mod IndexLemmas
 pub mod ListLemmas
 pub mod SectionLemmas
 pub mod SingleLemmas

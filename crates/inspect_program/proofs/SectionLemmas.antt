@@ -1,7 +1,7 @@
 -- Sections of several items, one behind another.
 use Rattle.std.proofs.Common.{◌≡◌, ℕ, ◌+◌, ◌<◌, List, [], ◌∷◌, ◌++◌, ◌∙◌, ap, arith, drop, get_or, length, refl, subst, sym, take}
 use Rattle.std.specs.Prelude.{Option, Result, Ok, Err, flat_map, sum_by}
-use Rattle.std.proofs.lemmas.List.{take-append-drop, take_all, take_more}
+use Rattle.std.proofs.lemmas.List.{take-append-drop, take_more}
 use Rattle.std.proofs.lemmas.List.Concat.{flat_map-append}
 use Rattle.std.proofs.lemmas.List.Sums.{sum_by-append}
 use Rattle.columns_core.specs.Causes.{Cause, IsOneOf}
@@ -38,26 +38,27 @@ module _ {X : Type 0} (causes : List ℕ → X → List Cause) (text : List ℕ 
     pub none_told : {T : Type 0} (old : S) (t : List ℕ) (x : T) → Tells g old old (of_each []) t t (Ok x)
     none_told old t x = tells_nothing old (of_each []) t x (λ bytes. refl) (λ bytes. refl)
 
-    -- one item more
-    pub one_told : {T U V : Type 0} {old mid new : S} {s t u : List ℕ} {x : T} {y : U} (z : V) (items : List X) (i : ℕ) (item : X) → i < length items → item ≡ get_or items i item
-        → Tells g old mid (of_each (take i items)) s t (Ok x) → Tells g mid new (of_each (item ∷ [])) t u (Ok y) → Tells g old new (of_each (take (i + 1) items)) s u (Ok z)
-    one_told {T} {U} {V} {old} {mid} {new} {s} {t} {u} z items i item within at front one =
-        subst (λ (told : List X). Tells {T = V} g old new (of_each told) s u (Ok z)) (sym (take_more items i item within ∙ ap (λ last. take i items ++ last ∷ []) (sym at)))
-        (tells_as (Ok z) (each_beside (take i items) (item ∷ [])) (tells_both z front one))
+    -- items behind others
+    pub more_told : {T U V : Type 0} {old mid new : S} {s t u : List ℕ} {x : T} {y : U} (z : V) (front back : List X)
+        → Tells g old mid (of_each front) s t (Ok x) → Tells g mid new (of_each back) t u (Ok y) → Tells g old new (of_each (front ++ back)) s u (Ok z)
+    more_told z front back first second = tells_as (Ok z) (each_beside front back) (tells_both z first second)
 
-    -- the next item fails
-    pub one_failed : {T U V : Type 0} {old mid new : S} {s t u : List ℕ} (v : List ℕ) {x : T} {e : Error} (items : List X) (i : ℕ) (item : X) → i < length items → item ≡ get_or items i item
-        → Tells g old mid (of_each (take i items)) s t (Ok x) → Tells {T = U} g mid new (of_each (item ∷ [])) t u (Err e) → Tells {T = V} g old new (of_each items) s v (Err e)
-    one_failed {T} {U} {V} {old} {mid} {new} {s} {t} {u} v {x} {e} items i item within at front one =
-        let more = take_more items i item within ∙ ap (λ last. take i items ++ last ∷ []) (sym at) in
-        let both : Tells {T = V} g old new (of_each (take i items ++ item ∷ [])) s v (Err e) =
-            tells_as {T = V} (Err e) (each_beside (take i items) (item ∷ [])) (tells_then_failed {V = V} v front one) in
-        let told : Tells {T = V} g old new (of_each (take (i + 1) items)) s v (Err e) =
-            subst (λ (told : List X). Tells {T = V} g old new (of_each told) s v (Err e)) (sym more) both in
-        subst (λ (told : List X). Tells {T = V} g old new (of_each told) s v (Err e)) (take-append-drop (i + 1) items)
-        (tells_failed s v (each_within (take (i + 1) items) (drop (i + 1) items)) told)
+    -- items behind others fail, and others come behind them
+    pub more_failed : {T U V : Type 0} {old mid new : S} {s t u : List ℕ} (v : List ℕ) {x : T} {e : Error} (front back rest : List X)
+        → Tells g old mid (of_each front) s t (Ok x) → Tells {T = U} g mid new (of_each back) t u (Err e) → Tells {T = V} g old new (of_each ((front ++ back) ++ rest)) s v (Err e)
+    more_failed {T} {U} {V} {old} {mid} {new} {s} {t} {u} v {x} {e} front back rest first second =
+        let both : Tells {T = V} g old new (of_each (front ++ back)) s v (Err e) = tells_as {T = V} (Err e) (each_beside front back) (tells_then_failed {V = V} v first second) in
+        tells_failed s v (each_within (front ++ back) rest) both
 
-    -- all items
-    pub all_told : {T : Type 0} {old new : S} {s t : List ℕ} {x : T} (items : List X) (n : ℕ) → length items ≡ n → Tells g old new (of_each (take n items)) s t (Ok x) → Tells g old new (of_each items) s t (Ok x)
-    all_told {T} {old} {new} {s} {t} {x} items n whole told =
-        subst (λ (told : List X). Tells {T = T} g old new (of_each told) s t (Ok x)) (take_all n items (omega (arith, whole))) told
+-- ---- items that a list gives, a part of the list behind another
+
+module _ {X Y : Type 0} (kept : List Y → List X) (joined : (front back : List Y) → kept (front ++ back) ≡ kept front ++ kept back) where
+  -- those of one more
+  pub kept_more : (list : List Y) (i : ℕ) (y : Y) → i < length list → y ≡ get_or list i y → kept (take (i + 1) list) ≡ kept (take i list) ++ kept (y ∷ [])
+  kept_more list i y within at =
+      ap kept (take_more list i y within ∙ ap (λ last. take i list ++ last ∷ []) (sym at)) ∙ joined (take i list) (y ∷ [])
+
+  -- and of all
+  pub kept_all : (list : List Y) (i : ℕ) (y : Y) → i < length list → y ≡ get_or list i y → kept list ≡ (kept (take i list) ++ kept (y ∷ [])) ++ kept (drop (i + 1) list)
+  kept_all list i y within at =
+      ap kept (sym (take-append-drop (i + 1) list)) ∙ joined (take (i + 1) list) (drop (i + 1) list) ∙ ap (λ front. front ++ kept (drop (i + 1) list)) (kept_more list i y within at)

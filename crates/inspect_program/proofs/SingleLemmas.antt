@@ -25,8 +25,8 @@ bytes_eq-other : (xs ys : List ℕ) (b : Bool) → bytes_eq xs ys ≡ b → byte
 bytes_eq-other xs ys true same = (bytes_eq-Decides ys xs).1 (sym ((bytes_eq-Decides xs ys).0 same))
 bytes_eq-other xs ys false other =
     elim (cases_Bool (bytes_eq ys xs)) [
-      inl same ↦ absurd (false≢true (sym other ∙ (bytes_eq-Decides xs ys).1 (sym ((bytes_eq-Decides ys xs).0 same))))
-    | inr is ↦ is
+      | inl same ↦ absurd (false≢true (sym other ∙ (bytes_eq-Decides xs ys).1 (sym ((bytes_eq-Decides ys xs).0 same))))
+      | inr is ↦ is
     ]
 
 begins : (name first : List ℕ) (column : ColumnDescriptor) (b : Bool) → first_name column.path_in_schema ≡ Some first → bytes_eq first name ≡ b → is_begun name column ≡ b

@@ -82,10 +82,11 @@ no_text_told T (Some bytes) text s t e = tt
 
 -- ---- calls
 
-abbrev no_causes : List ℕ → List Cause
+abbrev pub no_causes : List ℕ → List Cause
 no_causes bytes = []
 
-clean : (told : Option (List ℕ)) → IfSome told (λ bytes. no_causes bytes ≡ [])
+-- without a cause
+pub clean : (told : Option (List ℕ)) → IfSome told (λ bytes. no_causes bytes ≡ [])
 clean None = tt
 clean (Some bytes) = refl
 
@@ -98,6 +99,7 @@ tells_nothing {S} {T} {g} old section t x none nothing = record {
   carried = tt;
   taken = omega arith;
 }
+
 -- two calls in turn
 pub tells_both : {S T U V : Type 0} {g : Ghosts S} {old mid new : S} {first second : Section} {s t u : List ℕ} {x : T} {y : U} (z : V)
     → Tells g old mid first s t (Ok x) → Tells g mid new second t u (Ok y) → Tells g old new (beside first second) s u (Ok z)

@@ -6,7 +6,7 @@ ghost use Rattle.inspect_program.specs.Inspection.{inspection, inspection_causes
 ghost use Rattle.inspect_program.specs.Inspection.{told_groups_causes, told_indexes_length, told_metadata};
 
 use crate::columns::push_columns;
-use crate::groups::push_group;
+use crate::groups::push_groups;
 use crate::singles::are_single;
 use columns_core::Error;
 use parquet_meta::{FileMetaData, Source, read_metadata};
@@ -30,11 +30,7 @@ pub fn inspect<S: Source>(alloc: Global, source: &mut S) -> Result<Vec<u8>, Erro
 }
 
 /// The text of the metadata of a file.
-fn text_of<S: Source>(
-    alloc: Global,
-    source: &mut S,
-    metadata: &FileMetaData,
-) -> Result<Text, Error>
+fn text_of<S: Source>(alloc: Global, source: &mut S, metadata: &FileMetaData) -> Result<Text, Error>
     ensures reads { ReadsFile S.Source source.old source.new (λ bytes.
         told_groups_causes bytes metadata.now) result }
     ensures text { IfOk result (λ text. IfSome (S.told source.old) (λ bytes.
@@ -46,9 +42,12 @@ fn text_of<S: Source>(
     let singles = are_single(alloc, columns)?;
     let mut text = Text::new(alloc);
     push_columns(alloc, &mut text, columns, &singles)?;
-    let groups = metadata.row_groups.as_slice();
-    for i in 0..groups.len() {
-        push_group(alloc, source, &mut text, i, &groups[i], &singles)?;
-    }
+    push_groups(
+        alloc,
+        source,
+        &mut text,
+        metadata.row_groups.as_slice(),
+        &singles,
+    )?;
     Ok(text)
 }

@@ -1,5 +1,6 @@
 //! The lines of row groups, and of what the statistics of their chunks tell.
 ghost use Rattle.std.specs.Prelude.{◌≡◌, ◌∷◌, [], filter_map, if◌then◌else◌, unwrap_or, IfErr, None, OnOk, Some};
+ghost use Rattle.std.specs.List.{enumerate_from};
 ghost use Rattle.columns_core.specs.Causes.{ComesOf};
 ghost use Rattle.column_ends.specs.Converted.{group_causes, group_cells};
 ghost use Rattle.pq_common.specs.Rows.{line};
@@ -18,8 +19,25 @@ use parquet_meta::{ColumnChunkMetaData, Ends, RowGroupMetaData, Source};
 use pq_common::Text;
 use std::alloc::{AllocError, Global};
 
+/// Adds the lines of groups.
+pub(crate) fn push_groups<S: Source>(
+    alloc: Global,
+    source: &mut S,
+    text: &mut Text,
+    groups: &[RowGroupMetaData],
+    singles: &[bool],
+) -> Result<(), Error>
+    ensures { let section = groups_section singles.now (enumerate_from 0 groups.now) in
+        Tells S.Source source.old source.new section text.old text.new result }
+{
+    for i in 0..groups.len() {
+        push_group(alloc, source, text, i, &groups[i], singles)?;
+    }
+    Ok(())
+}
+
 /// Adds the line of a group, and then those of its chunks.
-pub(crate) fn push_group<S: Source>(
+fn push_group<S: Source>(
     alloc: Global,
     source: &mut S,
     text: &mut Text,

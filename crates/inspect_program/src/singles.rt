@@ -10,7 +10,10 @@ use std::alloc::{AllocError, Global};
 use std::collections::BTreeMap;
 
 /// Of each column whether no other column's path begins with the name that its own begins with.
-pub(crate) fn are_single(alloc: Global, columns: &[ColumnDescriptor]) -> Result<Vec<bool>, AllocError>
+pub(crate) fn are_single(
+    alloc: Global,
+    columns: &[ColumnDescriptor],
+) -> Result<Vec<bool>, AllocError>
     ensures { IfOk result (λ singles. singles.items ≡ are_single_by columns.now) }
 {
     let counts = counts_of(alloc, columns)?;
