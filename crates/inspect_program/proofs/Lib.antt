@@ -1,3 +1,4 @@
+pub mod CarriedLemmas
 pub mod EndLemmas
 pub mod FileLemmas
 pub mod GroupLemmas

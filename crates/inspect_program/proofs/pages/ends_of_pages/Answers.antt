@@ -1,3 +1,4 @@
+use Rattle.inspect_program.proofs.CarriedLemmas.{index_carried}
 use Rattle.inspect_program.proofs.EndLemmas.{ends_read}
 use Rattle.inspect_program.proofs.pages.ends_of_pages.Goals as goal
 
@@ -7,4 +8,5 @@ returns-clause-reads g c =
     c.in_ok-index.ensures.found.2 c.index_ends.ensures.ok c.index_ends.ensures.cause
 
 pub returns-clause-carried : goal.returns-clause-carried
-returns-clause-carried g c = ?
+returns-clause-carried g c =
+    index_carried c.args.column.now.descriptor c.args.data_type.now c.in_ok-index.index c.index_ends.result c.requires c.index_ends.ensures.cause
