@@ -1,8 +1,8 @@
 -- A guess is carried, and what may be wrong with its ends is damage or a value out of range.
-use Rattle.std.proofs.Common.{◌≡◌, ◌⊎◌, ℕ, ℤ, pos, Bool, true, false, cond, List, [], ◌∷◌, ◌++◌, ◌∙◌, Option, Some, None, ap, inl, inr, map, refl, subst, sym}
+use Rattle.std.proofs.Common.{◌≡◌, ◌⊎◌, ℕ, pos, Bool, true, false, cond, List, [], ◌∷◌, ◌++◌, ◌∙◌, Option, Some, None, ap, inl, inr, map, refl, subst, sym}
 use Rattle.std.specs.Prelude.{◌&&◌, ◌==◌, All, IfErr, Result, Ok, Err, flat_map, int_div, is_some, nat_lt}
 use Rattle.std.specs.Option.{option_map_or}
-use Rattle.std.proofs.lemmas.Bool.{and_from, and_parts, eq-eqb, true≢false}
+use Rattle.std.proofs.lemmas.Bool.{and_from, and_parts, eq-eqb}
 use Rattle.std.proofs.lemmas.List.Elements.{All-append, All-cons, All-contains, All-nil}
 use Rattle.columns_core.specs.Causes.{Cause, ComesOf, ExternalFormat, IsOneOf, IsWantOfMemory, NotYetImplemented, OutOfSpec, Overflow, cause_of, unless}
 use Rattle.columns_core.specs.Types.{is_in, signed_range}
@@ -24,9 +24,8 @@ use Rattle.parquet_meta.specs.declared.metadata.PhysicalType.{PhysicalType}
 use Rattle.parquet_meta.specs.declared.metadata.PhysicalType.TheVariants as types
 use Rattle.parquet_meta.specs.declared.metadata.PrimitiveLogicalType.{PrimitiveLogicalType}
 use Rattle.parquet_meta.specs.declared.metadata.PrimitiveLogicalType.TheVariants.{Timestamp}
-use Rattle.parquet_meta.specs.declared.metadata.PrimitiveType.{PrimitiveType}
 use Rattle.parquet_page.specs.Stored.{Stored, Number, Octets, Truth, Words}
-use Rattle.flat_values.specs.Conversion.{AsText, BigEndian, Conversion, DaysAndMilliseconds, Item, Keep, LowNanoseconds, LowSigned, LowUnsigned, Months, NotInRange, Nulls, Scale, SinceEpoch, Value, convert, scaled}
+use Rattle.flat_values.specs.Conversion.{AsText, BigEndian, Conversion, DaysAndMilliseconds, Keep, LowNanoseconds, LowSigned, LowUnsigned, Months, NotInRange, Nulls, Scale, SinceEpoch, Value, convert, scaled}
 use Rattle.flat_values.specs.Units.{nanoseconds_of}
 use Rattle.flat_values.specs.Pairs.{leaf_conversion, page_conversion, rescale, since_1970}
 use Rattle.flat_values.specs.Sound.{is_stored_as}
@@ -215,7 +214,7 @@ pub statistics_carried : {T : Type 0} (column : ColumnChunkMetaData) (data_type 
 statistics_carried column data_type r is comes =
     let have = statistics_have_rule column.descriptor data_type is in
     let all : AreOfEnds (group_causes data_type column) =
-        subst (λ (found : Option Conversion). AreOfEnds (option_map_or (λ rule. told_causes rule column) found (NotYetImplemented ∷ []))) (sym have.is) (told_of_ends column have.rule have.guessed) in
+    subst (λ (found : Option Conversion). AreOfEnds (option_map_or (λ rule. told_causes rule column) found (NotYetImplemented ∷ []))) (sym have.is) (told_of_ends column have.rule have.guessed) in
     result_of_inspection (group_causes data_type column) r all comes
 
 -- its column index
@@ -226,8 +225,8 @@ index_carried column data_type index r is comes =
     let physical = column.primitive_type.physical_type in
     let by_rule : Conversion → List Cause = λ rule. flat_map (causes_of_page physical rule) (stored_pages index) ++ page_array_causes data_type (map (cell_page rule) (stored_pages index)) in
     let both : AreOfEnds (by_rule have.rule) =
-        All-append IsOfEnds (flat_map (causes_of_page physical have.rule) (stored_pages index)) (page_array_causes data_type (map (cell_page have.rule) (stored_pages index)))
-        (all_pages_of_ends physical have.rule (stored_pages index) have.guessed) (arrays_of_ends data_type (map (cell_page have.rule) (stored_pages index))) in
+    All-append IsOfEnds (flat_map (causes_of_page physical have.rule) (stored_pages index)) (page_array_causes data_type (map (cell_page have.rule) (stored_pages index)))
+    (all_pages_of_ends physical have.rule (stored_pages index) have.guessed) (arrays_of_ends data_type (map (cell_page have.rule) (stored_pages index))) in
     let all : AreOfEnds (causes_of_index column.primitive_type data_type index) =
-        subst (λ (found : Option Conversion). AreOfEnds (option_map_or by_rule found (NotYetImplemented ∷ []))) (sym have.is) both in
+    subst (λ (found : Option Conversion). AreOfEnds (option_map_or by_rule found (NotYetImplemented ∷ []))) (sym have.is) both in
     result_of_inspection (causes_of_index column.primitive_type data_type index) r all comes

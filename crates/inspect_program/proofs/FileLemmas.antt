@@ -1,7 +1,8 @@
 -- The text of the metadata of a file.
-use Rattle.std.proofs.Common.{◌≡◌, ◌≤◌, ℕ, ◌+◌, Bool, List, [], ◌∷◌, ◌++◌, ◌∙◌, Option, Some, None, ap, arith, refl, subst, sym}
-use Rattle.std.specs.Prelude.{IfOk, IfSome, Result, Ok, Err, flat_map, sum_by}
+use Rattle.std.proofs.Common.{◌≡◌, ℕ, ◌+◌, Bool, List, [], ◌∷◌, ◌++◌, ◌∙◌, Option, Some, None, ap, arith, refl, subst, sym}
+use Rattle.std.specs.Prelude.{IfSome, Result, Ok, Err, flat_map, sum_by}
 use Rattle.std.specs.List.{enumerate_from}
+use Rattle.std.proofs.lemmas.List.Sums.{sum_by-cons}
 use Rattle.columns_core.specs.declared.error.Error.{Error}
 use Rattle.parquet_meta.specs.Reads.{ReadsFile}
 use Rattle.parquet_meta.specs.declared.metadata.FileMetaData.{FileMetaData}
@@ -21,7 +22,8 @@ flat_map-unnumbered f n (x ∷ xs) = ap (λ rest. f x ++ rest) (flat_map-unnumbe
 
 sum_by-unnumbered : {X : Type 0} (f : X → ℕ) (n : ℕ) (xs : List X) → sum_by (λ (item : ℕ × X). f item.1) (enumerate_from n xs) ≡ sum_by f xs
 sum_by-unnumbered f n [] = refl
-sum_by-unnumbered f n (x ∷ xs) = ap (λ rest. f x + rest) (sum_by-unnumbered f (n + 1) xs)
+sum_by-unnumbered {X} f n (x ∷ xs) =
+    sum_by-cons (λ (item : ℕ × X). f item.1) (n, x) (enumerate_from (n + 1) xs) ∙ ap (λ rest. f x + rest) (sum_by-unnumbered f (n + 1) xs) ∙ sym (sum_by-cons f x xs)
 
 -- the groups of a file
 abbrev pub file_section : FileMetaData → Section
@@ -57,7 +59,7 @@ pub reads_none : {S T U : Type 0} {g : Ghosts S} {old new : S} {section : Sectio
 reads_none told = record { keeps = told.reads.keeps; quiet = tt; ok = tt; fails = told.reads.fails }
 
 -- the groups that a call is handed are those of the metadata
-pub groups_of : {S T : Type 0} {g : Ghosts S} {old new : S} {singles : List Bool} {handed groups : List RowGroupMetaData} {s t : List ℕ} {r : Result T Error} → handed ≡ groups
+pub groups_of : {S T : Type 0} {g : Ghosts S} {old new : S} (singles : List Bool) {handed groups : List RowGroupMetaData} {s t : List ℕ} {r : Result T Error} → handed ≡ groups
     → Tells g old new (groups_section singles (enumerate_from 0 handed)) s t r → Tells g old new (groups_section singles (enumerate_from 0 groups)) s t r
-groups_of {S} {T} {g} {old} {new} {singles} {handed} {groups} {s} {t} {r} are told =
+groups_of {S} {T} {g} {old} {new} singles {handed} {groups} {s} {t} {r} are told =
     subst (λ (groups : List RowGroupMetaData). Tells {T = T} g old new (groups_section singles (enumerate_from 0 groups)) s t r) are told

@@ -1,6 +1,6 @@
 -- The indexes of one column.
-use Rattle.std.proofs.Common.{◌≡◌, ℕ, Bool, true, false, cond, List, [], ◌∷◌, ◌++◌, ◌∙◌, Option, Some, None, Vec, Global, ap, map, refl, subst, sym}
-use Rattle.std.specs.Prelude.{◌&&◌, IfSome, Ok, Err, slice_get}
+use Rattle.std.proofs.Common.{◌≡◌, ℕ, true, cond, List, [], ◌∷◌, ◌++◌, ◌∙◌, Option, Some, None, Vec, Global, ap, map, refl, subst, sym}
+use Rattle.std.specs.Prelude.{IfSome, Err, slice_get}
 use Rattle.std.specs.List.{list_all}
 use Rattle.std.proofs.lemmas.Bool.{and_parts}
 use Rattle.std.proofs.lemmas.Slice.Eq.{bytes_eq-Decides}

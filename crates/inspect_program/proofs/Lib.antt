@@ -4,6 +4,7 @@ pub mod FileLemmas
 pub mod GroupLemmas
 pub mod IndexLemmas
 pub mod ListLemmas
+pub mod PageLemmas
 pub mod SectionLemmas
 pub mod SingleLemmas
 pub mod TellsLemmas

@@ -1,6 +1,6 @@
 -- Sections of several items, one behind another.
 use Rattle.std.proofs.Common.{◌≡◌, ℕ, ◌+◌, ◌<◌, List, [], ◌∷◌, ◌++◌, ◌∙◌, ap, arith, drop, get_or, length, refl, subst, sym, take}
-use Rattle.std.specs.Prelude.{Option, Result, Ok, Err, flat_map, sum_by}
+use Rattle.std.specs.Prelude.{Ok, Err, flat_map, sum_by}
 use Rattle.std.proofs.lemmas.List.{take-append-drop, take_more}
 use Rattle.std.proofs.lemmas.List.Concat.{flat_map-append}
 use Rattle.std.proofs.lemmas.List.Sums.{sum_by-append}

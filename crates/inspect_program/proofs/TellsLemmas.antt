@@ -1,17 +1,16 @@
 -- Calls that add to a text what they read in a file, one behind another.
-use Rattle.std.proofs.Common.{◌≡◌, ℕ, ◌+◌, ◌≤◌, ◌<◌, List, [], ◌∷◌, ◌++◌, ◌∙◌, ap, append_assoc, arith, get_or, length, refl, subst, sym, take}
-use Rattle.std.specs.Prelude.{Option, Some, None, IfErr, IfOk, IfSome, Result, Ok, Err, flat_map, sum_by}
+use Rattle.std.proofs.Common.{◌≡◌, ℕ, ◌+◌, ◌≤◌, List, [], ◌++◌, ◌∙◌, ap, append_assoc, arith, refl, subst, sym}
+use Rattle.std.specs.Prelude.{Option, Some, None, IfSome, Result, Ok, Err}
 use Rattle.std.proofs.lemmas.List.{append-nil}
-use Rattle.columns_core.specs.Causes.{Cause, IsOneOf, cause_of}
+use Rattle.columns_core.specs.Causes.{Cause, IsOneOf}
 use Rattle.columns_core.specs.declared.error.Error.{Error}
 use Rattle.parquet_meta.specs.Keeps.{Keeps}
-use Rattle.parquet_meta.specs.Reads.{ReadsFile}
 use Rattle.parquet_meta.specs.Source.{IsReadFailure}
 use Rattle.parquet_meta.specs.declared.source.Source.{Ghosts}
 use Rattle.parquet_meta.proofs.FailureLemmas.{fails_more}
-use Rattle.page_decoding.proofs.RowLemmas.{one_of-left, one_of-right}
+use Rattle.page_decoding.proofs.RowLemmas.{one_of-right}
 use Rattle.pq_common.specs.Texts.{AddsText}
-use Rattle.inspect_program.specs.Calls.{IsOfInspection, Section, Tells}
+use Rattle.inspect_program.specs.Calls.{Section, Tells}
 
 -- ---- sources
 
@@ -53,7 +52,7 @@ none_as : (told : Option (List ℕ)) (part whole : List ℕ → List Cause) → 
 none_as None part whole same none = tt
 none_as (Some bytes) part whole same none = same bytes ∙ none
 
-within_told : (told : Option (List ℕ)) (part whole : List ℕ → List Cause) → ((bytes : List ℕ) (o : Option Cause) → IsOneOf (part bytes) o → IsOneOf (whole bytes) o)
+pub within_told : (told : Option (List ℕ)) (part whole : List ℕ → List Cause) → ((bytes : List ℕ) (o : Option Cause) → IsOneOf (part bytes) o → IsOneOf (whole bytes) o)
     → IfSome told (λ bytes. (o : Option Cause) → IsOneOf (part bytes) o → IsOneOf (whole bytes) o)
 within_told None part whole within = tt
 within_told (Some bytes) part whole within = within bytes
@@ -76,7 +75,7 @@ text_as None part whole s t r same adds = tt
 text_as (Some bytes) part whole s t (Ok x) same adds = adds ∙ ap (λ text. s ++ text) (sym (same bytes))
 text_as (Some bytes) part whole s t (Err e) same adds = tt
 
-no_text_told : (T : Type 0) (told : Option (List ℕ)) (text : List ℕ → List ℕ) (s t : List ℕ) (e : Error) → IfSome told (λ bytes. AddsText {T = T} {E = Error} (text bytes) s (Err e) t)
+pub no_text_told : (T : Type 0) (told : Option (List ℕ)) (text : List ℕ → List ℕ) (s t : List ℕ) (e : Error) → IfSome told (λ bytes. AddsText {T = T} {E = Error} (text bytes) s (Err e) t)
 no_text_told T None text s t e = tt
 no_text_told T (Some bytes) text s t e = tt
 

@@ -1,4 +1,4 @@
-use Rattle.std.proofs.Common.{◌++◌, Ok, take}
+use Rattle.std.proofs.Common.{Ok, take}
 use Rattle.std.specs.List.{enumerate_from}
 use Rattle.inspect_program.specs.Calls.{Tells}
 use Rattle.inspect_program.specs.Sections.{groups_section}

@@ -1,5 +1,4 @@
 use Rattle.std.proofs.lemmas.Result.{err_from_is_err_and}
-use Rattle.columns_core.specs.declared.error.Error.{Error}
 use Rattle.parquet_meta.specs.declared.metadata.Ends.{Ends}
 use Rattle.columns_core.specs.declared.cell.Cell.{Cell}
 use Rattle.std.proofs.Common.{Err}

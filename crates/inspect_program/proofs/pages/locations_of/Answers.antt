@@ -1,4 +1,4 @@
-use Rattle.std.proofs.Common.{◌≡◌, List, ◌∷◌, [], Some, Vec, Global, map, subst}
+use Rattle.std.proofs.Common.{◌≡◌, List, Some, Vec, Global, map, subst}
 use Rattle.std.specs.Prelude.{Err, IfSome}
 use Rattle.std.proofs.lemmas.Result.{err_from_is_err_and}
 use Rattle.parquet_meta.specs.Indexes.{locations_of}

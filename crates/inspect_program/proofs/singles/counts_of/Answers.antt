@@ -1,5 +1,5 @@
 use Rattle.std.proofs.Common.{◌≡◌, ◌∙◌, ◌+◌, ap, arith, length-take, subst, sym, take}
-use Rattle.std.specs.Prelude.{Some, option_copied, unwrap_or}
+use Rattle.std.specs.Prelude.{option_copied, unwrap_or}
 use Rattle.std.proofs.lemmas.List.Sums.{count_by-le-length}
 use Rattle.inspect_program.specs.Guess.{is_begun}
 use Rattle.inspect_program.specs.Singles.{IsCountOf, begun_count}

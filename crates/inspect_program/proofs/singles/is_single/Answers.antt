@@ -1,7 +1,5 @@
-use lib.Dec.{eqb}
 use Rattle.std.proofs.Common.{◌∙◌, ap, sym}
-use Rattle.std.specs.Prelude.{◌==◌, Some, option_copied, unwrap_or}
-use Rattle.std.specs.Option.{option_eq}
+use Rattle.std.specs.Prelude.{◌==◌, option_copied, unwrap_or}
 use Rattle.inspect_program.proofs.SingleLemmas.{finds_one, single}
 use Rattle.inspect_program.proofs.singles.is_single.Goals as goal
 
