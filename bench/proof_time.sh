@@ -55,7 +55,9 @@ def gate(words):
     watcher = threading.Thread(target=watch, args=(ended, most))
     watcher.start()
     try:
-        status = subprocess.run(["rt", "ci", *words], check=False).returncode
+        # as many proofs side by side as the gate has
+        lanes = os.environ.get("RT_JOBS") or subprocess.run([".ci/lanes"], stdout=subprocess.PIPE, check=True, text=True).stdout.strip()
+        status = subprocess.run(["rt", "ci", *words], check=False, env={**os.environ, "RT_JOBS": lanes}).returncode
     finally:
         ended.set()
         watcher.join()
