@@ -1,17 +1,21 @@
 #!/bin/sh
-# Prints what proofs cost in seconds of a processor, which hang less on what else runs than those of the clock. Run by hand, at the repository's top.
+# Prints what proofs cost: in seconds of a processor, which hang less on what else runs than those of the clock, and in units, which hang less on the machine. A unit is what the proof
+# of parquet_base took in the same run. Run by hand, at the repository's top.
 #
 # Usage: bench/proof_time.sh [WORD..]
 #            runs `rt ci WORD..`, without a word `rt ci --anew`, the whole gate from nothing, and prints for each crate what its proof, the base of its edits, its edits and
-#            its tests took, of all checks that run on the machine meanwhile. A check that ends between two samples, a second apart, loses what it took since the first.
+#            its tests took, of all checks that run on the machine meanwhile: first in units, then in seconds. A check that ends between two samples, a second apart, loses what it
+#            took since the first. Where parquet_base was not proved in the run, as it was kept, there are no units, and it says so.
 #        bench/proof_time.sh --functions CRATE [SECONDS]
-#            proves a crate anew by one process (what its checks kept in out/incremental goes), over the libraries below as they are kept, and prints each function that took at least so many seconds (10). Lemmas that are
-#            checked between two functions count for the second: the first function behind a file of lemmas seems dear.
+#            proves a crate anew by one process (what its checks kept in out/incremental goes), over the libraries below as they are kept, and prints each function that took at
+#            least so many seconds (10). Lemmas that are checked between two functions count for the second: the first function behind a file of lemmas seems dear.
 exec python3 - "$@" <<'PYTHON'
 import collections, os, re, shutil, subprocess, sys, threading, time
 
 TICKS = os.sysconf("SC_CLK_TCK")
 KINDS = ("proof", "base", "edits", "tests")
+# the crate whose proof is the unit
+UNIT = "parquet_base"
 
 
 def checks():
@@ -51,18 +55,33 @@ def gate(words):
     watcher = threading.Thread(target=watch, args=(ended, most))
     watcher.start()
     try:
-        status = subprocess.run(["rt", "ci", *words], check=False).returncode
+        # as many proofs side by side as the gate has
+        lanes = os.environ.get("RT_JOBS") or subprocess.run([".ci/lanes"], stdout=subprocess.PIPE, check=True, text=True).stdout.strip()
+        status = subprocess.run(["rt", "ci", *words], check=False, env={**os.environ, "RT_JOBS": lanes}).returncode
     finally:
         ended.set()
         watcher.join()
     sums = collections.Counter()
     for (_, crate, of_kind), seconds in most.items():
         sums[crate, of_kind] += seconds
-    print(f"{'crate':20}" + "".join(f"{it:>8}" for it in KINDS))
-    for crate in dict.fromkeys(crate for _, crate, _ in most):
-        print(f"{crate:20}" + "".join(f"{sums[crate, it]:8.0f}" for it in KINDS))
+    crates = list(dict.fromkeys(crate for _, crate, _ in most))
+    unit = max((seconds for (_, *of), seconds in most.items() if of == [UNIT, "proof"]), default=0)
+    if unit:
+        print(f"units (one is the proof of {UNIT} in this run, {unit:.0f} seconds of a processor)")
+        show(crates, lambda crate, it: f"{sums[crate, it] / unit:8.1f}")
+        print(f"{sum(sums.values()) / unit:.0f} units in all")
+    else:
+        print(f"no units: {UNIT} was not proved in this run")
+    print("seconds of a processor")
+    show(crates, lambda crate, it: f"{sums[crate, it]:8.0f}")
     print(f"{sum(sums.values()) / 60:.0f} processor minutes, {(time.time() - begun) / 60:.0f} minutes of the clock")
     return status
+
+
+def show(crates, cell):
+    print(f"{'crate':20}" + "".join(f"{it:>8}" for it in KINDS))
+    for crate in crates:
+        print(f"{crate:20}" + "".join(cell(crate, it) for it in KINDS))
 
 
 def functions(crate, least):

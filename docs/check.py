@@ -6,14 +6,16 @@
   Each file that CONTRIBUTING names behind a crate is a file of that crate.
   The name of each public function that may refuse, or that may change what it is handed, stands in the table of SECURITY.md of what a refusal leaves.
   (A name is all that is compared: of which type a `new` is, and calls of traits, are for a reader to see.)
-  The README has at most 80 lines, and its example is the text of a crate, but for what `// ..` stands for.
+  The README has at most 90 lines of at most 160 columns, and each block of code or of definitions in it is the text of a file, but for what `// ..` and `-- ..` stand for.
+  Other documents, but those of crates, have lines of at most 200 columns.
+  Each edit that SECURITY.md names in its list of wrong programs is one of the crate behind it, and each test a module of program_tests.
   The pictures are those that their scripts draw.
 """
 import os, re, subprocess, sys
 
 TOP = os.path.join(os.path.dirname(os.path.abspath(__file__)), "..")
-LONGEST_README = 80
-EXAMPLE = "crates/scan_example/src/lib.rt"
+LONGEST_README, WIDEST_README, WIDEST = 90, 160, 200
+QUOTED = {"rust": "crates/scan_example/src/lib.rt", "antt": "crates/parquet_scan/specs/Scan.antt"}
 PICTURES = ["docs/layers.py", "docs/plots.py"]
 REFUSALS = "docs/SECURITY.md"
 # crates on whose calls nothing of a user stands
@@ -91,16 +93,31 @@ for crate in sorted(os.listdir(os.path.join(TOP, "crates"))):
             if name not in named and not name.startswith(begun):
                 found.append("%s: the table of what a refusal leaves does not name %s of %s" % (REFUSALS, name, crate))
 
-lines = len(text_of(os.path.join(TOP, "README.md")).splitlines())
-if lines > LONGEST_README:
-    found.append("README.md has %d lines, at most %d" % (lines, LONGEST_README))
+programs = re.sub(r"\s+", " ", text_of(os.path.join(TOP, REFUSALS)).split("\n## Programs that would be wrong")[1].split("\n## ")[0])
+for name_list, crate in re.findall(r"((?:`\w+`,? ?)+)of `(\w+)`", " ".join(re.findall(r"edits? ([^;)]*)", programs.split("- It ", 1)[1]))):
+    for edit in re.findall(r"`(\w+)`", name_list):
+        if not os.path.exists(os.path.join(TOP, "crates", crate, "must-fail", edit + ".edit")):
+            found.append("%s: %s has no edit %s" % (REFUSALS, crate, edit))
+for name_list in re.findall(r"tests? ((?:`\w+`,? ?)+)", programs):
+    for test in re.findall(r"`(\w+)`", name_list):
+        if not os.path.exists(os.path.join(TOP, "crates/program_tests/src", test + ".rt")):
+            found.append("%s: program_tests has no tests %s" % (REFUSALS, test))
 
-example = re.search(r"^```rust\n(pub fn .*?)^```", text_of(os.path.join(TOP, "README.md")), re.M | re.S)
-left = iter(text_of(os.path.join(TOP, EXAMPLE)).splitlines())
-for line in example.group(1).splitlines():
-    if line.strip() != "// .." and line not in left:
-        found.append("README.md: the line is not one of %s: %s" % (EXAMPLE, line))
-        break
+readme = text_of(os.path.join(TOP, "README.md"))
+if len(readme.splitlines()) > LONGEST_README:
+    found.append("README.md has %d lines, at most %d" % (len(readme.splitlines()), LONGEST_README))
+for document in documents() + ["docs/pqscan.1"]:
+    widest = WIDEST_README if document == "README.md" else WIDEST
+    for number, line in enumerate(text_of(os.path.join(TOP, document)).splitlines(), 1):
+        if len(line) > widest and not document.startswith("crates/"):
+            found.append("%s:%d has %d columns, at most %d" % (document, number, len(line), widest))
+
+for language, block in re.findall(r"^```(\w+)\n(.*?)^```", readme, re.M | re.S):
+    left = iter(text_of(os.path.join(TOP, QUOTED[language])).splitlines() if language in QUOTED else [])
+    for line in block.splitlines() if language in QUOTED else []:
+        if line.strip() not in ("// ..", "-- ..") and line not in left:
+            found.append("README.md: the line is not one of %s, or not in this place: %s" % (QUOTED[language], line))
+            break
 
 for script in PICTURES:
     drawn = subprocess.run([sys.executable, os.path.join(TOP, script), "--check"], stdout=subprocess.PIPE, text=True)

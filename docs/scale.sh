@@ -1,6 +1,6 @@
 #!/bin/sh
-# Runs the commands of SCALE.md one block after another in a folder of its own, and compares what each prints with the block behind it. A stand-in for ssh runs the commands of
-# other machines in a folder of this one. Needs GNU parallel and rsync. Usage: docs/scale.sh [PQSCAN]
+# Runs the commands of SCALE.md in a folder of its own, and compares what they print (docs/blocks.py). A stand-in for ssh runs the commands of other machines in a folder of this
+# one. Needs GNU parallel and rsync. Usage: docs/scale.sh [PQSCAN]
 set -eu
 here=$(cd "$(dirname "$0")" && pwd)
 program=${1:-$here/../crates/pqscan/out/pqscan}
@@ -32,18 +32,5 @@ chmod +x "$work/bin/stand_in"
 export HOME="$work/home" PATH="$work/bin:$PATH" PARALLEL_SSH="$work/bin/stand_in" SOURCES="$here/.."
 mkdir -p "$HOME/.parallel" && touch "$HOME/.parallel/will-cite"
 cd "$work/run"
-exec python3 - "$here/SCALE.md" <<'PY'
-import re, subprocess, sys
-
-text = open(sys.argv[1], encoding="utf-8").read()
-failed = 0
-steps = re.findall(r"^```sh\n(.*?)^```\n(?:```\n(.*?)^```\n)?", text, re.M | re.S)
-for commands, wanted in steps:
-    found = subprocess.run(["sh", "-c", commands], stdout=subprocess.PIPE, stderr=subprocess.DEVNULL, text=True).stdout
-    # what parallel hands through of its jobs also stands in their files
-    if wanted and found[-len(wanted):] != wanted:
-        failed += 1
-        print("%swrote\n%sand not\n%s" % (commands, found, wanted))
-print("%d blocks, %d wrote something else" % (len(steps), failed))
-sys.exit(failed != 0)
-PY
+# (what parallel hands through of its jobs also stands in their files: so only the end of what is printed is compared)
+exec "$here/blocks.py" "$here/SCALE.md"
