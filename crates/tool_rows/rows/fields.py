@@ -40,9 +40,12 @@ def binaries(texts):
 # ---- schemas
 
 
-def time_in(unit, adjusted=True):
-    """The logical type of times in a unit, which are adjusted to UTC or not."""
-    return Struct().struct(TIMESTAMP, Struct().truth(1, adjusted).struct(2, Struct().struct(unit, Struct())))
+def time_in(*units, adjusted=True):
+    """The logical type of times in a unit, adjusted to UTC or not; no sound file has more than one unit."""
+    union = Struct()
+    for unit in units:
+        union.struct(unit, Struct())
+    return Struct().struct(TIMESTAMP, Struct().truth(1, adjusted).struct(2, union))
 
 
 class Leaf:

@@ -1,6 +1,6 @@
 """Rows of pqinspect. It opens no page, so most files have none: a chunk begins where its pages would and has 0 bytes."""
 from .fields import *
-from .table import FILES, data, failed_reads, failed_writes, note, refused, row
+from .table import FILES, data, each_read, each_write, note, refused, row
 
 # ---- worked files
 
@@ -56,8 +56,13 @@ page 2 0+6 0x7230 0x7235 0
 row("pqinspect six.parquet", INSPECTED_SIX)
 row("memory pqinspect six.parquet", INSPECTED_SIX)
 row("bytewise pqinspect six.parquet", INSPECTED_SIX)
-row("each-read pqinspect six.parquet", failed_reads(6, INSPECTED_SIX))
-row("each-write pqinspect six.parquet", failed_writes(INSPECTED_SIX))
+each_read("pqinspect six.parquet", 6, INSPECTED_SIX)
+each_write("pqinspect six.parquet", INSPECTED_SIX)
+
+FRONT = footer_of([A], [(5, [Chunk(told(int32(10), int32(20), 0))])])[:-1]
+WRITER = b"\x28" + varint(6) + b"writer"
+data("front.parquet", "other first bytes, a field of the footer that is passed over, and stray bytes behind its end", ended(b"FRONT", FRONT + WRITER + b"\0\xff"))
+row("pqinspect front.parquet", INSPECTED_F1)
 
 # ---- types
 
@@ -68,7 +73,7 @@ TYPES = [
     (Leaf("int", INT32), "Int32", int32(-2147483648), int32(2147483647), "-2147483648", "2147483647"),
     (Leaf("long", INT64), "Int64", int64(-(1 << 63)), int64((1 << 63) - 1), "-9223372036854775808", "9223372036854775807"),
     (Leaf("ms", INT64, logical=time_in(MILLIS)), "Timestamp(ms)", int64(-1), int64(1700000000000), "-1", "1700000000000"),
-    (Leaf("us", INT64, logical=time_in(MICROS, False)), "Timestamp(us)", int64(-1000), int64(0), "-1000", "0"),
+    (Leaf("us", INT64, logical=time_in(MICROS, adjusted=False)), "Timestamp(us)", int64(-1000), int64(0), "-1000", "0"),
     (Leaf("ns", INT64, logical=time_in(NANOS)), "Timestamp(ns)", int64(1), int64(1000000007), "1", "1000000007"),
     (Leaf("int96", INT96), "Timestamp(ns)", int96(-1, DAY - 1), int96(1, 0), "-1", "86400000000000"),
     (Leaf("float", FLOAT), None, b"\0\0\x80\xbf", b"\0\0\x80\x3f", None, None),
@@ -118,10 +123,11 @@ VALUES = [
     (Leaf("number", INT32, logical=time_in(MILLIS)), told(int32(-1), int32(0), 0)),
     (Leaf("time", INT96, logical=time_in(MILLIS)), told(int96(0, 1), int96(0, 2), 0)),
     (Leaf("one", FIXED, 1), told(b"\x0a", b"\xf0", 0)),
+    (Leaf("old", INT32), Struct().binary(1, int32(8)).binary(2, int32(7)).i64(3, 0)),
 ]
 data(
     "values.parquet",
-    "truth values of other bytes than 0 and 1; the first and the last time whose nanoseconds have 64 bits, and nanoseconds outside their day; strings of no byte; logical types that decide nothing",
+    "truth values of other bytes than 0 and 1; the first and the last time whose nanoseconds have 64 bits, and nanoseconds outside their day; strings of no byte; logical types that decide nothing; ends in the fields of old",
     file_of([leaf for leaf, _ in VALUES], [(2, [Chunk(statistics) for _, statistics in VALUES])]),
 )
 row("pqinspect values.parquet", r"""
@@ -133,6 +139,7 @@ column 4 "text" Binary
 column 5 "number" Int32
 column 6 "time" Timestamp(ns)
 column 7 "one" FixedSizeBinary(1)
+column 8 "old" Int32
 group 0 2
 stats 0 true true 0
 stats 1 -9223372036854775808 9223372036854775807 0
@@ -142,6 +149,7 @@ stats 4 0x61 0xc3a9 0
 stats 5 -1 0 0
 stats 6 1 2 0
 stats 7 0x0a 0xf0 0
+stats 8 ? ? 0
 """)
 
 # ---- names and nesting
@@ -385,6 +393,19 @@ page 12 0+2 1 2 0
 # ---- pages
 
 
+def one(chunk, leaf=A):
+    """A file of one chunk of 5 rows."""
+    return file_of([leaf], [(5, [chunk])])
+
+
+def of_own_size(make):
+    """The file that is made of its own size."""
+    size = 1000
+    while len(content := make(size)) != size:
+        size = len(content)
+    return content
+
+
 def pair(low, high, nulls=0):
     return int32(low), int32(high), nulls
 
@@ -458,6 +479,20 @@ row("pqinspect pages.parquet", INSPECTED_PAGES)
 row("memory pqinspect pages.parquet", INSPECTED_PAGES)
 row("bytewise pqinspect pages.parquet", INSPECTED_PAGES)
 
+TAILED = TWO + rows_from(0, 2)
+data(
+    "tails.parquet",
+    "indexes whose places reach to the end of the file: what stands behind their structs is passed over",
+    of_own_size(lambda size: one(Chunk(pages=TAILED, index_at=(4, size - 4), offsets_at=(4 + len(TWO), size - 4 - len(TWO))))),
+)
+row("pqinspect tails.parquet", r"""
+column 0 "a" Int32
+group 0 5
+stats 0 ? ? ?
+page 0 0+2 1 2 0
+page 0 2+3 3 4 0
+""")
+
 # ---- what is not looked at
 
 BROKEN = {"index": b"\xff", "offsets": b"\xff"}
@@ -511,20 +546,7 @@ def damaged(name, what, content):
     refused("pqinspect %s.parquet" % name, 5)
 
 
-def one(chunk, leaf=A):
-    """A file of one chunk of 5 rows."""
-    return file_of([leaf], [(5, [chunk])])
-
-
-def of_own_size(make):
-    """The file that is made of its own size."""
-    size = len(make(100))
-    content = make(size)
-    assert len(content) == size
-    return content
-
-
-SOUND = footer_of([A], [(5, [Chunk(told(int32(10), int32(20), 0))])])
+SOUND = FRONT + b"\0"
 
 damaged("nothing", "no byte", b"")
 damaged("short", "the last 11 bytes of a file", FILES["f0.parquet"][-11:])
@@ -540,6 +562,7 @@ damaged("no_chunk", "a group without the chunk of its column", file_of([A], [(5,
 damaged("other_type", "a chunk of another type than its column", one(Chunk(kind=INT64)))
 damaged("no_length", "a column of fixed bytes without their number", file_of([Leaf("a", FIXED)], []))
 damaged("too_deep", "a column below 31 groups below the root", file_of(deep(31), []))
+damaged("two_units", "times in two units", file_of([Leaf("a", INT64, logical=time_in(MILLIS, MICROS))], []))
 damaged("too_many_rows", "two groups that together have 2 to the 63 rows", ended(b"PAR1", footer_of([A], [(1 << 62, [Chunk()]), (1 << 62, [Chunk()])], 0)))
 
 damaged("wide_end", "a least INT32 of 5 bytes", one(Chunk(told(b"\1\0\0\0\0", int32(2), 0))))
@@ -587,6 +610,7 @@ damaged(
 )
 refused("memory pqinspect last_page.parquet", 5)
 refused("bytewise pqinspect last_page.parquet", 5)
+each_read("pqinspect last_page.parquet", 8, status=5)
 
 # ---- times that leave 64 bits
 

@@ -1,5 +1,5 @@
 """Rows of pqscan, over files of the rows of pqinspect."""
-from .table import failed_reads, failed_writes, note, refused, row
+from .table import each_read, each_write, note, refused, row
 
 note("pqscan: the examples of its manual")
 F1_ROWS = r"""
@@ -36,8 +36,9 @@ note("pqscan: in memory, byte by byte, and with failures")
 row("memory pqscan f1.parquet a:Int32 a>=12 a<=18", F1_ROWS)
 row("memory pqscan @sample:6:0 id:Int64 qty:Int32 name:Utf8 --chunk 4", SIX_ROWS)
 row("bytewise pqscan six.parquet id:Int64 qty:Int32 name:Utf8 --chunk 4", SIX_ROWS)
-row("each-read pqscan f1.parquet a:Int32 a>=12 a<=18", failed_reads(1, F1_ROWS))
-row("each-write pqscan f1.parquet a:Int32 a>=12 a<=18", failed_writes(F1_ROWS))
+each_read("pqscan f1.parquet a:Int32 a>=12 a<=18", 1, F1_ROWS)
+each_write("pqscan f1.parquet a:Int32 a>=12 a<=18", F1_ROWS)
+each_write("pqscan @sample:6:0 id:Int64 qty:Int32 name:Utf8 --chunk 4", SIX_ROWS)
 
 note("pqscan: pruning by pages, a limit, and endings")
 row("pqscan @sample:2000:0 qty:Int32 id:Int64 id>=1500 --limit 3", """

@@ -29,17 +29,18 @@ def refused(line, status):
     row(line, "", status)
 
 
-def statuses(failing, calls, text):
-    """What is printed of many runs: a line of their statuses, of which in so many another call fails, and the text of the last."""
-    return " ".join(["statuses"] + [str(failing)] * calls + ["0"]) + "\n" + text.removeprefix("\n")
+def each_read(line, parts, text="", status=0):
+    """A line behind `each-read`: each call in turn fails that reads the file. The size is asked for once; then the last bytes, the footer and each further
+    part take two calls: the size again, and the bytes."""
+    each("each-read " + line, 8, 1 + 2 * (2 + parts), text, status)
 
 
-def failed_reads(parts, text):
-    """The same, where each call in turn fails that reads a file. The size is asked for once; then the last bytes, the footer and each further part take two
-    calls: the size again, and the bytes."""
-    return statuses(8, 1 + 2 * (2 + parts), text)
+def each_write(line, text):
+    """A line behind `each-write`: each call in turn fails that writes the text, a byte in each."""
+    each("each-write " + line, 9, len(text.removeprefix("\n").encode()), text, 0)
 
 
-def failed_writes(text):
-    """The same, where each call in turn fails that writes a text, a byte in each."""
-    return statuses(9, len(text.removeprefix("\n").encode()), text)
+def each(line, failing, calls, text, status):
+    """A line of many runs, of which so many end with a failure."""
+    statuses = [failing] * calls + [status]
+    row(line, "statuses %s\n%s" % (" ".join(map(str, statuses)), text.removeprefix("\n")), status)
