@@ -1,4 +1,4 @@
-//! What the run of a row writes and how it ends, over the file and over its bytes.
+//! What the run of a row writes and how it ends, over its file and over the bytes of that.
 use crate::bytewise::{ByteOut, ByteSource};
 use crate::row::Row;
 use parquet_meta::{FileSource, MemorySource, Source};
@@ -6,8 +6,8 @@ use pq_common::{MemoryOut, ToolStatus};
 use std::alloc::{AllocError, Global};
 use std::rt::Files;
 
-/// More bytes than any run writes.
-pub(crate) const ROOM: usize = 100_000;
+/// As many bytes as a run may write.
+const ROOM: usize = 100_000;
 
 /// What a run writes, and how it ends.
 #[derive(Drop)]
@@ -16,7 +16,16 @@ pub(crate) struct Answer {
     pub(crate) status: ToolStatus,
 }
 
-/// The answer over the file that the first word names, or one that is never there.
+impl Answer {
+    fn new(alloc: Global, text: &[u8], status: ToolStatus) -> Result<Self, AllocError> {
+        Ok(Answer {
+            text: Vec::from_slice(alloc, text)?,
+            status,
+        })
+    }
+}
+
+/// The answer over the file that the first word names; without words over one that is never there.
 pub(crate) fn over_file<R: Files + AllocGlobal>(rt: &R, row: &Row) -> Result<Answer, AllocError> {
     let alloc = rt.alloc();
     let path = match row.words.first() {
@@ -28,11 +37,8 @@ pub(crate) fn over_file<R: Files + AllocGlobal>(rt: &R, row: &Row) -> Result<Ans
 
 /// The answer over bytes in memory.
 pub(crate) fn over_memory(alloc: Global, row: &Row, bytes: &[u8]) -> Result<Answer, AllocError> {
-    over(
-        alloc,
-        row,
-        &mut MemorySource::new(Vec::from_slice(alloc, bytes)?),
-    )
+    let bytes = Vec::from_slice(alloc, bytes)?;
+    over(alloc, row, &mut MemorySource::new(bytes))
 }
 
 /// The answer over a source.
@@ -43,14 +49,11 @@ pub(crate) fn over<S: Source>(
 ) -> Result<Answer, AllocError> {
     let mut out = MemoryOut::new(alloc, ROOM).map_err(|_| AllocError)?;
     let status = row.tool.run(alloc, &row.words, source, &mut out);
-    Ok(Answer {
-        text: Vec::from_slice(alloc, out.bytes())?,
-        status,
-    })
+    Answer::new(alloc, out.bytes(), status)
 }
 
-/// The answer over bytes of which one is read in each call, and where one is written in each, but for the calls with these numbers, which fail.
-pub(crate) fn over_bytes(
+/// The answer over bytes in memory, where a call reads or writes at most one, and the writes of these numbers fail; the first is 1.
+pub(crate) fn byte_by_byte(
     alloc: Global,
     row: &Row,
     bytes: &[u8],
@@ -59,8 +62,5 @@ pub(crate) fn over_bytes(
     let mut source = ByteSource::new(Vec::from_slice(alloc, bytes)?);
     let mut out = ByteOut::new(alloc, ROOM, failing)?;
     let status = row.tool.run(alloc, &row.words, &mut source, &mut out);
-    Ok(Answer {
-        text: Vec::from_slice(alloc, out.bytes())?,
-        status,
-    })
+    Answer::new(alloc, out.bytes(), status)
 }

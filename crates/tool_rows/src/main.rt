@@ -7,7 +7,7 @@ mod failing;
 mod row;
 mod tool;
 
-use answer::{Answer, over_bytes, over_file, over_memory};
+use answer::{Answer, byte_by_byte, over_file, over_memory};
 use failing::{Failing, statuses};
 use row::{Mode, Row};
 use std::io::{BufRead, BufReader};
@@ -48,13 +48,13 @@ fn answer_to<R: Files + Print + AllocGlobal>(rt: &R, row: &Row) -> io::Result<An
     match row.mode {
         Mode::File => Ok(over_file(rt, row)?),
         Mode::Memory => Ok(over_memory(alloc, row, &bytes_of(rt, row)?)?),
-        Mode::Bytewise => Ok(over_bytes(alloc, row, &bytes_of(rt, row)?, Vec::new(alloc))?),
+        Mode::Bytewise => Ok(byte_by_byte(alloc, row, &bytes_of(rt, row)?, Vec::new(alloc))?),
         Mode::EachRead => print_statuses(rt, row, Failing::Reads),
         Mode::EachWrite => print_statuses(rt, row, Failing::Writes),
     }
 }
 
-/// Prints the statuses of runs in each of which another call fails, and gives the answer of the run in which none does.
+/// Prints the statuses of runs in each of which another call fails, and gives the answer of the whole one, in which none does.
 fn print_statuses<R: Files + Print + AllocGlobal>(
     rt: &R,
     row: &Row,
@@ -67,7 +67,7 @@ fn print_statuses<R: Files + Print + AllocGlobal>(
     Ok(whole)
 }
 
-/// The bytes of the file that the first word of a tool names. There are none without words, nor where a sample is named in place of a file.
+/// The bytes of the file that the first word names. There are none without words, nor where it names a sample in place of a file.
 fn bytes_of<R: Files + AllocGlobal>(rt: &R, row: &Row) -> io::Result<Vec<u8>> {
     match row.words.first() {
         Some(path) if !path.starts_with("@sample:") => fs::read(rt, path.as_str()),

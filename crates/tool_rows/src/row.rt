@@ -2,18 +2,18 @@
 use crate::tool::Tool;
 use std::alloc::{AllocError, Global};
 
-/// Where a run reads and writes.
-#[derive(Clone, Copy, PartialEq, Eq)]
+/// What a run reads, and how.
+#[derive(Clone, Copy)]
 pub(crate) enum Mode {
-    /// It reads the file itself. In this and the next mode it writes to memory, as much in each call as it likes.
+    /// The file itself.
     File,
-    /// It reads the bytes of the file, in memory.
+    /// The bytes of the file, in memory.
     Memory,
-    /// It reads such bytes, and reads and writes at most one in each call.
+    /// The bytes in memory, of which a call reads or writes at most one.
     Bytewise,
-    /// There are many runs, in each of which another read fails, and one in which none does.
+    /// The bytes in memory, in many runs, in each of which another read fails.
     EachRead,
-    /// There are many runs, in each of which another write fails, and one in which none does. A write takes at most one byte.
+    /// The bytes in memory, in many runs, in each of which another write fails. A call reads or writes at most one byte.
     EachWrite,
 }
 
@@ -30,7 +30,7 @@ impl Mode {
     }
 }
 
-/// A tool with its words, and where it is to read and write.
+/// A tool, its words, and how it is run.
 #[derive(Drop)]
 pub(crate) struct Row {
     pub(crate) mode: Mode,
