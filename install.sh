@@ -1,6 +1,6 @@
 #!/bin/sh
-# Installs the proved program and its manual page: install.sh [PREFIX], where PREFIX is /usr/local if it is not given.
-# The program is proved and built first, where that is not done yet.
+# Installs the proved programs and their manual pages: install.sh [PREFIX], where PREFIX is /usr/local if it is not given.
+# The programs are proved and built first, where that is not done yet.
 set -u
 
 fail() {
@@ -14,11 +14,10 @@ case $prefix in
 -*) fail "usage: install.sh [PREFIX]" ;;
 esac
 root=$(CDPATH= cd -- "$(dirname -- "$0")" && pwd) || fail "the folder of the sources cannot be found"
-binary=$root/crates/pqscan/out/pqscan
-page=$root/docs/pqscan.1
 
-"$root/prove" || fail "the program could not be proved and built"
-"$binary" "$root/crates/pqscan/data/f1.parquet" a:Int32 >/dev/null || fail "the program does not run"
+"$root/prove" || fail "the programs could not be proved and built"
+"$root/crates/pqscan/out/pqscan" "$root/crates/pqscan/data/f1.parquet" a:Int32 >/dev/null || fail "pqscan does not run"
+"$root/crates/pqinspect/out/pqinspect" "$root/crates/pqinspect/data/f1.parquet" >/dev/null || fail "pqinspect does not run"
 
 # A file is put beside its place first, so that a program that runs is not written over.
 place() {
@@ -26,6 +25,8 @@ place() {
     cp -- "$1" "$2.new" && chmod "$3" "$2.new" && mv -f -- "$2.new" "$2" || fail "cannot write $2"
 }
 
-place "$binary" "$prefix/bin/pqscan" 755
-place "$page" "$prefix/share/man/man1/pqscan.1" 644
-echo "install.sh: $prefix/bin/pqscan and $prefix/share/man/man1/pqscan.1 stand"
+for name in pqscan pqinspect; do
+    place "$root/crates/$name/out/$name" "$prefix/bin/$name" 755
+    place "$root/docs/$name.1" "$prefix/share/man/man1/$name.1" 644
+    echo "install.sh: $prefix/bin/$name and $prefix/share/man/man1/$name.1 stand"
+done

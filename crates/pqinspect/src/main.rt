@@ -15,7 +15,10 @@ fn main(rt: HostRuntime) -> ExitCode {
 
 fn inspect_file(rt: &HostRuntime) -> Status {
     match Edge::open(rt) {
-        Ok(mut edge) => run_inspect(rt.alloc(), &edge.words, &mut edge.source, &mut edge.out),
+        Ok(mut edge) => {
+            let edge = &mut edge;
+            run_inspect(rt.alloc(), &edge.words, &mut edge.source, &mut edge.out)
+        }
         Err(status) => status,
     }
 }

@@ -25,6 +25,7 @@ fn scan<L: Ledger>(rt: &HostRuntime, blank: Blank) -> Status
 {
     match Edge::open(rt) {
         Ok(mut edge) => {
+            let edge = &mut edge;
             let mut steps = Steps::<L>::new(blank);
             run(rt.alloc(), &edge.words, &mut edge.source, &mut edge.out, &mut steps)
         }
