@@ -2,10 +2,11 @@
 use Rattle.std.specs.Prelude.{ℕ, Bool, List, [], slice_get, Option, Some, None, option_and_then, option_map, IsSome}
 use Rattle.parquet_meta.specs.declared.metadata.PhysicalType.{PhysicalType}
 use Rattle.parquet_page.specs.Stored.{Stored}
-use Rattle.parquet_plain.specs.Bounds.{Bounds}
+use Rattle.parquet_plain.specs.Bodies.{present}
+use Rattle.parquet_plain.specs.Bounds.{Bounds, bounds_after}
 use Rattle.parquet_plain.specs.Columns.{Written}
 use Rattle.parquet_write.specs.declared.bounds.RowBounds.{RowBounds}
-use Rattle.parquet_write.specs.declared.chunk.Paging.{Paging}
+use Rattle.parquet_write.specs.declared.pages.Paging.{Paging}
 
 -- the item of a row, if the row is there
 abbrev pub row_of : List (Option Stored) → ℕ → Option Stored
@@ -23,7 +24,12 @@ bounds_by_rows items None = None
 bounds_by_rows items (Some rows) =
     option_and_then (λ least. option_map (λ greatest. (least, greatest)) (row_of items rows.greatest)) (row_of items rows.least)
 
--- ---- chunks
+-- there are bounds, by rows of all items, and they are those of some of the items
+pub record Finds (at_most : Stored → Stored → Bool) (items some : List (Option Stored)) (found : Option RowBounds) : Type 0 where
+  pub there : AreThere items found
+  pub same : bounds_by_rows items found ≡ bounds_after at_most None (present some)
+
+-- ---- columns
 
 -- a column of items of a type in an order; its name and what is more of its type stand in the footer alone
 abbrev pub unnamed_column : PhysicalType → (Stored → Stored → Bool) → Paging → Written

@@ -1,11 +1,10 @@
 //! The least and the greatest of items, by their rows.
 
-ghost use Rattle.std.specs.Prelude.{◌≡◌, ◌≤◌, None, length, IfOk, IfSome, IsSome};
+ghost use Rattle.std.specs.Prelude.{◌≡◌, ◌≤◌, length, IfOk, IfSome, IsSome};
 ghost use Rattle.std.specs.List.{slice_range};
-ghost use Rattle.parquet_plain.specs.Bodies.{present};
-ghost use Rattle.parquet_plain.specs.Bounds.{bounds_after, joined_bounds, stored_bounds};
+ghost use Rattle.parquet_plain.specs.Bounds.{joined_bounds, stored_bounds};
 ghost use Rattle.parquet_plain.specs.Columns.{end_bytes};
-ghost use Rattle.parquet_write.specs.Items.{AreThere, bounds_by_rows, row_of};
+ghost use Rattle.parquet_write.specs.Items.{AreThere, Finds, bounds_by_rows, row_of};
 
 use crate::items::Items;
 use columns_core::Seq;
@@ -53,10 +52,8 @@ pub(crate) fn joined<I: Items>(
 pub(crate) fn bounds_of<I: Items>(items: &I, from: usize, to: usize) -> Option<RowBounds>
     requires order { from ≤ to }
     requires within { to ≤ length (I.items items.now) }
-    ensures there { AreThere (I.items items.now) result }
-    ensures bounds { let rows = slice_range (I.items items.now) from to in
-        bounds_by_rows (I.items items.now) result
-        ≡ bounds_after (I.at_most items.now) None (present rows) }
+    ensures { let rows = slice_range (I.items items.now) from to in
+        Finds (I.at_most items.now) (I.items items.now) rows result }
 {
     let mut found = None;
     for row in from..to {

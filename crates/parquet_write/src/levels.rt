@@ -1,6 +1,6 @@
 //! Levels: which rows are there, eight a byte, in one packed run.
 
-ghost use Rattle.std.specs.Prelude.{◌≡◌, ◌≤◌, ◌+◌, Bool, is_some, length, map};
+ghost use Rattle.std.specs.Prelude.{◌≡◌, ◌<◌, ◌≤◌, ◌+◌, ◌-◌, ◌^◌, Bool, is_some, length, map};
 ghost use Rattle.std.specs.List.{slice_range};
 ghost use Rattle.compact_write.specs.Calls.{Writes};
 ghost use Rattle.parquet_plain.specs.Bodies.{bit, bits_bytes, level_bytes, number_of_bits};
@@ -62,10 +62,11 @@ pub(crate) fn write_levels<I: Items>(
 ) -> Result<(), AllocError>
     requires order { from ≤ to }
     requires within { to ≤ length (I.items items.now) }
+    requires few { to - from < 2 ^ 31 }
     ensures written { let rows = slice_range (I.items items.now) from to in
         Writes (level_bytes (map is_some rows)) levels.old result levels.new }
 {
-    write_varint(levels, 2 * ((to - from) as u64).div_ceil(8) + 1)?;
+    write_varint(levels, 2 * (((to - from) as u64 + 7) / 8) + 1)?;
     write_level_bits(levels, items, from, to)?;
     Ok(())
 }

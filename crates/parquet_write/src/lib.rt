@@ -13,10 +13,11 @@ mod levels;
 mod measure;
 mod offset_index;
 mod page;
+mod pages;
 mod parts;
 mod schema;
 
-pub use chunk::{Paging, add_chunk};
+pub use chunk::add_chunk;
 pub use column_index::write_column_index;
 pub use facts::{Bases, ChunkFacts, GroupFacts, PageFacts};
 pub use file::end_file;
@@ -25,4 +26,5 @@ pub use items::{Items, null_count};
 pub use measure::to_measure;
 pub use offset_index::write_offset_index;
 pub use page::write_page;
+pub use pages::Paging;
 pub use parts::{Parts, Room};
