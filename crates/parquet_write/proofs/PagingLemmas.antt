@@ -13,6 +13,8 @@ use Rattle.parquet_plain.proofs.PieceLemmas.{cut-sum, next_rows}
 use Rattle.parquet_plain.proofs.RowLemmas.{length-rows}
 use Rattle.parquet_write.specs.Parts.{page_told, pages_told}
 use Rattle.parquet_write.specs.Told.{greatest_told, index_told, is_null_page, least_told, location_told, nulls_told}
+use Rattle.parquet_plain.specs.declared.ends.Ends.{Ends}
+use Rattle.parquet_write.specs.declared.facts.ChunkFacts.{ChunkFacts}
 use Rattle.parquet_write.specs.declared.facts.PageFacts.{PageFacts}
 
 -- the pages of the rows that are left
@@ -109,3 +111,12 @@ rows-of to (items ∷ parts) =
 pub rows_of_chunk-is : (to : Written) (items : List (Option Stored)) → 0 < to.page_rows → rows_of_chunk (written_chunk to items) ≡ length items
 unfolding written_chunk
 rows_of_chunk-is to items some = rows-of to (cut (Some to.page_rows) items) ∙ cut-sum to.page_rows items some
+
+-- ---- what is told of a chunk
+
+-- equal parts make equal facts
+pub told_alike : {start start' size size' rows rows' nulls nulls' index index' index_size index_size' locations locations' locations_size locations_size' : ℕ} {ends ends' : Option Ends} →
+    start ≡ start' → size ≡ size' → rows ≡ rows' → nulls ≡ nulls' → ends ≡ ends' → index ≡ index' → index_size ≡ index_size' → locations ≡ locations' → locations_size ≡ locations_size' →
+    ◌≡◌ {A = ChunkFacts} record { start = start; size = size; rows = rows; nulls = nulls; ends = ends; index = index; index_size = index_size; locations = locations; locations_size = locations_size }
+    record { start = start'; size = size'; rows = rows'; nulls = nulls'; ends = ends'; index = index'; index_size = index_size'; locations = locations'; locations_size = locations_size' }
+told_alike a b d e f g h i j = cc

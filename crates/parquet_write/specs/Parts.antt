@@ -73,7 +73,7 @@ told_of parts columns groups = file_told columns (bases_of parts) groups
 -- the parts one behind another, and the end of the file
 abbrev pub file_bytes : Parts → List ColumnDescriptor → List GroupFacts → List ℕ
 file_bytes parts columns groups =
-    parts.chunks.items ++ (parts.indexes.items ++ (parts.locations.items ++ end_of_file_bytes columns (bases_of parts) groups))
+    ((parts.chunks.items ++ parts.indexes.items) ++ parts.locations.items) ++ end_of_file_bytes columns (bases_of parts) groups
 
 -- ---- what is refused
 

@@ -5,9 +5,9 @@ ghost use Rattle.parquet_plain.specs.Short.{is_short_footer};
 ghost use Rattle.parquet_write.specs.Parts.{OverflowsUnless, file_bytes, told_of};
 ghost use Rattle.parquet_write.specs.Told.{HasColumns};
 
-use crate::facts::{Bases, GroupFacts};
+use crate::facts::GroupFacts;
 use crate::footer::{has_few_rows, write_footer, write_tail};
-use crate::parts::Parts;
+use crate::parts::{JoinedParts, Parts};
 use columns_core::Error;
 use parquet_meta::ColumnDescriptor;
 
@@ -28,25 +28,12 @@ pub fn end_file(
     if !has_few_rows(groups) || columns.len() > i32::MAX as usize {
         return Err(Error::Overflow);
     }
-    let Parts {
-        chunks: mut out,
-        indexes,
-        locations,
-        room: _room,
-    } = parts;
-    let indexes_base = out.len() as u64;
-    out.extend_from_slice(&indexes)?;
-    let locations_base = out.len() as u64;
-    out.extend_from_slice(&locations)?;
-    let bases = Bases {
-        indexes: indexes_base,
-        locations: locations_base,
-    };
-    let start = out.len();
-    write_footer(&mut out, columns, bases, groups)?;
-    let Ok(length) = u32::try_from(out.len() - start) else {
+    let JoinedParts { mut bytes, bases } = parts.join()?;
+    let start = bytes.len();
+    write_footer(&mut bytes, columns, bases, groups)?;
+    let Ok(length) = u32::try_from(bytes.len() - start) else {
         return Err(Error::Overflow);
     };
-    write_tail(&mut out, length)?;
-    Ok(out)
+    write_tail(&mut bytes, length)?;
+    Ok(bytes)
 }

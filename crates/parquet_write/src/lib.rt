@@ -27,4 +27,4 @@ pub use measure::to_measure;
 pub use offset_index::write_offset_index;
 pub use page::write_page;
 pub use pages::Paging;
-pub use parts::{Parts, Room};
+pub use parts::{JoinedParts, Parts, Room};
