@@ -21,6 +21,7 @@ use columns_core::Error;
 use std::alloc::Global;
 
 /// How many bytes were added.
+#[derive(Clone, Copy)]
 struct IndexSizes {
     index: u32,
     locations: u32,
