@@ -7,3 +7,4 @@ pub mod LevelLemmas
 pub mod PagingLemmas
 pub mod PartLemmas
 pub mod FileLemmas
+pub mod ItemLemmas

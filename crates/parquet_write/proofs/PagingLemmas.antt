@@ -1,7 +1,7 @@
 -- Items written as a chunk, a page at a time.
 use Rattle.std.proofs.Common.{◌≡◌, ℕ, ◌+◌, ◌-◌, ◌<◌, ◌≤◌, pos, List, [], ◌∷◌, ◌++◌, Option, Some, refl, sym, ap, ◌∙◌, arith, min, length, drop, map, append_assoc, append-nil, length-append}
-use Rattle.std.specs.Prelude.{is_none, sum_by}
-use Rattle.std.specs.List.{flat_map, slice_range}
+use Rattle.std.specs.Prelude.{is_none, sum_by, ◌&&◌, Bool, true, false}
+use Rattle.std.specs.List.{flat_map, list_all, slice_range}
 use Rattle.std.proofs.lemmas.List.{drop_all}
 use Rattle.std.proofs.lemmas.List.Sums.{sum_by-cons}
 use Rattle.parquet_base.specs.Pieces.{cut}
@@ -9,6 +9,7 @@ use Rattle.parquet_meta.specs.ColumnIndex.{index_with}
 use Rattle.parquet_page.specs.Stored.{Stored}
 use Rattle.parquet_plain.specs.Columns.{Written, written_chunk, written_page}
 use Rattle.parquet_plain.specs.Description.{PlainChunk, PlainPage, chunk_bytes, greatest_of, index_of_chunk, least_of, locations_from, page_bytes, rows_of_chunk}
+use Rattle.parquet_plain.specs.Short.{is_short_page}
 use Rattle.parquet_plain.proofs.PieceLemmas.{cut-sum, next_rows}
 use Rattle.parquet_plain.proofs.RowLemmas.{length-rows}
 use Rattle.parquet_write.specs.Parts.{page_told, pages_told}
@@ -75,6 +76,29 @@ paging_ends to items old out facts row done is =
       sym (append-nil out) ∙ ap (λ (pages : List PlainPage). out ++ flat_map page_bytes pages) none ∙ is.same ∙ ap (λ (pages : List PlainPage). old ++ flat_map page_bytes pages) all,
       sym (append-nil facts) ∙ ap (λ (pages : List PlainPage). facts ++ pages_told (length out) row pages) none ∙ is.told ∙ ap (pages_told (length old) 0) all,
     )
+
+-- ---- which pages are short
+
+-- no page so far was too long: the pages that are left decide
+pub record AreShort (to : Written) (items : List (Option Stored)) (row : ℕ) : Type 0 where
+  pub same : list_all is_short_page (pages_left to items row) ≡ list_all is_short_page (written_chunk to items).pages
+
+pub short_begins : (to : Written) (items : List (Option Stored)) → AreShort to items 0
+short_begins to items = record { same = ap (list_all is_short_page) (all-pages to items) }
+
+pub short_goes_on : (to : Written) (items : List (Option Stored)) (row next : ℕ) → 0 < to.page_rows → row < length items → next ≡ row + min to.page_rows (length items - row) →
+    is_short_page (written_page to (slice_range items row next)) ≡ true → AreShort to items row → AreShort to items next
+short_goes_on to items row next some lt e own are = record {
+  same = sym (ap (list_all is_short_page) (next-page to items row next some lt e) ∙ ap (λ (b : Bool). b && list_all is_short_page (pages_left to items next)) own) ∙ are.same;
+}
+
+pub short_ends : (to : Written) (items : List (Option Stored)) (row : ℕ) → length items ≤ row → AreShort to items row → list_all is_short_page (written_chunk to items).pages ≡ true
+short_ends to items row done are = sym are.same ∙ ap (list_all is_short_page) (none-left to items row done)
+
+pub short_fails : (to : Written) (items : List (Option Stored)) (row next : ℕ) → 0 < to.page_rows → row < length items → next ≡ row + min to.page_rows (length items - row) →
+    is_short_page (written_page to (slice_range items row next)) ≡ false → AreShort to items row → list_all is_short_page (written_chunk to items).pages ≡ false
+short_fails to items row next some lt e own are =
+    sym are.same ∙ ap (list_all is_short_page) (next-page to items row next some lt e) ∙ ap (λ (b : Bool). b && list_all is_short_page (pages_left to items next)) own
 
 -- ---- what is told of pages
 

@@ -1,9 +1,13 @@
 -- Chunks behind chunks, and what is told of groups.
-use Rattle.std.proofs.Common.{◌≡◌, ℕ, ◌+◌, List, [], ◌∷◌, ◌++◌, refl, sym, ap, ◌∙◌, arith, length, append_assoc, append-nil, length-append}
+use Rattle.std.proofs.Common.{◌≡◌, ℕ, ◌+◌, Bool, true, false, ◌&&◌, List, [], ◌∷◌, ◌++◌, refl, sym, ap, ◌∙◌, arith, length, append_assoc, append-nil, length-append}
+use Rattle.std.proofs.Math.Bool.{and_assoc}
 use Rattle.std.proofs.lemmas.List.Concat.{flat_map-append}
 use Rattle.parquet_plain.specs.Description.{PlainChunk, PlainGroup, chunk_bytes}
 use Rattle.parquet_plain.specs.File.{Starts, all_locations_bytes, behind, behind_all, chunk_index_bytes, chunk_locations_bytes, chunks_of, data_bytes, indexes_bytes}
+use Rattle.parquet_plain.specs.Short.{are_short_chunks, is_short_chunk}
 use Rattle.parquet_write.specs.Parts.{AddsChunks, group_facts, groups_facts, starts_of}
+use Rattle.parquet_write.specs.Told.{all_facts, facts_of}
+use Rattle.parquet_write.specs.declared.facts.ChunkFacts.{ChunkFacts}
 use Rattle.parquet_write.specs.declared.facts.GroupFacts.{GroupFacts}
 use Rattle.parquet_write.specs.declared.parts.Parts.{Parts}
 
@@ -55,6 +59,23 @@ adds_more old mid new xs ys first second =
           ∙ ap (λ (n : ℕ). old.locations.items ++ (all_locations_bytes start xs ++ all_locations_bytes n ys)) at
           ∙ ap (λ (bs : List ℕ). old.locations.items ++ bs) (sym (locations-append start xs ys));
     }
+
+-- ---- chunks one after another
+
+-- one chunk more
+pub facts-more : (at : Starts) (done : List PlainChunk) (chunk : PlainChunk) → all_facts at (done ++ chunk ∷ []) ≡ all_facts at done ++ facts_of (behind_all at done) chunk ∷ []
+facts-more at [] chunk = refl
+facts-more at (first ∷ done) chunk = ap (λ (facts : List ChunkFacts). facts_of at first ∷ facts) (facts-more (behind at first) done chunk)
+
+pub short-append : (start : ℕ) (xs ys : List PlainChunk) → are_short_chunks start (xs ++ ys) ≡ (are_short_chunks start xs && are_short_chunks (start + length (data_bytes xs)) ys)
+short-append start [] ys =
+    let here : start ≡ start + 0 = omega arith in
+    ap (λ (at : ℕ). are_short_chunks at ys) here
+short-append start (x ∷ xs) ys =
+    let there : start + length (chunk_bytes x) + length (data_bytes xs) ≡ start + length (data_bytes (x ∷ xs)) = omega (arith, length-append (chunk_bytes x) (data_bytes xs)) in
+    ap (λ (b : Bool). is_short_chunk start x && b) (short-append (start + length (chunk_bytes x)) xs ys)
+    ∙ sym (and_assoc (is_short_chunk start x) (are_short_chunks (start + length (chunk_bytes x)) xs) (are_short_chunks (start + length (chunk_bytes x) + length (data_bytes xs)) ys))
+    ∙ ap (λ (at : ℕ). (is_short_chunk start x && are_short_chunks (start + length (chunk_bytes x)) xs) && are_short_chunks at ys) there
 
 -- ---- groups
 

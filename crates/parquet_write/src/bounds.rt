@@ -3,7 +3,7 @@
 ghost use Rattle.std.specs.Prelude.{◌≡◌, ◌≤◌, length, IfOk, IfSome, IsSome};
 ghost use Rattle.std.specs.List.{slice_range};
 ghost use Rattle.parquet_plain.specs.Bounds.{joined_bounds, stored_bounds};
-ghost use Rattle.parquet_plain.specs.Columns.{end_bytes};
+ghost use Rattle.parquet_plain.specs.Columns.{end_bytes, first_of, last_of};
 ghost use Rattle.parquet_write.specs.Items.{AreThere, Finds, bounds_by_rows, row_of};
 
 use crate::items::Items;
@@ -16,6 +16,36 @@ use std::alloc::{AllocError, Global};
 pub(crate) struct RowBounds {
     pub least: usize,
     pub greatest: usize,
+}
+
+/// The one of two rows that comes first; both are there.
+fn earlier<I: Items>(items: &I, first: usize, second: usize) -> usize
+    requires first { IsSome (row_of (I.items items.now) first) }
+    requires second { IsSome (row_of (I.items items.now) second) }
+    ensures { let row = row_of (I.items items.now) in
+        IfSome (row first) (λ a. IfSome (row second) (λ b.
+        row result ≡ Some (first_of (I.at_most items.now) a b))) }
+{
+    if items.is_at_most(first, second) {
+        first
+    } else {
+        second
+    }
+}
+
+/// The one that comes last.
+fn later<I: Items>(items: &I, first: usize, second: usize) -> usize
+    requires first { IsSome (row_of (I.items items.now) first) }
+    requires second { IsSome (row_of (I.items items.now) second) }
+    ensures { let row = row_of (I.items items.now) in
+        IfSome (row first) (λ a. IfSome (row second) (λ b.
+        row result ≡ Some (last_of (I.at_most items.now) a b))) }
+{
+    if items.is_at_most(first, second) {
+        second
+    } else {
+        first
+    }
 }
 
 /// The bounds of two lists of rows, one behind the other.
@@ -34,16 +64,8 @@ pub(crate) fn joined<I: Items>(
         (None, found) => found,
         (found, None) => found,
         (Some(a), Some(b)) => Some(RowBounds {
-            least: if items.is_at_most(a.least, b.least) {
-                a.least
-            } else {
-                b.least
-            },
-            greatest: if items.is_at_most(a.greatest, b.greatest) {
-                b.greatest
-            } else {
-                a.greatest
-            },
+            least: earlier(items, a.least, b.least),
+            greatest: later(items, a.greatest, b.greatest),
         }),
     }
 }
