@@ -1,8 +1,9 @@
 -- The parts of a file that grow side by side, what is told of them, and the file that they make.
-use Rattle.std.specs.Prelude.{◌≡◌, ℕ, ◌+◌, Bool, true, false, List, [], ◌∷◌, ◌++◌, length, Result, OnOk, IfErr}
+use Rattle.std.specs.Prelude.{◌≡◌, ℕ, ◌+◌, Bool, true, false, List, [], ◌∷◌, ◌++◌, length, Result, Vec, OnOk, IfErr}
 use Rattle.columns_core.specs.Causes.{IsWantOfMemory}
 use Rattle.columns_core.specs.declared.error.Error.{Error}
 use Rattle.columns_core.specs.declared.error.Error.TheVariants.{Overflow}
+use Rattle.compact_write.specs.Calls.{Writes}
 use Rattle.parquet_meta.specs.declared.metadata.ColumnDescriptor.{ColumnDescriptor}
 use Rattle.parquet_meta.specs.declared.metadata.FileMetaData.{FileMetaData}
 use Rattle.parquet_plain.specs.Description.{PlainChunk, PlainGroup, PlainPage, page_bytes}
@@ -81,3 +82,8 @@ file_bytes parts columns groups =
 pub record OverflowsUnless {T : Type 0} (is_short : Bool) (result : Result T Error) : Type 0 where
   pub fits : OnOk result (is_short ≡ true)
   pub cause : IfErr result (λ e. IsWantOfMemory e ⊎ ((e ≡ Overflow) × (is_short ≡ false)))
+
+-- These bytes stand behind the old ones, where a test of them holds.
+pub record WritesShort {Z T : Type 0} (bytes : List ℕ) (is_short : Bool) (old : Vec ℕ Z) (result : Result T Error) (new : Vec ℕ Z) : Type 0 where
+  pub written : Writes bytes old result new
+  pub short : OverflowsUnless is_short result

@@ -89,5 +89,6 @@ pub fn write_end_of_file(
 {
     let start = out.len();
     write_footer(out, columns, bases, groups)?;
-    write_tail(out, to_measure(out.len() - start)?)
+    let length = to_measure(out.len() - start)?;
+    write_tail(out, length)
 }

@@ -4,11 +4,11 @@ ghost use Rattle.std.specs.Prelude.{◌≡◌, ◌<◌, ◌≤◌, ◌-◌, ◌^
 ghost use Rattle.std.specs.List.{list_all, slice_range};
 ghost use Rattle.compact_write.specs.Calls.{Writes};
 ghost use Rattle.parquet_plain.specs.Bodies.{body_bytes, levels_of};
-ghost use Rattle.parquet_plain.specs.Columns.{written_chunk, written_page};
+ghost use Rattle.parquet_plain.specs.Columns.{nulls_of, written_chunk, written_page};
 ghost use Rattle.parquet_plain.specs.Description.{chunk_bytes, page_bytes};
 ghost use Rattle.parquet_plain.specs.Short.{is_short_page};
 ghost use Rattle.parquet_write.specs.Items.{Finds, unnamed_column};
-ghost use Rattle.parquet_write.specs.Parts.{OverflowsUnless, page_told, pages_told};
+ghost use Rattle.parquet_write.specs.Parts.{WritesShort, page_told, pages_told};
 
 use crate::bounds::{RowBounds, bounds_of, joined, stored_ends};
 use crate::facts::PageFacts;
@@ -96,13 +96,10 @@ fn write_rows<I: Items>(
     requires within { to ≤ length (I.items items.now) }
     ensures written { let column = unnamed_column (I.type_ items.now) (I.at_most items.now) paging in
         let page = written_page column (slice_range (I.items items.now) from to) in
-        Writes (page_bytes page) out.old result out.new }
+        WritesShort (page_bytes page) (is_short_page page) out.old result out.new }
     ensures size { let column = unnamed_column (I.type_ items.now) (I.at_most items.now) paging in
         let page = written_page column (slice_range (I.items items.now) from to) in
         IfOk result (λ size. size ≡ length (page_bytes page)) }
-    ensures short { let column = unnamed_column (I.type_ items.now) (I.at_most items.now) paging in
-        let page = written_page column (slice_range (I.items items.now) from to) in
-        OverflowsUnless (is_short_page page) result }
 {
     let rows = to_short(to - from)?;
     write_body(room, items, paging.repetition, from, to)?;
@@ -126,15 +123,12 @@ fn add_page<I: Items>(
     requires within { to ≤ length (I.items items.now) }
     ensures written { let column = unnamed_column (I.type_ items.now) (I.at_most items.now) paging in
         let page = written_page column (slice_range (I.items items.now) from to) in
-        Writes (page_bytes page) out.old result out.new }
+        WritesShort (page_bytes page) (is_short_page page) out.old result out.new }
     ensures told { let column = unnamed_column (I.type_ items.now) (I.at_most items.now) paging in
         let page = written_page column (slice_range (I.items items.now) from to) in
         IfOk result (λ told. told.1 ≡ page_told (length out.old.items) from page) }
     ensures bounds { let rows = slice_range (I.items items.now) from to in
         IfOk result (λ told. Finds (I.at_most items.now) (I.items items.now) rows told.0) }
-    ensures short { let column = unnamed_column (I.type_ items.now) (I.at_most items.now) paging in
-        let page = written_page column (slice_range (I.items items.now) from to) in
-        OverflowsUnless (is_short_page page) result }
 {
     let start = out.len();
     let size = write_rows(out, room, items, paging, from, to)?;
@@ -161,16 +155,14 @@ pub(crate) fn write_pages<I: Items>(
 ) -> Result<Paged, Error>
     requires { 0 < paging.page_rows }
     ensures written { let column = unnamed_column (I.type_ items.now) (I.at_most items.now) paging in
-        Writes (chunk_bytes (written_chunk column (I.items items.now))) out.old result out.new }
+        let chunk = written_chunk column (I.items items.now) in
+        WritesShort (chunk_bytes chunk) (list_all is_short_page chunk.pages) out.old result out.new }
     ensures told { let column = unnamed_column (I.type_ items.now) (I.at_most items.now) paging in
         let pages = (written_chunk column (I.items items.now)).pages in
         IfOk result (λ paged. paged.pages.items ≡ pages_told (length out.old.items) 0 pages) }
     ensures found { let items = I.items items.now in
         IfOk result (λ paged. Finds (I.at_most items.now) items items paged.bounds) }
     ensures nulls { IfOk result (λ paged. paged.nulls ≡ nulls_of (I.items items.now)) }
-    ensures short { let column = unnamed_column (I.type_ items.now) (I.at_most items.now) paging in
-        let pages = (written_chunk column (I.items items.now)).pages in
-        OverflowsUnless (list_all is_short_page pages) result }
 {
     let rows = items.rows();
     let mut nulls = 0;
