@@ -16,3 +16,4 @@ pub mod NumberOrder
 pub mod BitLemmas
 pub mod BoundLemmas
 pub mod RowLemmas
+pub mod ShortLemmas

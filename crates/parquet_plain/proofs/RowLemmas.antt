@@ -1,7 +1,7 @@
 -- Rows from one up to another.
-use Rattle.std.proofs.Common.{◌≡◌, ℕ, suc, ◌+◌, ◌-◌, ◌<◌, ◌≤◌, List, [], ◌∷◌, ◌++◌, refl, ap, ◌∙◌, arith, length, map, take, drop, get_or}
+use Rattle.std.proofs.Common.{◌≡◌, ℕ, suc, ◌+◌, ◌-◌, ◌<◌, ◌≤◌, List, [], ◌∷◌, ◌++◌, ap, ◌∙◌, arith, length, map, take, drop, get_or}
 use Rattle.std.specs.List.{slice_range}
-use Rattle.std.proofs.lemmas.List.{drop-drop, drop-map, length-drop, length-take, take_all, take-map}
+use Rattle.std.proofs.lemmas.List.{drop-drop, drop-map, drop-take, length-drop, length-take, take_all, take-map, take-take}
 use Rattle.std.proofs.Math.Seq.{drop-cons, take-add}
 
 pub length-rows : {X : Type 0} (from to : ℕ) (items : List X) → to ≤ length items → length (slice_range items from to) ≡ to - from
@@ -41,3 +41,16 @@ rows-last {X = X} items d from to le within =
   where
     none : (n : ℕ) → n + 1 - suc n ≡ 0
     none n = omega arith
+
+-- rows of rows
+pub rows-within : {X : Type 0} (items : List X) (from to first last : ℕ) → from ≤ first → first ≤ last → last ≤ to →
+    slice_range (slice_range items from to) (first - from) (last - from) ≡ slice_range items first last
+rows-within {X = X} items from to first last a b d =
+    let many : to - from ≡ (first - from) + (to - first) = omega arith in
+    let own : last - from - (first - from) ≡ last - first = omega arith in
+    let there : from + (first - from) ≡ first = omega arith in
+    ap (λ (n : ℕ). take n (drop (first - from) (slice_range items from to))) own
+    ∙ ap (λ (n : ℕ). take (last - first) (drop (first - from) (take n (drop from items)))) many
+    ∙ ap (take (last - first)) (drop-take (first - from) (to - first) (drop from items))
+    ∙ take-take (last - first) (to - first) (drop (first - from) (drop from items)) (omega arith)
+    ∙ ap (take (last - first)) (drop-drop (first - from) from items ∙ ap (λ (n : ℕ). drop n items) there)

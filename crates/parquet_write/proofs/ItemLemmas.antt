@@ -1,11 +1,11 @@
 -- Items a row at a time: which are null, and what their bounds are.
-use Rattle.std.proofs.Common.{◌≡◌, ℕ, ◌+◌, ◌-◌, ◌<◌, ◌≤◌, Bool, true, false, cond, List, [], ◌∷◌, ◌++◌, Option, Some, None, refl, sym, ap, subst, ◌∙◌, arith, length, drop, get_or, unwrap_or, append-nil}
+use Rattle.std.proofs.Common.{◌≡◌, ℕ, suc, ◌+◌, ◌-◌, ◌<◌, ◌≤◌, Bool, true, false, cond, List, [], ◌∷◌, ◌++◌, Option, Some, None, refl, sym, ap, subst, ◌∙◌, arith, length, drop, map, get_or, unwrap_or, append-nil}
 use Rattle.std.specs.Prelude.{All, Contains, is_none, is_some, slice_get, IfSome, IsSome}
 use Rattle.std.specs.List.{slice_range}
 use Rattle.std.specs.Option.{option_and_then}
 use Rattle.std.proofs.lemmas.List.Elements.{All-contains_itself, All-weaker, Contains-append_left, Contains-append_right, filter_map-append}
 use Rattle.std.proofs.lemmas.List.Folds.{drop_split}
-use Rattle.std.proofs.lemmas.List.Sums.{count_by-le-length, sum_by-append}
+use Rattle.std.proofs.lemmas.List.Sums.{sum_by-append}
 use Rattle.std.proofs.lemmas.Option.{unwrap_or-slice_get}
 use Rattle.parquet_meta.specs.declared.metadata.PhysicalType.{PhysicalType}
 use Rattle.parquet_page.specs.Stored.{Stored}
@@ -15,7 +15,7 @@ use Rattle.parquet_plain.specs.Columns.{end_bytes, first_of, last_of, nulls_of}
 use Rattle.parquet_plain.specs.Orders.{IsOrder}
 use Rattle.parquet_plain.specs.declared.ends.Ends.{Ends}
 use Rattle.parquet_plain.proofs.BoundLemmas.{bounds-append, bounds-joined, joined-one}
-use Rattle.parquet_plain.proofs.RowLemmas.{length-rows, rows-last, rows-none, rows-split}
+use Rattle.parquet_plain.proofs.RowLemmas.{rows-first, rows-last, rows-map, rows-none, rows-split}
 use Rattle.parquet_write.specs.Items.{AreThere, Finds, bounds_by_rows, row_of}
 use Rattle.parquet_write.specs.declared.bounds.RowBounds.{RowBounds}
 
@@ -34,14 +34,35 @@ row-last : (items : List (Option Stored)) (from row : ℕ) (item : Option Stored
 row-last items from row item le lt own =
     rows-last items None from row le lt ∙ ap (λ (i : Option Stored). slice_range items from row ++ i ∷ []) (row-is items row ∙ own)
 
-pub if_some : (o : Option Stored) (P : Stored → Type 0) → IsSome o → IfSome o P → (item : Stored) × (o ≡ Some item) × P item
+some_item : (o : Option Stored) → IsSome o → (item : Stored) × (o ≡ Some item)
+some_item None some = absurd cc
+some_item (Some item) some = (item, refl)
+
+none_item : (o : Option Stored) → is_some o ≡ false → o ≡ None
+none_item None none = refl
+none_item (Some item) none = absurd cc
+
+-- the first level, and those behind it
+pub levels-first : (items : List (Option Stored)) (now row to : ℕ) → row ≡ suc now → now < to → now < length items →
+    slice_range (map is_some items) now to ≡ is_some (row_of items now) ∷ slice_range (map is_some items) row to
+levels-first items now row to e lt within =
+    rows-map is_some items now to ∙ ap (map is_some) (rows-first items None now to lt within)
+    ∙ ap (λ (item : Option Stored). is_some item ∷ map is_some (slice_range items (suc now) to)) (row-is items now)
+    ∙ ap (λ (bs : List Bool). is_some (row_of items now) ∷ bs) (sym (rows-map is_some items (suc now) to))
+    ∙ ap (λ (n : ℕ). is_some (row_of items now) ∷ slice_range (map is_some items) n to) (sym e)
+
+if_some : (o : Option Stored) (P : Stored → Type 0) → IsSome o → IfSome o P → (item : Stored) × (o ≡ Some item) × P item
 if_some None P some p = absurd cc
 if_some (Some item) P some p = (item, refl, p)
 
 -- ---- nulls
 
-pub nulls-append : (xs ys : List (Option Stored)) → nulls_of (xs ++ ys) ≡ nulls_of xs + nulls_of ys
+nulls-append : (xs ys : List (Option Stored)) → nulls_of (xs ++ ys) ≡ nulls_of xs + nulls_of ys
 nulls-append xs ys = sum_by-append (λ (item : Option Stored). cond (is_none item) 1 0) xs ys
+
+-- up to a row, and from it on
+pub nulls-split : (items : List (Option Stored)) (mid to : ℕ) → mid ≤ to → nulls_of (slice_range items 0 to) ≡ nulls_of (slice_range items 0 mid) + nulls_of (slice_range items mid to)
+nulls-split items mid to le = ap nulls_of (rows-split items 0 mid to (omega arith) le) ∙ nulls-append (slice_range items 0 mid) (slice_range items mid to)
 
 -- how many of the rows from one on are null
 pub record AreNulls (items : List (Option Stored)) (from nulls row : ℕ) : Type 0 where
@@ -59,9 +80,11 @@ nulls_go_on items from nulls row next there le lt own e are =
     at_most : (b : Bool) → cond b 0 1 ≤ 1
     at_most true = omega arith
     at_most false = omega arith
+
     one : (item : Option Stored) (b : Bool) → b ≡ is_some item → nulls_of (item ∷ []) ≡ cond b 0 1
     one None b e = ap (λ (t : Bool). cond t 0 1) (sym e)
     one (Some item) b e = ap (λ (t : Bool). cond t 0 1) (sym e)
+
     whole : nulls_of (slice_range items from (row + 1)) ≡ nulls_of (slice_range items from row) + cond there 0 1
     whole = ap nulls_of (row-last items from row (row_of items row) le lt refl) ∙ nulls-append (slice_range items from row) (row_of items row ∷ [])
         ∙ ap (λ (n : ℕ). nulls_of (slice_range items from row) + n) (one (row_of items row) there own)
@@ -76,17 +99,19 @@ both_there items rows low high first second = rw (first, second) refl
 pub finds_none : (at_most : Stored → Stored → Bool) (items : List (Option Stored)) (from : ℕ) → Finds at_most items (slice_range items from from) None
 finds_none at_most items from = record { there = tt; same = ap (λ (rows : List (Option Stored)). bounds_after at_most None (present rows)) (sym (rows-none from items)) }
 
-pub finds_null : (at_most : Stored → Stored → Bool) (items : List (Option Stored)) (from row : ℕ) (found : Option RowBounds) → from ≤ row → row < length items → row_of items row ≡ None →
+pub finds_null : (at_most : Stored → Stored → Bool) (items : List (Option Stored)) (from row : ℕ) (found : Option RowBounds) → from ≤ row → row < length items → is_some (row_of items row) ≡ false →
     Finds at_most items (slice_range items from row) found → Finds at_most items (slice_range items from (row + 1)) found
 finds_null at_most items from row found le lt none is =
     let more : present (slice_range items from (row + 1)) ≡ present (slice_range items from row) =
-    ap present (row-last items from row None le lt none) ∙ filter_map-append (λ (item : Option Stored). item) (slice_range items from row) (None ∷ []) ∙ append-nil _ in
+    ap present (row-last items from row None le lt (none_item (row_of items row) none)) ∙ filter_map-append (λ (item : Option Stored). item) (slice_range items from row) (None ∷ []) ∙ append-nil _ in
     record { there = is.there; same = is.same ∙ ap (bounds_after at_most None) (sym more) }
 
-pub finds_more : (at_most : Stored → Stored → Bool) (items : List (Option Stored)) (from row : ℕ) (item : Stored) (found next : Option RowBounds) → from ≤ row → row < length items → row_of items row ≡ Some item →
+pub finds_more : (at_most : Stored → Stored → Bool) (items : List (Option Stored)) (from row : ℕ) (found next : Option RowBounds) → from ≤ row → row < length items → IsSome (row_of items row) →
     AreThere items next → bounds_by_rows items next ≡ joined_bounds at_most (bounds_by_rows items found) (bounds_by_rows items (Some (record { least = row; greatest = row }))) →
     Finds at_most items (slice_range items from row) found → Finds at_most items (slice_range items from (row + 1)) next
-finds_more at_most items from row item found next le lt own there both is =
+finds_more at_most items from row found next le lt some there both is =
+    let item : Stored = (some_item (row_of items row) some).0 in
+    let own : row_of items row ≡ Some item = (some_item (row_of items row) some).1 in
     let rows : List (Option Stored) = slice_range items from row in
     let more : present (slice_range items from (row + 1)) ≡ present rows ++ item ∷ [] =
     ap present (row-last items from row (Some item) le lt own) ∙ filter_map-append (λ (i : Option Stored). i) rows (Some item ∷ []) in

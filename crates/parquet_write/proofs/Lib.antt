@@ -8,3 +8,5 @@ pub mod PagingLemmas
 pub mod PartLemmas
 pub mod FileLemmas
 pub mod ItemLemmas
+pub mod AnswerLemmas
+pub mod LengthLemmas

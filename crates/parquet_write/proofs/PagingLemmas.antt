@@ -7,9 +7,12 @@ use Rattle.std.proofs.lemmas.List.Sums.{sum_by-cons}
 use Rattle.parquet_base.specs.Pieces.{cut}
 use Rattle.parquet_meta.specs.ColumnIndex.{index_with}
 use Rattle.parquet_page.specs.Stored.{Stored}
-use Rattle.parquet_plain.specs.Columns.{Written, written_chunk, written_page}
+use Rattle.parquet_plain.specs.Bodies.{body_bytes}
+use Rattle.parquet_plain.specs.Columns.{Written, nulls_of, written_chunk, written_page}
 use Rattle.parquet_plain.specs.Description.{PlainChunk, PlainPage, chunk_bytes, greatest_of, index_of_chunk, least_of, locations_from, page_bytes, rows_of_chunk}
-use Rattle.parquet_plain.specs.Short.{is_short_page}
+use Rattle.parquet_plain.specs.File.{chunk_index_bytes, chunk_locations_bytes}
+use Rattle.parquet_plain.specs.Short.{are_short_indexes, is_short, is_short_page}
+use Rattle.parquet_plain.specs.Structs.{column_index_bytes, offset_index_bytes, page_header_bytes}
 use Rattle.parquet_plain.proofs.PieceLemmas.{cut-sum, next_rows}
 use Rattle.parquet_plain.proofs.RowLemmas.{length-rows}
 use Rattle.parquet_write.specs.Parts.{page_told, pages_told}
@@ -33,9 +36,25 @@ next-page to items row next some lt e = ap (map (written_page to)) (next_rows to
 pub none-left : (to : Written) (items : List (Option Stored)) (row : ℕ) → length items ≤ row → pages_left to items row ≡ []
 none-left to items row done = ap (λ (rest : List (Option Stored)). map (written_page to) (cut (Some to.page_rows) rest)) (drop_all row items done)
 
-rows-of-page : (to : Written) (items : List (Option Stored)) → (written_page to items).rows ≡ length items
+pub rows-of-page : (to : Written) (items : List (Option Stored)) → (written_page to items).rows ≡ length items
 unfolding written_page
 rows-of-page to items = refl
+
+pub nulls-of-page : (to : Written) (items : List (Option Stored)) → (written_page to items).nulls ≡ nulls_of items
+unfolding written_page
+nulls-of-page to items = refl
+
+abbrev pub body_of : Written → List (Option Stored) → List ℕ
+body_of to items = body_bytes to.column.type.physical_type to.column.type.repetition items
+
+pub body-of-page : (to : Written) (items : List (Option Stored)) → (written_page to items).body ≡ body_of to items
+unfolding written_page
+body-of-page to items = refl
+
+pub page-is-written : (to : Written) (items : List (Option Stored)) (rows : ℕ) (body : List ℕ) → rows ≡ length items → body ≡ body_of to items → page_header_bytes rows (length body) ++ body ≡ page_bytes (written_page to items)
+unfolding written_page page_bytes
+page-is-written to items rows body many own =
+    ap (λ (n : ℕ). page_header_bytes n (length body) ++ body) many ∙ ap (λ (bs : List ℕ). page_header_bytes (length items) (length bs) ++ bs) own
 
 -- what is written, and the pages that are left, are the whole chunk
 pub record IsPaging (to : Written) (items : List (Option Stored)) (old out : List ℕ) (facts : List PageFacts) (row : ℕ) : Type 0 where
@@ -109,7 +128,7 @@ map-told {X = X} f g same start row (page ∷ pages) =
     ap (λ (x : X). x ∷ map f (pages_told (start + length (page_bytes page)) (row + page.rows) pages)) (same start row page)
     ∙ ap (λ (xs : List X). g page ∷ xs) (map-told f g same (start + length (page_bytes page)) (row + page.rows) pages)
 
-pub index-told : (start : ℕ) (chunk : PlainChunk) → index_told (pages_told start 0 chunk.pages) ≡ index_of_chunk chunk
+index-told : (start : ℕ) (chunk : PlainChunk) → index_told (pages_told start 0 chunk.pages) ≡ index_of_chunk chunk
 index-told start chunk =
     let pages : List PlainPage = chunk.pages in
     let facts : List PageFacts = pages_told start 0 pages in
@@ -122,7 +141,7 @@ index-told start chunk =
     ∙ ap (λ xs. index_with (map (λ (page : PlainPage). is_none page.ends) pages) (map (λ (page : PlainPage). least_of page.ends) pages) xs (Some (map nulls_told facts))) greatest
     ∙ ap (λ xs. index_with (map (λ (page : PlainPage). is_none page.ends) pages) (map (λ (page : PlainPage). least_of page.ends) pages) (map (λ (page : PlainPage). greatest_of page.ends) pages) (Some xs)) counts
 
-pub locations-told : (start row : ℕ) (pages : List PlainPage) → map location_told (pages_told start row pages) ≡ locations_from start row pages
+locations-told : (start row : ℕ) (pages : List PlainPage) → map location_told (pages_told start row pages) ≡ locations_from start row pages
 locations-told start row [] = refl
 locations-told start row (page ∷ pages) = ap (λ others. location_told (page_told start row page) ∷ others) (locations-told (start + length (page_bytes page)) (row + page.rows) pages)
 
@@ -136,9 +155,25 @@ pub rows_of_chunk-is : (to : Written) (items : List (Option Stored)) → 0 < to.
 unfolding written_chunk
 rows_of_chunk-is to items some = rows-of to (cut (Some to.page_rows) items) ∙ cut-sum to.page_rows items some
 
--- ---- what is told of a chunk
+-- the indexes of a chunk, from what is told of its pages
+pub index-written : (start : ℕ) (chunk : PlainChunk) (pages : List PageFacts) → pages ≡ pages_told start 0 chunk.pages → column_index_bytes (index_told pages) ≡ chunk_index_bytes chunk
+index-written start chunk pages e = ap (λ (told : List PageFacts). column_index_bytes (index_told told)) e ∙ ap column_index_bytes (index-told start chunk)
 
--- equal parts make equal facts
+pub locations-written : (start : ℕ) (chunk : PlainChunk) (pages : List PageFacts) → pages ≡ pages_told start 0 chunk.pages → offset_index_bytes (map location_told pages) ≡ chunk_locations_bytes start chunk
+locations-written start chunk pages e = ap (λ (told : List PageFacts). offset_index_bytes (map location_told told)) e ∙ ap offset_index_bytes (locations-told start 0 chunk.pages)
+
+pub indexes-short : (start : ℕ) (chunk : PlainChunk) (pages : List PageFacts) → pages ≡ pages_told start 0 chunk.pages →
+    are_short_indexes start chunk ≡ (is_short (length (column_index_bytes (index_told pages))) && is_short (length (offset_index_bytes (map location_told pages))))
+indexes-short start chunk pages e =
+    ap (λ (bs : List ℕ). is_short (length bs) && is_short (length (chunk_locations_bytes start chunk))) (sym (index-written start chunk pages e))
+    ∙ ap (λ (bs : List ℕ). is_short (length (column_index_bytes (index_told pages))) && is_short (length bs)) (sym (locations-written start chunk pages e))
+
+-- ---- equal parts make equal facts
+
+pub page_alike : {offset offset' size size' row nulls nulls' : ℕ} {ends ends' : Option Ends} → offset ≡ offset' → size ≡ size' → nulls ≡ nulls' → ends ≡ ends' →
+    ◌≡◌ {A = PageFacts} record { offset = offset; size = size; first_row = row; nulls = nulls; ends = ends } record { offset = offset'; size = size'; first_row = row; nulls = nulls'; ends = ends' }
+page_alike a b d e = cc
+
 pub told_alike : {start start' size size' rows rows' nulls nulls' index index' index_size index_size' locations locations' locations_size locations_size' : ℕ} {ends ends' : Option Ends} →
     start ≡ start' → size ≡ size' → rows ≡ rows' → nulls ≡ nulls' → ends ≡ ends' → index ≡ index' → index_size ≡ index_size' → locations ≡ locations' → locations_size ≡ locations_size' →
     ◌≡◌ {A = ChunkFacts} record { start = start; size = size; rows = rows; nulls = nulls; ends = ends; index = index; index_size = index_size; locations = locations; locations_size = locations_size }

@@ -1,5 +1,5 @@
 -- Chunks behind chunks, and what is told of groups.
-use Rattle.std.proofs.Common.{◌≡◌, ℕ, ◌+◌, Bool, true, false, ◌&&◌, List, [], ◌∷◌, ◌++◌, refl, sym, ap, ◌∙◌, arith, length, append_assoc, append-nil, length-append}
+use Rattle.std.proofs.Common.{◌≡◌, ℕ, ◌+◌, Bool, ◌&&◌, List, [], ◌∷◌, ◌++◌, refl, sym, ap, ◌∙◌, arith, length, append_assoc, append-nil, length-append}
 use Rattle.std.proofs.Math.Bool.{and_assoc}
 use Rattle.std.proofs.lemmas.List.Concat.{flat_map-append}
 use Rattle.parquet_plain.specs.Description.{PlainChunk, PlainGroup, chunk_bytes}
@@ -42,7 +42,7 @@ starts-behind old new xs adds =
     ∙ sym (behind-all (starts_of old) xs)
 
 behind-both : (x y z a b : List ℕ) → y ≡ x ++ a → z ≡ y ++ b → z ≡ x ++ (a ++ b)
-joined x y z a b first second = second ∙ ap (λ (bs : List ℕ). bs ++ b) first ∙ append_assoc x a b
+behind-both x y z a b first second = second ∙ ap (λ (bs : List ℕ). bs ++ b) first ∙ append_assoc x a b
 
 pub adds_none : (parts : Parts) → AddsChunks parts parts []
 unfolding all_locations_bytes

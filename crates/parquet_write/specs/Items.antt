@@ -1,5 +1,5 @@
 -- Items by their rows, and the column that they are.
-use Rattle.std.specs.Prelude.{ℕ, Bool, List, [], slice_get, Option, Some, None, option_and_then, option_map, IsSome}
+use Rattle.std.specs.Prelude.{◌≡◌, ℕ, Bool, List, [], slice_get, Option, Some, None, option_and_then, option_map, IsSome}
 use Rattle.parquet_meta.specs.declared.metadata.PhysicalType.{PhysicalType}
 use Rattle.parquet_page.specs.Stored.{Stored}
 use Rattle.parquet_plain.specs.Bodies.{present}

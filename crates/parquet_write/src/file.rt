@@ -25,7 +25,11 @@ pub fn end_file(
     ensures written { IfOk result (λ bytes. bytes.items ≡ file_bytes parts columns.now groups.now) }
     ensures short { OverflowsUnless (is_short_footer (told_of parts columns.now groups.now)) result }
 {
-    if !has_few_rows(groups) || columns.len() > i32::MAX as usize {
+    if !has_few_rows(groups) {
+        return Err(Error::Overflow);
+    }
+    if columns.len() > i32::MAX as usize {
+        // The footer of so many columns is longer.
         return Err(Error::Overflow);
     }
     let JoinedParts { mut bytes, bases } = parts.join()?;

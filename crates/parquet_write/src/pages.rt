@@ -14,7 +14,7 @@ use crate::bounds::{RowBounds, bounds_of, joined, stored_ends};
 use crate::facts::PageFacts;
 use crate::items::{Items, null_count};
 use crate::levels::write_levels;
-use crate::measure::to_short;
+use crate::measure::{to_measure, to_short};
 use crate::page::write_page;
 use crate::parts::Room;
 use columns_core::Error;
@@ -55,8 +55,8 @@ fn write_levels_of<I: Items>(
         Repetition::Optional => {
             room.levels.clear();
             write_levels(&mut room.levels, items, from, to)?;
-            room.body
-                .extend_from_slice(&(room.levels.len() as u32).to_le_bytes())?;
+            let length = to_measure(room.levels.len())?;
+            room.body.extend_from_slice(&length.to_le_bytes())?;
             room.body.extend_from_slice(&room.levels)?;
             Ok(())
         }
@@ -160,8 +160,8 @@ pub(crate) fn write_pages<I: Items>(
     ensures told { let column = unnamed_column (I.type_ items.now) (I.at_most items.now) paging in
         let pages = (written_chunk column (I.items items.now)).pages in
         IfOk result (λ paged. paged.pages.items ≡ pages_told (length out.old.items) 0 pages) }
-    ensures found { let items = I.items items.now in
-        IfOk result (λ paged. Finds (I.at_most items.now) items items paged.bounds) }
+    ensures found { let rows = I.items items.now in
+        IfOk result (λ paged. Finds (I.at_most items.now) rows rows paged.bounds) }
     ensures nulls { IfOk result (λ paged. paged.nulls ≡ nulls_of (I.items items.now)) }
 {
     let rows = items.rows();
