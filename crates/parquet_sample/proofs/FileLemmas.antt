@@ -1,5 +1,5 @@
 -- The groups of the sample have a chunk for each column, and its parts make the sample.
-use Rattle.std.proofs.Common.{◌≡◌, ℕ, List, [], ◌∷◌, ◌++◌, refl, sym, ap, ◌∙◌, length, map, Some, subst}
+use Rattle.std.proofs.Common.{◌≡◌, ℕ, List, [], ◌∷◌, refl, sym, ap, ◌∙◌, length, map, Some, subst}
 use Rattle.std.specs.Prelude.{All}
 use Rattle.std.specs.List.{range_with_len}
 use Rattle.std.proofs.lemmas.List.Elements.{All-cons, All-nil}
@@ -10,7 +10,7 @@ use Rattle.parquet_plain.specs.Description.{PlainFile, PlainGroup}
 use Rattle.parquet_plain.specs.File.{Starts, behind_all, chunks_of}
 use Rattle.parquet_sample.specs.Parts.{sample_groups, sample_descriptors}
 use Rattle.parquet_sample.specs.Sample.{group_rows, rows_of_numbers, sample, sample_columns}
-use Rattle.parquet_write.specs.Parts.{AddsChunks, BeginsFile, file_bytes, groups_facts, starts_of}
+use Rattle.parquet_write.specs.Parts.{AddsChunks, BeginsFile, file_bytes, group_facts, groups_facts, starts_of}
 use Rattle.parquet_write.specs.Told.{HasColumns}
 use Rattle.parquet_write.specs.declared.facts.GroupFacts.{GroupFacts}
 use Rattle.parquet_write.specs.declared.parts.Parts.{Parts}

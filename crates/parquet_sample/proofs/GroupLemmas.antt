@@ -1,11 +1,11 @@
 -- Groups of the sample, one behind another.
-use Rattle.std.proofs.Common.{◌≡◌, ℕ, ◌+◌, ◌-◌, ◌<◌, ◌≤◌, List, [], ◌∷◌, ◌++◌, Some, refl, sym, ap, ◌∙◌, arith, min, length, map, append_assoc, append-nil, length-append, subst}
+use Rattle.std.proofs.Common.{◌≡◌, ℕ, ◌+◌, ◌-◌, ◌<◌, ◌≤◌, List, [], ◌∷◌, ◌++◌, Some, refl, sym, ap, ◌∙◌, arith, min, map, append_assoc, append-nil, subst}
 use Rattle.std.specs.List.{range_with_len}
 use Rattle.std.proofs.lemmas.List.Concat.{flat_map-append}
 use Rattle.parquet_base.specs.Pieces.{cut}
 use Rattle.parquet_plain.specs.Columns.{written_group}
-use Rattle.parquet_plain.specs.Description.{PlainChunk, PlainGroup, chunk_bytes}
-use Rattle.parquet_plain.specs.File.{Starts, all_locations_bytes, behind, behind_all, chunk_index_bytes, chunk_locations_bytes, chunks_of, data_bytes, indexes_bytes}
+use Rattle.parquet_plain.specs.Description.{PlainChunk, PlainGroup}
+use Rattle.parquet_plain.specs.File.{Starts, behind_all, chunks_of}
 use Rattle.parquet_sample.specs.Parts.{sample_group, sample_groups}
 use Rattle.parquet_sample.specs.Sample.{group_rows, rows_of_numbers, sample_columns}
 use Rattle.parquet_sample.proofs.PageLemmas.{next_piece}

@@ -1,5 +1,5 @@
 -- Levels of rows of the sample.
-use Rattle.std.proofs.Common.{◌≡◌, ℕ, suc, ◌+◌, ◌-◌, ◌<◌, ◌≤◌, not, Bool, List, ◌∷◌, sym, ap, ◌∙◌, arith, length}
+use Rattle.std.proofs.Common.{◌≡◌, ℕ, suc, ◌+◌, ◌-◌, ◌≤◌, not, Bool, List, ◌∷◌, sym, ap, ◌∙◌, arith, length}
 use Rattle.std.specs.List.{slice_range}
 use Rattle.std.proofs.lemmas.List.FromFn.{length-map-range_with_len}
 use Rattle.parquet_sample.specs.Rows.{are_present}

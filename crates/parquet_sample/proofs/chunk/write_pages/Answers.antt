@@ -1,4 +1,4 @@
-use Rattle.std.proofs.Common.{◌≡◌, ◌≤◌, ℕ, List, ◌+◌, ◌-◌, ◌++◌, Option, min, sym, subst, ap, ◌∙◌, arith, length}
+use Rattle.std.proofs.Common.{◌≡◌, ℕ, List, ◌+◌, ◌-◌, ◌++◌, Option, min, sym, subst, ap, ◌∙◌, arith, length}
 use Rattle.std.specs.Ordering.{nat_cmp, ord_min}
 use Rattle.parquet_page.specs.Stored.{Stored}
 use Rattle.parquet_plain.specs.Columns.{Written, written_page}

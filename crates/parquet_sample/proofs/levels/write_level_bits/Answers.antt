@@ -1,4 +1,4 @@
-use Rattle.std.proofs.Common.{arith, ℕ, ◌≡◌, ◌+◌, ◌-◌, Bool, List, length, sym, ap, ◌∙◌, min}
+use Rattle.std.proofs.Common.{arith, ℕ, ◌≡◌, ◌+◌, ◌-◌, Bool, List, sym, ap, ◌∙◌, min}
 use Rattle.parquet_plain.specs.Bodies.{number_of_bits}
 use Rattle.parquet_sample.specs.Rows.{are_present}
 use Rattle.parquet_sample.proofs.LevelLemmas.{length_present, present_slice}
