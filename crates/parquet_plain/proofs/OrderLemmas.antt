@@ -1,9 +1,9 @@
 -- The ends of items are their least and greatest, and are read from their bytes.
 use Rattle.std.proofs.Common.{◌≡◌, ℕ, ℤ, Bool, true, false, cond, List, [], ◌∷◌, Some, refl, ap, ◌∙◌}
-use Rattle.std.specs.Prelude.{All, Contains, FitsSigned}
+use Rattle.std.specs.Prelude.{All, FitsSigned}
 use Rattle.std.specs.Int.{w32, cast_signed, cast_unsigned}
 use Rattle.std.proofs.lemmas.Int.{to_z-of_z}
-use Rattle.std.proofs.lemmas.List.Elements.{All-contains, All-head, All-tail, All-cons, All-nil}
+use Rattle.std.proofs.lemmas.List.Elements.{All-head, All-tail, All-cons, All-nil}
 use Rattle.std.proofs.lemmas.Nat.{from_le_bytes-to_le_bytes_4}
 use Rattle.std.proofs.Math.Facts.{Fits-of_z, Fits-lt-pow}
 use Rattle.parquet_meta.specs.StoredEnds.{int32_end}
@@ -56,16 +56,6 @@ module _ (P : Stored → Type 0) (at_most : Stored → Stored → Bool) (order :
         order.through item (last_of at_most item next) high p one.0 rest.0 one.1 rest.1,
         All-cons (λ v. at_most v high ≡ true) next items (order.through next (last_of at_most item next) high q one.0 rest.0 one.2 rest.1) rest.2,
       )
-
--- an order of a kind is one of items of that kind
-pub order_among : (P : Stored → Type 0) (at_most : Stored → Stored → Bool) (items : List Stored) → IsOrder P at_most → All P items → IsOrder (Contains items) at_most
-order_among P at_most items order all =
-    let is : (a : Stored) → Contains items a → P a = λ a h. All-contains P items a all h in
-    record {
-      same = λ a p. order.same a (is a p);
-      total = λ a b p q. order.total a b (is a p) (is b q);
-      through = λ a b c p q r. order.through a b c (is a p) (is b q) (is c r);
-    }
 
 -- ---- ends from their bytes
 

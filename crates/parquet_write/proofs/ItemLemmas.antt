@@ -7,16 +7,14 @@ use Rattle.std.proofs.lemmas.List.Elements.{All-contains_itself, All-weaker, Con
 use Rattle.std.proofs.lemmas.List.Folds.{drop_split}
 use Rattle.std.proofs.lemmas.List.Sums.{sum_by-append}
 use Rattle.std.proofs.lemmas.Option.{unwrap_or-slice_get}
-use Rattle.parquet_meta.specs.declared.metadata.PhysicalType.{PhysicalType}
 use Rattle.parquet_page.specs.Stored.{Stored}
 use Rattle.parquet_plain.specs.Bodies.{present}
-use Rattle.parquet_plain.specs.Bounds.{Bounds, bounds_after, joined_bounds, stored_bounds}
-use Rattle.parquet_plain.specs.Columns.{end_bytes, first_of, last_of, nulls_of}
+use Rattle.parquet_plain.specs.Bounds.{Bounds, bounds_after, joined_bounds}
+use Rattle.parquet_plain.specs.Columns.{first_of, last_of, nulls_of}
 use Rattle.parquet_plain.specs.Orders.{IsOrder}
-use Rattle.parquet_plain.specs.declared.ends.Ends.{Ends}
 use Rattle.parquet_plain.proofs.BoundLemmas.{bounds-append, bounds-joined, joined-one}
 use Rattle.parquet_plain.proofs.RowLemmas.{rows-first, rows-last, rows-map, rows-none, rows-split}
-use Rattle.parquet_write.specs.Items.{AreThere, Finds, bounds_by_rows, row_of}
+use Rattle.parquet_write.specs.Items.{AreBothThere, FindsBounds, bounds_by_rows, row_of}
 use Rattle.parquet_write.specs.declared.bounds.RowBounds.{RowBounds}
 
 -- ---- rows
@@ -96,19 +94,19 @@ pub both_there : (items : List (Option Stored)) (rows : RowBounds) (low high : S
     bounds_by_rows items (Some rows) ≡ Some (low, high)
 both_there items rows low high first second = rw (first, second) refl
 
-pub finds_none : (at_most : Stored → Stored → Bool) (items : List (Option Stored)) (from : ℕ) → Finds at_most items (slice_range items from from) None
+pub finds_none : (at_most : Stored → Stored → Bool) (items : List (Option Stored)) (from : ℕ) → FindsBounds at_most items (slice_range items from from) None
 finds_none at_most items from = record { there = tt; same = ap (λ (rows : List (Option Stored)). bounds_after at_most None (present rows)) (sym (rows-none from items)) }
 
 pub finds_null : (at_most : Stored → Stored → Bool) (items : List (Option Stored)) (from row : ℕ) (found : Option RowBounds) → from ≤ row → row < length items → is_some (row_of items row) ≡ false →
-    Finds at_most items (slice_range items from row) found → Finds at_most items (slice_range items from (row + 1)) found
+    FindsBounds at_most items (slice_range items from row) found → FindsBounds at_most items (slice_range items from (row + 1)) found
 finds_null at_most items from row found le lt none is =
     let more : present (slice_range items from (row + 1)) ≡ present (slice_range items from row) =
     ap present (row-last items from row None le lt (none_item (row_of items row) none)) ∙ filter_map-append (λ (item : Option Stored). item) (slice_range items from row) (None ∷ []) ∙ append-nil _ in
     record { there = is.there; same = is.same ∙ ap (bounds_after at_most None) (sym more) }
 
 pub finds_more : (at_most : Stored → Stored → Bool) (items : List (Option Stored)) (from row : ℕ) (found next : Option RowBounds) → from ≤ row → row < length items → IsSome (row_of items row) →
-    AreThere items next → bounds_by_rows items next ≡ joined_bounds at_most (bounds_by_rows items found) (bounds_by_rows items (Some (record { least = row; greatest = row }))) →
-    Finds at_most items (slice_range items from row) found → Finds at_most items (slice_range items from (row + 1)) next
+    AreBothThere items next → bounds_by_rows items next ≡ joined_bounds at_most (bounds_by_rows items found) (bounds_by_rows items (Some (record { least = row; greatest = row }))) →
+    FindsBounds at_most items (slice_range items from row) found → FindsBounds at_most items (slice_range items from (row + 1)) next
 finds_more at_most items from row found next le lt some there both is =
     let item : Stored = (some_item (row_of items row) some).0 in
     let own : row_of items row ≡ Some item = (some_item (row_of items row) some).1 in
@@ -135,8 +133,8 @@ among_rest xs ys zs =
 
 -- the bounds of rows and those behind them
 pub finds_both : (at_most : Stored → Stored → Bool) (items : List (Option Stored)) (mid to : ℕ) (first second next : Option RowBounds) → IsOrder (Contains (present items)) at_most → mid ≤ to →
-    Finds at_most items (slice_range items 0 mid) first → Finds at_most items (slice_range items mid to) second → AreThere items next →
-    bounds_by_rows items next ≡ joined_bounds at_most (bounds_by_rows items first) (bounds_by_rows items second) → Finds at_most items (slice_range items 0 to) next
+    FindsBounds at_most items (slice_range items 0 mid) first → FindsBounds at_most items (slice_range items mid to) second → AreBothThere items next →
+    bounds_by_rows items next ≡ joined_bounds at_most (bounds_by_rows items first) (bounds_by_rows items second) → FindsBounds at_most items (slice_range items 0 to) next
 finds_both at_most items mid to first second next order le a b there both =
     let xs : List Stored = present (slice_range items 0 mid) in
     let ys : List Stored = present (slice_range items mid to) in
@@ -152,38 +150,14 @@ finds_both at_most items mid to first second next order le a b there both =
           ∙ ap (bounds_after at_most None) (sym whole);
     }
 
--- ---- the one of two rows
-
-pub first_then : (at_most : Stored → Stored → Bool) (o p : Option Stored) (test : Bool) → test ≡ true → IfSome o (λ a. IfSome p (λ b. test ≡ at_most a b)) →
-    IfSome o (λ a. IfSome p (λ b. o ≡ Some (first_of at_most a b)))
-first_then at_most None p test is own = tt
-first_then at_most (Some a) None test is own = tt
-first_then at_most (Some a) (Some b) test is own = ap (λ (t : Bool). Some (cond t a b)) (sym is ∙ own)
-
-pub first_else : (at_most : Stored → Stored → Bool) (o p : Option Stored) (test : Bool) → test ≡ false → IfSome o (λ a. IfSome p (λ b. test ≡ at_most a b)) →
-    IfSome o (λ a. IfSome p (λ b. p ≡ Some (first_of at_most a b)))
-first_else at_most None p test is own = tt
-first_else at_most (Some a) None test is own = tt
-first_else at_most (Some a) (Some b) test is own = ap (λ (t : Bool). Some (cond t a b)) (sym is ∙ own)
-
-pub last_then : (at_most : Stored → Stored → Bool) (o p : Option Stored) (test : Bool) → test ≡ true → IfSome o (λ a. IfSome p (λ b. test ≡ at_most a b)) →
-    IfSome o (λ a. IfSome p (λ b. p ≡ Some (last_of at_most a b)))
-last_then at_most None p test is own = tt
-last_then at_most (Some a) None test is own = tt
-last_then at_most (Some a) (Some b) test is own = ap (λ (t : Bool). Some (cond t b a)) (sym is ∙ own)
-
-pub last_else : (at_most : Stored → Stored → Bool) (o p : Option Stored) (test : Bool) → test ≡ false → IfSome o (λ a. IfSome p (λ b. test ≡ at_most a b)) →
-    IfSome o (λ a. IfSome p (λ b. o ≡ Some (last_of at_most a b)))
-last_else at_most None p test is own = tt
-last_else at_most (Some a) None test is own = tt
-last_else at_most (Some a) (Some b) test is own = ap (λ (t : Bool). Some (cond t b a)) (sym is ∙ own)
+-- ---- the rows of two bounds
 
 -- the rows of both ends make the bounds of both
 pub record AreJoined (at_most : Stored → Stored → Bool) (items : List (Option Stored)) (a b rows : RowBounds) : Type 0 where
-  pub there : AreThere items (Some rows)
+  pub there : AreBothThere items (Some rows)
   pub same : bounds_by_rows items (Some rows) ≡ joined_bounds at_most (bounds_by_rows items (Some a)) (bounds_by_rows items (Some b))
 
-pub rows_joined : (at_most : Stored → Stored → Bool) (items : List (Option Stored)) (a b rows : RowBounds) → AreThere items (Some a) → AreThere items (Some b) →
+pub rows_joined : (at_most : Stored → Stored → Bool) (items : List (Option Stored)) (a b rows : RowBounds) → AreBothThere items (Some a) → AreBothThere items (Some b) →
     IfSome (row_of items a.least) (λ x. IfSome (row_of items b.least) (λ y. row_of items rows.least ≡ Some (first_of at_most x y))) →
     IfSome (row_of items a.greatest) (λ x. IfSome (row_of items b.greatest) (λ y. row_of items rows.greatest ≡ Some (last_of at_most x y))) → AreJoined at_most items a b rows
 rows_joined at_most items a b rows first second low high =
@@ -197,14 +171,3 @@ rows_joined at_most items a b rows first second low high =
           ∙ sym (ap (λ (x : Bounds). joined_bounds at_most x (bounds_by_rows items (Some b))) (both_there items a la.0 ga.0 la.1 ga.1)
           ∙ ap (joined_bounds at_most (Some (la.0, ga.0))) (both_there items b lb.0 gb.0 lb.1 gb.1));
     }
-
--- ---- ends
-
-pub ends_both : (type : PhysicalType) (items : List (Option Stored)) (rows : RowBounds) (least greatest : List ℕ) → AreThere items (Some rows) →
-    IfSome (row_of items rows.least) (λ item. least ≡ end_bytes type item) → IfSome (row_of items rows.greatest) (λ item. greatest ≡ end_bytes type item) →
-    ◌≡◌ {A = Option Ends} (Some (record { least = least; greatest = greatest })) (stored_bounds type (bounds_by_rows items (Some rows)))
-ends_both type items rows least greatest there low high =
-    let a = if_some (row_of items rows.least) (λ item. least ≡ end_bytes type item) there.0 low in
-    let b = if_some (row_of items rows.greatest) (λ item. greatest ≡ end_bytes type item) there.1 high in
-    ap (λ (bytes : List ℕ). Some (record { least = bytes; greatest = greatest })) a.2 ∙ ap (λ (bytes : List ℕ). Some (record { least = end_bytes type a.0; greatest = bytes })) b.2
-    ∙ sym (ap (stored_bounds type) (both_there items rows a.0 b.0 a.1 b.1))

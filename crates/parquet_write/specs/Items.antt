@@ -15,9 +15,9 @@ row_of items row = option_and_then (λ item. item) (slice_get items row)
 -- ---- bounds by their rows
 
 -- both rows are there
-abbrev pub AreThere : List (Option Stored) → Option RowBounds → Type 0
-AreThere items None = Unit {0}
-AreThere items (Some rows) = IsSome (row_of items rows.least) × IsSome (row_of items rows.greatest)
+abbrev pub AreBothThere : List (Option Stored) → Option RowBounds → Type 0
+AreBothThere items None = Unit {0}
+AreBothThere items (Some rows) = IsSome (row_of items rows.least) × IsSome (row_of items rows.greatest)
 
 abbrev pub bounds_by_rows : List (Option Stored) → Option RowBounds → Bounds
 bounds_by_rows items None = None
@@ -25,8 +25,8 @@ bounds_by_rows items (Some rows) =
     option_and_then (λ least. option_map (λ greatest. (least, greatest)) (row_of items rows.greatest)) (row_of items rows.least)
 
 -- there are bounds, by rows of all items, and they are those of some of the items
-pub record Finds (at_most : Stored → Stored → Bool) (items some : List (Option Stored)) (found : Option RowBounds) : Type 0 where
-  pub there : AreThere items found
+pub record FindsBounds (at_most : Stored → Stored → Bool) (items some : List (Option Stored)) (found : Option RowBounds) : Type 0 where
+  pub there : AreBothThere items found
   pub same : bounds_by_rows items found ≡ bounds_after at_most None (present some)
 
 -- ---- columns

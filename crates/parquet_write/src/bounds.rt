@@ -4,7 +4,7 @@ ghost use Rattle.std.specs.Prelude.{◌≡◌, ◌≤◌, length, IfOk, IfSome, 
 ghost use Rattle.std.specs.List.{slice_range};
 ghost use Rattle.parquet_plain.specs.Bounds.{joined_bounds, stored_bounds};
 ghost use Rattle.parquet_plain.specs.Columns.{end_bytes, first_of, last_of};
-ghost use Rattle.parquet_write.specs.Items.{AreThere, Finds, bounds_by_rows, row_of};
+ghost use Rattle.parquet_write.specs.Items.{AreBothThere, FindsBounds, bounds_by_rows, row_of};
 
 use crate::items::Items;
 use columns_core::Seq;
@@ -54,9 +54,9 @@ pub(crate) fn joined<I: Items>(
     first: Option<RowBounds>,
     second: Option<RowBounds>,
 ) -> Option<RowBounds>
-    requires first { AreThere (I.items items.now) first }
-    requires second { AreThere (I.items items.now) second }
-    ensures there { AreThere (I.items items.now) result }
+    requires first { AreBothThere (I.items items.now) first }
+    requires second { AreBothThere (I.items items.now) second }
+    ensures there { AreBothThere (I.items items.now) result }
     ensures joined { let bounds = bounds_by_rows (I.items items.now) in
         bounds result ≡ joined_bounds (I.at_most items.now) (bounds first) (bounds second) }
 {
@@ -75,7 +75,7 @@ pub(crate) fn bounds_of<I: Items>(items: &I, from: usize, to: usize) -> Option<R
     requires order { from ≤ to }
     requires within { to ≤ length (I.items items.now) }
     ensures { let rows = slice_range (I.items items.now) from to in
-        Finds (I.at_most items.now) (I.items items.now) rows result }
+        FindsBounds (I.at_most items.now) (I.items items.now) rows result }
 {
     let mut found = None;
     for row in from..to {
@@ -106,7 +106,7 @@ pub(crate) fn stored_ends<I: Items>(
     items: &I,
     bounds: Option<RowBounds>,
 ) -> Result<Option<Ends>, AllocError>
-    requires { AreThere (I.items items.now) bounds }
+    requires { AreBothThere (I.items items.now) bounds }
     ensures { let found = bounds_by_rows (I.items items.now) bounds in
         IfOk result (λ ends. ends ≡ stored_bounds (I.type_ items.now) found) }
 {

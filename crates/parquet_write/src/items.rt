@@ -27,6 +27,7 @@ pub trait Items {
     fn rows(&self) -> usize
         ensures { result ≡ length (items self.now) };
 
+    /// Whether there is an item in a row.
     fn is_there(&self, row: usize) -> bool
         requires { row < length (items self.now) }
         ensures { result ≡ is_some (row_of (items self.now) row) };
@@ -56,7 +57,7 @@ pub trait Items {
 }
 
 /// How many rows from one up to another are null.
-pub fn null_count<I: Items>(items: &I, from: usize, to: usize) -> usize
+pub(crate) fn null_count<I: Items>(items: &I, from: usize, to: usize) -> usize
     requires order { from ≤ to }
     requires within { to ≤ length (I.items items.now) }
     ensures { result ≡ nulls_of (slice_range (I.items items.now) from to) }

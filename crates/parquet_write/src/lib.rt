@@ -22,7 +22,7 @@ pub use column_index::write_column_index;
 pub use facts::{Bases, ChunkFacts, GroupFacts, PageFacts};
 pub use file::end_file;
 pub use footer::{write_end_of_file, write_footer, write_tail};
-pub use items::{Items, null_count};
+pub use items::Items;
 pub use measure::to_measure;
 pub use offset_index::write_offset_index;
 pub use page::write_page;

@@ -7,7 +7,7 @@ ghost use Rattle.parquet_plain.specs.Bodies.{body_bytes, levels_of};
 ghost use Rattle.parquet_plain.specs.Columns.{nulls_of, written_chunk, written_page};
 ghost use Rattle.parquet_plain.specs.Description.{chunk_bytes, page_bytes};
 ghost use Rattle.parquet_plain.specs.Short.{is_short_page};
-ghost use Rattle.parquet_write.specs.Items.{Finds, unnamed_column};
+ghost use Rattle.parquet_write.specs.Items.{FindsBounds, unnamed_column};
 ghost use Rattle.parquet_write.specs.Parts.{WritesShort, page_told, pages_told};
 
 use crate::bounds::{RowBounds, bounds_of, joined, stored_ends};
@@ -128,7 +128,7 @@ fn add_page<I: Items>(
         let page = written_page column (slice_range (I.items items.now) from to) in
         IfOk result (λ told. told.1 ≡ page_told (length out.old.items) from page) }
     ensures bounds { let rows = slice_range (I.items items.now) from to in
-        IfOk result (λ told. Finds (I.at_most items.now) (I.items items.now) rows told.0) }
+        IfOk result (λ told. FindsBounds (I.at_most items.now) (I.items items.now) rows told.0) }
 {
     let start = out.len();
     let size = write_rows(out, room, items, paging, from, to)?;
@@ -161,7 +161,7 @@ pub(crate) fn write_pages<I: Items>(
         let pages = (written_chunk column (I.items items.now)).pages in
         IfOk result (λ paged. paged.pages.items ≡ pages_told (length out.old.items) 0 pages) }
     ensures found { let rows = I.items items.now in
-        IfOk result (λ paged. Finds (I.at_most items.now) rows rows paged.bounds) }
+        IfOk result (λ paged. FindsBounds (I.at_most items.now) rows rows paged.bounds) }
     ensures nulls { IfOk result (λ paged. paged.nulls ≡ nulls_of (I.items items.now)) }
 {
     let rows = items.rows();

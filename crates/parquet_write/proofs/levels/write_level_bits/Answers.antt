@@ -29,7 +29,7 @@ loop-row-preserved g c =
     record {
       from = omega arith;
       within = omega (arith, least);
-      packing = packing_goes_on (map is_some rows) c.args.levels.now.items c.loop-row.levels.items (row - from) (end - from) c.level_byte.result _ (omega (arith, long)) (omega (arith, long, least)) own
+      packing = packing_goes_on (map is_some rows) c.args.levels.now.items c.loop-row.levels.items (row - from) (end - from) c.level_byte.result c.push.new.self.items (omega (arith, long)) (omega (arith, long, least)) own
           c.in_ok-push.ensures.items c.loop-row.invariant.packing;
     }
 

@@ -1,7 +1,7 @@
 use Rattle.std.proofs.Common.{◌≡◌, ◌-◌}
 use Rattle.std.specs.List.{slice_range}
 use Rattle.parquet_plain.specs.Columns.{nulls_of}
-use Rattle.parquet_write.specs.Items.{Finds, unnamed_column}
+use Rattle.parquet_write.specs.Items.{FindsBounds, unnamed_column}
 use Rattle.parquet_write.proofs.PagingLemmas.{AreShort, IsPaging}
 use Rattle.parquet_write.proofs.pages.write_pages.Given as goal
 
@@ -13,7 +13,7 @@ invariant-loop-row g l =
       paging : IsPaging to items l.initial.out.items l.out.items l.pages.items l.row;
       short : AreShort to items l.row;
       nulls : l.nulls ≡ nulls_of (slice_range items 0 l.row);
-      bounds : Finds (g.I.Items.at_most l.items) items (slice_range items 0 l.row) l.bounds;
+      bounds : FindsBounds (g.I.Items.at_most l.items) items (slice_range items 0 l.row) l.bounds;
     }
 
 abbrev pub decreases-loop-row : goal.decreases-loop-row
