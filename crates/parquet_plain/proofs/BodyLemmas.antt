@@ -39,7 +39,7 @@ eight-bytes n =
 
 -- ---- bits
 
-bits-few : (bs : List Bool) → number_of_bits bs < 2 ^ length bs
+pub bits-few : (bs : List Bool) → number_of_bits bs < 2 ^ length bs
 unfolding number_of_bits
 bits-few [] = omega arith
 bits-few (true ∷ bs) = omega (arith, bits-few bs, pow-suc 2 (length bs))

@@ -13,3 +13,7 @@ pub mod PieceLemmas
 pub mod FitLemmas
 pub mod OrderLemmas
 pub mod NumberOrder
+pub mod BitLemmas
+pub mod BoundLemmas
+pub mod RowLemmas
+pub mod ShortLemmas

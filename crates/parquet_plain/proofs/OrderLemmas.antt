@@ -17,14 +17,14 @@ use Rattle.parquet_plain.specs.Orders.{IsOrder}
 
 module _ (P : Stored → Type 0) (at_most : Stored → Stored → Bool) (order : IsOrder P at_most) where
   -- of two items, the first is one of them and before both
-  first-is : (a b : Stored) → P a → P b → P (first_of at_most a b) × (at_most (first_of at_most a b) a ≡ true) × (at_most (first_of at_most a b) b ≡ true)
+  pub first-is : (a b : Stored) → P a → P b → P (first_of at_most a b) × (at_most (first_of at_most a b) a ≡ true) × (at_most (first_of at_most a b) b ≡ true)
   first-is a b pa pb = by_test (at_most a b) refl
     where
       by_test : (t : Bool) → at_most a b ≡ t → P (cond t a b) × (at_most (cond t a b) a ≡ true) × (at_most (cond t a b) b ≡ true)
       by_test true e = (pa, order.same a pa, e)
       by_test false e = (pb, order.total a b pa pb e, order.same b pb)
 
-  last-is : (a b : Stored) → P a → P b → P (last_of at_most a b) × (at_most a (last_of at_most a b) ≡ true) × (at_most b (last_of at_most a b) ≡ true)
+  pub last-is : (a b : Stored) → P a → P b → P (last_of at_most a b) × (at_most a (last_of at_most a b) ≡ true) × (at_most b (last_of at_most a b) ≡ true)
   last-is a b pa pb = by_test (at_most a b) refl
     where
       by_test : (t : Bool) → at_most a b ≡ t → P (cond t b a) × (at_most a (cond t b a) ≡ true) × (at_most b (cond t b a) ≡ true)

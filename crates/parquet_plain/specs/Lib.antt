@@ -7,3 +7,5 @@ pub mod Orders
 pub mod Fits
 pub mod Found
 pub mod Laws
+pub mod Bounds
+pub mod Short

@@ -11,7 +11,7 @@ use Rattle.std.proofs.Math.Nat.{pow-suc, pow-zero}
 use Rattle.parquet_page.specs.Stored.{Stored, Octets}
 use Rattle.parquet_plain.specs.Bodies.{present}
 use Rattle.parquet_plain.specs.Columns.{first_of}
-use Rattle.parquet_sample.specs.Ends.{Bounds, bounds_after}
+use Rattle.parquet_plain.specs.Bounds.{Bounds, bounds_after}
 use Rattle.parquet_sample.specs.Sample.{name_item, name_text, texts_at_most}
 use Rattle.parquet_sample.proofs.BoundLemmas.{AreBounds, bounds_begin, bounds_end, bounds_go_on}
 

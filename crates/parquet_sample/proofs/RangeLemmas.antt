@@ -1,7 +1,10 @@
--- Bytes of rows one after another.
-use Rattle.std.proofs.Common.{◌≡◌, ℕ, zero, suc, ◌+◌, ◌-◌, ◌≤◌, List, [], ◌∷◌, ◌++◌, sym, ap, ◌∙◌, arith, append_assoc, append-nil}
-use Rattle.std.specs.List.{flat_map, range_with_len}
+-- Rows one after another, and their bytes.
+use Rattle.std.proofs.Common.{◌≡◌, ℕ, zero, suc, ◌+◌, ◌-◌, ◌≤◌, List, [], ◌∷◌, ◌++◌, sym, ap, ◌∙◌, arith, append_assoc, append-nil, length, map, take, drop}
+use Rattle.std.specs.List.{flat_map, range_with_len, slice_range}
+use Rattle.std.proofs.lemmas.List.{map-append}
 use Rattle.std.proofs.lemmas.List.Concat.{flat_map-append}
+use Rattle.std.proofs.lemmas.List.FromFn.{length-map-range_with_len, take-map-range_with_len}
+use Rattle.std.proofs.Math.Seq.{drop-append_seam}
 
 pub range_more : (first count : ℕ) → range_with_len first (count + 1) ≡ range_with_len first count ++ (first + count) ∷ []
 range_more first zero =
@@ -11,6 +14,33 @@ range_more first (suc count) =
     let more : suc count + 1 ≡ suc (count + 1) = omega arith in
     let there : first + 1 + count ≡ first + suc count = omega arith in
     ap (range_with_len first) more ∙ ap (λ (ns : List ℕ). first ∷ ns) (range_more (first + 1) count ∙ ap (λ (n : ℕ). range_with_len (first + 1) count ++ n ∷ []) there)
+
+pub range_split : (from n m : ℕ) → range_with_len from (n + m) ≡ range_with_len from n ++ range_with_len (from + n) m
+range_split from zero m =
+    let none : zero + m ≡ m = omega arith in
+    let here : from ≡ from + zero = omega arith in
+    ap (range_with_len from) none ∙ ap (λ (at : ℕ). range_with_len at m) here
+range_split from (suc n) m =
+    let more : suc n + m ≡ suc (n + m) = omega arith in
+    let there : from + 1 + n ≡ from + suc n = omega arith in
+    ap (range_with_len from) more ∙ ap (λ (rest : List ℕ). from ∷ rest) (range_split (from + 1) n m ∙ ap (λ (at : ℕ). range_with_len (from + 1) n ++ range_with_len at m) there)
+
+-- the rows that are left of a list made of rows
+pub drop-rows : {X : Type 0} (f : ℕ → X) (first rows row : ℕ) → row ≤ rows → drop row (map f (range_with_len first rows)) ≡ map f (range_with_len (first + row) (rows - row))
+drop-rows {X = X} f first rows row le =
+    let many : rows ≡ row + (rows - row) = omega arith in
+    let front : List X = map f (range_with_len first row) in
+    let rest : List X = map f (range_with_len (first + row) (rows - row)) in
+    let long : row ≡ length front = sym (length-map-range_with_len f first row) in
+    ap (λ (n : ℕ). drop row (map f (range_with_len first n))) many ∙ ap (λ (ns : List ℕ). drop row (map f ns)) (range_split first row (rows - row))
+    ∙ ap (drop row) (map-append f (range_with_len first row) (range_with_len (first + row) (rows - row))) ∙ ap (λ (n : ℕ). drop n (front ++ rest)) long ∙ drop-append_seam front rest
+
+-- rows of a list made of rows
+pub slice-rows : {X : Type 0} (f : ℕ → X) (first rows row count : ℕ) → row + count ≤ rows → slice_range (map f (range_with_len first rows)) row (row + count) ≡ map f (range_with_len (first + row) count)
+slice-rows {X = X} f first rows row count le =
+    let many : row + count - row ≡ count = omega arith in
+    ap (λ (n : ℕ). take n (drop row (map f (range_with_len first rows)))) many
+    ∙ ap (take count) (drop-rows f first rows row (omega arith)) ∙ take-map-range_with_len f (first + row) (rows - row) count (omega arith)
 
 -- the bytes of so many rows stand behind what was there
 pub record AreRows (of : ℕ → List ℕ) (start : List ℕ) (first : ℕ) (out : List ℕ) (n : ℕ) : Type 0 where

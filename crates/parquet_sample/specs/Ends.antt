@@ -1,9 +1,9 @@
--- The least and the greatest of items, an item at a time.
-use Rattle.std.specs.Prelude.{ℕ, pos, Bool, List, [], ◌∷◌, Option, Some, None}
-use Rattle.parquet_meta.specs.declared.metadata.PhysicalType.{PhysicalType}
+-- The least and the greatest of the sample's items, by their numbers.
+use Rattle.std.specs.Prelude.{ℕ, pos, List, Option, Some, None}
 use Rattle.parquet_page.specs.Stored.{Stored, Number, Octets}
 use Rattle.parquet_plain.specs.Bodies.{present}
-use Rattle.parquet_plain.specs.Columns.{end_bytes, ends_of, first_of, last_of}
+use Rattle.parquet_plain.specs.Bounds.{Bounds, bounds_after}
+use Rattle.parquet_plain.specs.Columns.{end_bytes, ends_of}
 use Rattle.parquet_plain.specs.Orders.{numbers_at_most}
 use Rattle.parquet_plain.specs.declared.ends.Ends.{Ends}
 use Rattle.parquet_sample.specs.Sample.{name_text, texts_at_most}
@@ -12,25 +12,8 @@ use Rattle.parquet_sample.specs.declared.column.SampleColumn.{SampleColumn}
 use Rattle.parquet_sample.specs.declared.column.SampleColumn.TheVariants.{Id, Qty, Name}
 use Rattle.parquet_sample.specs.declared.number_ends.NumberEnds.{NumberEnds}
 
--- none, or the least and the greatest
-abbrev pub Bounds : Type 0
-Bounds = Option (Stored × Stored)
-
-abbrev pub with_item : (Stored → Stored → Bool) → Bounds → Stored → Stored × Stored
-with_item at_most None item = (item, item)
-with_item at_most (Some bounds) item = (first_of at_most bounds.0 item, last_of at_most bounds.1 item)
-
-abbrev pub bounds_after : (Stored → Stored → Bool) → Bounds → List Stored → Bounds
-bounds_after at_most bounds [] = bounds
-bounds_after at_most bounds (item ∷ items) = bounds_after at_most (Some (with_item at_most bounds item)) items
-
 abbrev pub numbers_after : Bounds → List Stored → Bounds
 numbers_after bounds items = bounds_after numbers_at_most bounds items
-
--- as they are stored
-abbrev pub stored_bounds : PhysicalType → Bounds → Option Ends
-stored_bounds type None = None
-stored_bounds type (Some bounds) = Some (record { least = end_bytes type bounds.0; greatest = end_bytes type bounds.1 })
 
 -- the item of a number
 abbrev pub end_item : SampleColumn → ℕ → Stored

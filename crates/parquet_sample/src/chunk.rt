@@ -3,14 +3,15 @@
 ghost use Rattle.compact_write.specs.Calls.{Writes};
 ghost use Rattle.std.specs.Prelude.{◌≡◌, ◌<◌, ◌+◌, ◌^◌, [], ◌∷◌, length, IfOk};
 ghost use Rattle.parquet_plain.specs.Description.{chunk_bytes, page_bytes};
-ghost use Rattle.parquet_sample.specs.Parts.{AddsChunks, sample_chunk, sample_page, page_facts, pages_facts, chunk_facts};
+ghost use Rattle.parquet_sample.specs.Parts.{sample_chunk, sample_page, page_facts, pages_facts, chunk_facts};
+ghost use Rattle.parquet_write.specs.Parts.{AddsChunks};
 
 use crate::column::{SampleColumn, page_rows};
 use crate::ends::{null_count, stored_ends};
 use crate::page_body::write_body;
-use crate::parts::{Parts, Room};
 use parquet_write::{
-    ChunkFacts, PageFacts, to_measure, write_column_index, write_offset_index, write_page,
+    ChunkFacts, PageFacts, Parts, Room, to_measure, write_column_index, write_offset_index,
+    write_page,
 };
 use std::alloc::{AllocError, Global};
 use std::cmp::min;

@@ -3,35 +3,16 @@
 ghost use Rattle.std.specs.Prelude.{◌≡◌, ◌≤◌, ◌<◌, ◌+◌, ◌^◌, IfErr, IfOk};
 ghost use Rattle.columns_core.specs.declared.error.Error.TheVariants.{InvalidArgumentError, OutOfMemory};
 ghost use Rattle.columns_core.specs.declared.error.Part.TheVariants.{Request};
-ghost use Rattle.parquet_sample.specs.Parts.{BeginsFile};
 ghost use Rattle.parquet_sample.specs.Sample.{most_rows, sample};
 
 use crate::group::write_groups;
-use crate::parts::{Parts, Room};
 use crate::schema::schema;
 use columns_core::{Error, Part};
-use parquet_write::{Bases, write_end_of_file};
+use parquet_write::{JoinedParts, Parts, write_end_of_file};
 use std::alloc::{AllocError, Global};
 
 /// The rows of the largest sample.
 const MOST_ROWS: u32 = 2_000_000;
-
-/// Where a file begins: its magic, and no index.
-fn new_parts(alloc: Global) -> Result<Parts, AllocError>
-    ensures { IfOk result BeginsFile }
-{
-    let mut chunks = Vec::new(alloc);
-    chunks.extend_from_slice(b"PAR1")?;
-    Ok(Parts {
-        chunks,
-        indexes: Vec::new(alloc),
-        locations: Vec::new(alloc),
-        room: Room {
-            body: Vec::new(alloc),
-            levels: Vec::new(alloc),
-        },
-    })
-}
 
 /// The file of so many rows.
 fn write_file(alloc: Global, first: u64, rows: u32) -> Result<Vec<u8>, AllocError>
@@ -40,24 +21,11 @@ fn write_file(alloc: Global, first: u64, rows: u32) -> Result<Vec<u8>, AllocErro
     ensures written { IfOk result (λ bytes. bytes.items ≡ sample rows first) }
 {
     let columns = schema(alloc)?;
-    let mut parts = new_parts(alloc)?;
+    let mut parts = Parts::new(alloc)?;
     let groups = write_groups(alloc, &mut parts, first, rows)?;
-    let Parts {
-        chunks: mut out,
-        indexes,
-        locations,
-        room: _room,
-    } = parts;
-    let indexes_base = out.len() as u64;
-    out.extend_from_slice(&indexes)?;
-    let locations_base = out.len() as u64;
-    out.extend_from_slice(&locations)?;
-    let bases = Bases {
-        indexes: indexes_base,
-        locations: locations_base,
-    };
-    write_end_of_file(&mut out, &columns, bases, &groups)?;
-    Ok(out)
+    let JoinedParts { mut bytes, bases } = parts.join()?;
+    write_end_of_file(&mut bytes, &columns, bases, &groups)?;
+    Ok(bytes)
 }
 
 /// The sample of `rows` rows, whose numbers are their places and `seed` added.

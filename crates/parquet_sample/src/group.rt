@@ -2,13 +2,13 @@
 
 ghost use Rattle.std.specs.Prelude.{◌≡◌, ◌<◌, ◌+◌, ◌^◌, IfOk};
 ghost use Rattle.parquet_plain.specs.File.{chunks_of};
-ghost use Rattle.parquet_sample.specs.Parts.{AddsChunks, group_facts, sample_group, sample_groups, starts_of, sample_facts};
+ghost use Rattle.parquet_sample.specs.Parts.{sample_group, sample_groups, sample_facts};
+ghost use Rattle.parquet_write.specs.Parts.{AddsChunks, group_facts, starts_of};
 
 use crate::chunk::write_chunk;
 use crate::column::SampleColumn;
-use crate::parts::Parts;
 use columns_core::Seq;
-use parquet_write::GroupFacts;
+use parquet_write::{GroupFacts, Parts};
 use std::alloc::{AllocError, Global};
 use std::cmp::min;
 

@@ -11,7 +11,6 @@ mod group;
 mod levels;
 mod number_ends;
 mod page_body;
-mod parts;
 mod schema;
 
 pub use cell::sample_cell;

@@ -3,3 +3,10 @@ pub mod ElementLemmas
 pub mod StepLemmas
 pub mod GroupLemmas
 pub mod StatisticsLemmas
+pub mod LevelLemmas
+pub mod PagingLemmas
+pub mod PartLemmas
+pub mod FileLemmas
+pub mod ItemLemmas
+pub mod AnswerLemmas
+pub mod LengthLemmas

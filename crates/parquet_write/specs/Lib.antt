@@ -1,2 +1,4 @@
 pub mod Told
 pub mod Elements
+pub mod Items
+pub mod Parts

@@ -1,7 +1,9 @@
 //! The footer, and the end of the file.
 
-ghost use Rattle.std.specs.Prelude.{◌≡◌, ◌<◌, ◌^◌, length, sum_by, All, IfOk, OnOk};
+ghost use Rattle.std.specs.Prelude.{◌≡◌, ◌<◌, ◌^◌, ◌++◌, ◌≤◌, length, nat_lt, sum_by, All, IfOk, OnErr, OnOk};
+ghost use Rattle.std.specs.Int.{w32, to_le_bytes};
 ghost use Rattle.compact_write.specs.Calls.{Writes};
+ghost use Rattle.parquet_plain.specs.File.{magic};
 ghost use Rattle.parquet_plain.specs.Structs.{footer_bytes};
 ghost use Rattle.parquet_write.specs.Told.{HasColumns, IsTellableFile, end_of_file_bytes, file_told};
 
@@ -19,7 +21,8 @@ pub const MAGIC: &[u8; 4] = b"PAR1";
 
 /// The rows of all groups.
 fn rows_of(groups: &[GroupFacts]) -> Result<u64, AllocError>
-    ensures { IfOk result (λ rows. rows ≡ sum_by (λ group. group.rows) groups.now) }
+    ensures sum { IfOk result (λ rows. rows ≡ sum_by (λ group. group.rows) groups.now) }
+    ensures err { OnErr result (2 ^ 64 ≤ sum_by (λ group. group.rows) groups.now) }
 {
     let mut rows = 0;
     for group in groups {
@@ -28,7 +31,19 @@ fn rows_of(groups: &[GroupFacts]) -> Result<u64, AllocError>
     Ok(rows)
 }
 
-fn write_footer(
+/// Whether all rows are a number that the footer tells.
+pub(crate) fn has_few_rows(groups: &[GroupFacts]) -> bool
+    ensures { result ≡ nat_lt (sum_by (λ group. group.rows) groups.now) (2 ^ 63) }
+{
+    match rows_of(groups) {
+        Err(_) => false,
+        Ok(rows) => rows <= i64::MAX as u64,
+    }
+}
+
+/// What the footer says. A number that no reader takes counts as want of memory: 2^31 bytes of an index, 2^31 columns or fixed bytes, a place or
+/// count from 2^63 on.
+pub fn write_footer(
     out: &mut Vec<u8>,
     columns: &[ColumnDescriptor],
     bases: Bases,
@@ -50,8 +65,17 @@ fn write_footer(
     Ok(())
 }
 
-/// The footer, its length, and the magic. A number that no reader takes counts as want of memory: 2^31 bytes of an index or a footer, 2^31 columns
-/// or fixed bytes, a place or count from 2^63 on.
+/// The length of the footer, and the magic.
+pub fn write_tail(out: &mut Vec<u8>, length: u32) -> Result<(), AllocError>
+    ensures { Writes (to_le_bytes w32 length ++ magic) out.old result out.new }
+{
+    out.extend_from_slice(&length.to_le_bytes())?;
+    out.extend_from_slice(MAGIC)?;
+    Ok(())
+}
+
+/// The footer, its length, and the magic. A number that no reader takes counts as want of memory, as in `write_footer`, and so does a footer of
+/// 2^31 bytes.
 pub fn write_end_of_file(
     out: &mut Vec<u8>,
     columns: &[ColumnDescriptor],
@@ -66,7 +90,5 @@ pub fn write_end_of_file(
     let start = out.len();
     write_footer(out, columns, bases, groups)?;
     let length = to_measure(out.len() - start)?;
-    out.extend_from_slice(&length.to_le_bytes())?;
-    out.extend_from_slice(MAGIC)?;
-    Ok(())
+    write_tail(out, length)
 }

@@ -1,10 +1,12 @@
 //! Places and lengths: numbers below 2^63, as the format stores them. No vector is longer, so one above them counts
 //! as want of memory.
 
-ghost use Rattle.std.specs.Prelude.{◌≡◌, ◌<◌, ◌≤◌, ◌+◌, ◌^◌, IfOk, OnErr, OnOk};
+ghost use Rattle.std.specs.Prelude.{◌≡◌, ◌<◌, ◌≤◌, ◌+◌, ◌^◌, IfOk, IfErr, OnErr, OnOk};
+ghost use Rattle.columns_core.specs.declared.error.Error.TheVariants.{Overflow};
 ghost use Rattle.compact_write.specs.Calls.{Writes};
 ghost use Rattle.compact_write.specs.Written.{count_field_bytes, i32_kind, i64_kind, most_step};
 
+use columns_core::Error;
 use compact_write::{write_count_field, write_large_field};
 use std::alloc::AllocError;
 
@@ -51,6 +53,18 @@ pub fn to_measure(length: usize) -> Result<u32, AllocError>
 {
     if length > i32::MAX as usize {
         return Err(AllocError);
+    }
+    Ok(length as u32)
+}
+
+/// The same, where a greater one is refused as too large.
+pub(crate) fn to_short(length: usize) -> Result<u32, Error>
+    ensures same { IfOk result (λ n. n ≡ length) }
+    ensures few { OnOk result (length < 2 ^ 31) }
+    ensures err { IfErr result (λ e. (e ≡ Overflow) × (2 ^ 31 ≤ length)) }
+{
+    if length > i32::MAX as usize {
+        return Err(Error::Overflow);
     }
     Ok(length as u32)
 }

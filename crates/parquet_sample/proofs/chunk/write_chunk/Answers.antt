@@ -1,14 +1,10 @@
-use Rattle.std.proofs.Common.{◌≡◌, ℕ, List, ◌-◌, ◌++◌, map, Option, sym, ap, ◌∙◌, arith, append-nil, length, length-append}
+use Rattle.std.proofs.Common.{◌≡◌, ℕ, List, ◌-◌, ◌++◌, sym, ap, ◌∙◌, arith, append-nil, length, length-append}
 use Rattle.parquet_plain.specs.Columns.{written_chunk}
 use Rattle.parquet_plain.specs.Description.{PlainChunk, chunk_bytes, rows_of_chunk}
 use Rattle.parquet_plain.specs.File.{all_locations_bytes, chunk_index_bytes, chunk_locations_bytes}
-use Rattle.parquet_plain.specs.Structs.{column_index_bytes, offset_index_bytes}
-use Rattle.parquet_plain.specs.declared.ends.Ends.{Ends}
 use Rattle.parquet_sample.specs.Parts.{sample_chunk}
-use Rattle.parquet_sample.proofs.PageLemmas.{index-told, locations-told, rows_of_chunk-is}
-use Rattle.parquet_write.specs.Told.{index_told, location_told}
-use Rattle.parquet_write.specs.declared.facts.ChunkFacts.{ChunkFacts}
-use Rattle.parquet_write.specs.declared.facts.PageFacts.{PageFacts}
+use Rattle.parquet_sample.proofs.PageLemmas.{rows_of_chunk-sample}
+use Rattle.parquet_write.proofs.PagingLemmas.{index-written, locations-written, told_alike}
 use Rattle.parquet_sample.proofs.chunk.write_chunk.Goals as goal
 
 pub returns-clause-adds : goal.returns-clause-adds
@@ -19,21 +15,10 @@ returns-clause-adds c =
     record {
       pages = c.in_ok-pages.ensures.written ∙ ap (λ (bs : List ℕ). c.args.parts.now.chunks.items ++ bs) (sym (append-nil (chunk_bytes chunk)));
       indexes = c.in_ok-write_column_index.ensures.written
-          ∙ ap (λ (pages : List PageFacts). c.args.parts.now.indexes.items ++ column_index_bytes (index_told pages)) (c.deref.ensures.value ∙ c.in_ok-pages.ensures.told)
-          ∙ ap (λ index. c.args.parts.now.indexes.items ++ column_index_bytes index) (index-told c.args.column c.args.first c.args.rows start)
-          ∙ ap (λ (bs : List ℕ). c.args.parts.now.indexes.items ++ bs) (sym (append-nil (chunk_index_bytes chunk)));
+          ∙ ap (λ (bs : List ℕ). c.args.parts.now.indexes.items ++ bs) (index-written start chunk c.deref.result.now (c.deref.ensures.value ∙ c.in_ok-pages.ensures.told) ∙ sym (append-nil (chunk_index_bytes chunk)));
       locations = c.in_ok-write_offset_index.ensures.written
-          ∙ ap (λ (pages : List PageFacts). c.args.parts.now.locations.items ++ offset_index_bytes (map location_told pages)) (c.deref-2.ensures.value ∙ c.in_ok-pages.ensures.told)
-          ∙ ap (λ places. c.args.parts.now.locations.items ++ offset_index_bytes places) (locations-told start 0 chunk.pages)
-          ∙ ap (λ (bs : List ℕ). c.args.parts.now.locations.items ++ bs) (sym (append-nil (chunk_locations_bytes start chunk)));
+          ∙ ap (λ (bs : List ℕ). c.args.parts.now.locations.items ++ bs) (locations-written start chunk c.deref-2.result.now (c.deref-2.ensures.value ∙ c.in_ok-pages.ensures.told) ∙ sym (append-nil (chunk_locations_bytes start chunk)));
     }
-
--- equal parts make equal facts
-told_alike : {start start' size size' rows rows' nulls nulls' index index' index_size index_size' locations locations' locations_size locations_size' : ℕ} {ends ends' : Option Ends} →
-    start ≡ start' → size ≡ size' → rows ≡ rows' → nulls ≡ nulls' → ends ≡ ends' → index ≡ index' → index_size ≡ index_size' → locations ≡ locations' → locations_size ≡ locations_size' →
-    ◌≡◌ {A = ChunkFacts} record { start = start; size = size; rows = rows; nulls = nulls; ends = ends; index = index; index_size = index_size; locations = locations; locations_size = locations_size }
-    record { start = start'; size = size'; rows = rows'; nulls = nulls'; ends = ends'; index = index'; index_size = index_size'; locations = locations'; locations_size = locations_size' }
-told_alike a b d e f g h i j = cc
 
 pub returns-clause-told : goal.returns-clause-told
 unfolding written_chunk
@@ -46,14 +31,12 @@ returns-clause-told c =
     let place_bytes : List ℕ = chunk_locations_bytes (length out) chunk in
     let pages_written : c.write_pages.new.out.items ≡ out ++ chunk_bytes chunk = c.in_ok-pages.ensures.written in
     let index_written : c.write_column_index.new.out.items ≡ indexes ++ index_bytes =
-    c.in_ok-write_column_index.ensures.written ∙ ap (λ (pages : List PageFacts). indexes ++ column_index_bytes (index_told pages)) (c.deref.ensures.value ∙ c.in_ok-pages.ensures.told)
-    ∙ ap (λ index. indexes ++ column_index_bytes index) (index-told c.args.column c.args.first c.args.rows (length out)) in
+    c.in_ok-write_column_index.ensures.written ∙ ap (λ (bs : List ℕ). indexes ++ bs) (index-written (length out) chunk c.deref.result.now (c.deref.ensures.value ∙ c.in_ok-pages.ensures.told)) in
     let places_written : c.write_offset_index.new.out.items ≡ places ++ place_bytes =
-    c.in_ok-write_offset_index.ensures.written ∙ ap (λ (pages : List PageFacts). places ++ offset_index_bytes (map location_told pages)) (c.deref-2.ensures.value ∙ c.in_ok-pages.ensures.told)
-    ∙ ap (λ at. places ++ offset_index_bytes at) (locations-told (length out) 0 chunk.pages) in
+    c.in_ok-write_offset_index.ensures.written ∙ ap (λ (bs : List ℕ). places ++ bs) (locations-written (length out) chunk c.deref-2.result.now (c.deref-2.ensures.value ∙ c.in_ok-pages.ensures.told)) in
     let a : c.len-start.result ≡ length out = omega (arith, c.len-start.ensures) in
     let b : c.len-3.result - c.len-start.result ≡ length (chunk_bytes chunk) = omega (arith, c.len-3.ensures, c.len-start.ensures, ap length pages_written, length-append out (chunk_bytes chunk)) in
-    let d : c.from.result ≡ rows_of_chunk chunk = c.from.ensures ∙ sym (rows_of_chunk-is c.args.column c.args.first c.args.rows) in
+    let d : c.from.result ≡ rows_of_chunk chunk = c.from.ensures ∙ sym (rows_of_chunk-sample c.args.column c.args.first c.args.rows) in
     let e : c.from-2.result ≡ chunk.nulls = c.from-2.ensures ∙ c.null_count.ensures in
     let f : c.in_ok-ends.ends ≡ chunk.ends = c.in_ok-ends.ensures in
     let g : c.len-index.result ≡ length indexes = omega (arith, c.len-index.ensures) in

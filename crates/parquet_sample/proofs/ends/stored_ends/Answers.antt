@@ -2,10 +2,11 @@ use Rattle.std.proofs.Common.{ℕ, List, Option, Some, sym, ap, ◌∙◌}
 use Rattle.parquet_meta.specs.declared.metadata.PhysicalType.{PhysicalType}
 use Rattle.parquet_plain.specs.Bodies.{present}
 use Rattle.parquet_plain.specs.Columns.{end_bytes}
-use Rattle.parquet_sample.specs.Ends.{bounds_at, end_item, stored_bounds}
+use Rattle.parquet_plain.specs.Bounds.{stored_bounds}
+use Rattle.parquet_sample.specs.Ends.{bounds_at, end_item}
 use Rattle.parquet_sample.specs.Writing.{items_from, written_of}
 use Rattle.parquet_sample.specs.declared.number_ends.NumberEnds.{NumberEnds}
-use Rattle.parquet_sample.proofs.BoundLemmas.{ends-are}
+use Rattle.parquet_plain.proofs.BoundLemmas.{ends-are}
 use Rattle.parquet_sample.proofs.ends.stored_ends.Goals as goal
 
 pub returns-in-None : goal.returns-in-None

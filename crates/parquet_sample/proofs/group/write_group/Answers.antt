@@ -4,9 +4,10 @@ use Rattle.std.proofs.lemmas.List.FromFn.{length-range_with_len}
 use Rattle.parquet_plain.specs.Columns.{written_chunks}
 use Rattle.parquet_plain.specs.Description.{PlainChunk}
 use Rattle.parquet_plain.specs.File.{Starts, behind}
-use Rattle.parquet_sample.specs.Parts.{sample_chunk, starts_of}
+use Rattle.parquet_sample.specs.Parts.{sample_chunk}
 use Rattle.parquet_sample.specs.declared.column.SampleColumn.TheVariants.{Id, Qty, Name}
-use Rattle.parquet_sample.proofs.GroupLemmas.{adds_more, starts-behind}
+use Rattle.parquet_write.proofs.PartLemmas.{adds_more, starts-behind}
+use Rattle.parquet_write.specs.Parts.{starts_of}
 use Rattle.parquet_write.specs.Told.{facts_of}
 use Rattle.parquet_write.specs.declared.facts.ChunkFacts.{ChunkFacts}
 use Rattle.parquet_write.specs.declared.facts.GroupFacts.{GroupFacts}

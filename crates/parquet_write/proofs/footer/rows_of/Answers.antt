@@ -13,5 +13,5 @@ loop-group-preserved c =
     let own = ap (λ (group : GroupFacts). group.rows) c.group-item.is in
     c.in_ok-rows.ensures.ok ∙ ap (λ n. n + c.group-item.result.rows) c.loop-group.invariant ∙ ap (λ n. sum_by (λ (group : GroupFacts). group.rows) (take c.loop-group.group-index c.args.groups.now) + n) own ∙ sym more
 
-pub returns : goal.returns
-returns c = c.loop-group.invariant ∙ ap (λ (groups : List GroupFacts). sum_by (λ (group : GroupFacts). group.rows) groups) (take_all c.loop-group.group-index c.args.groups.now c.loop-group-test.false)
+pub returns-clause-sum : goal.returns-clause-sum
+returns-clause-sum c = c.loop-group.invariant ∙ ap (λ (groups : List GroupFacts). sum_by (λ (group : GroupFacts). group.rows) groups) (take_all c.loop-group.group-index c.args.groups.now c.loop-group-test.false)

@@ -38,7 +38,7 @@ returns c =
     let s1 = small 0 1 1 1 _ _ _ whole refl s0 c.in_ok-write_count_field.ensures.written in
     let s2 = list_begins 1 2 12 _ (schema_values c.args.columns.now) _ _ _ whole (count-schema c.args.columns.now) s1 c.in_ok-write_list_start.ensures.written in
     let s3 = part (elements_bytes (schema_values c.args.columns.now)) _ _ _ whole s2 c.in_ok-write_schema.ensures.written in
-    let s4 = large 2 3 _ _ _ _ _ whole c.in_ok-rows_of.ensures s3 c.in_ok-write_measure.ensures.written in
+    let s4 = large 2 3 _ _ _ _ _ whole c.in_ok-rows_of.ensures.sum s3 c.in_ok-write_measure.ensures.written in
     let count : length groups ≡ value_count (values_of group_value (map own groups)) = sym (value_count-values group_value (map own groups) ∙ length-map groups own) in
     let s5 = list_begins 3 4 12 _ (values_of group_value (map own groups)) _ _ _ whole count s4 c.in_ok-write_list_start-2.ensures.written in
     let s6 = part (elements_bytes (values_of group_value (map own groups))) _ _ _ whole s5
@@ -47,7 +47,7 @@ returns c =
       written = ends 4 _ _ whole s6 c.in_ok-write_end.ensures.written;
       few = record {
         schema = c.in_ok-write_schema.ensures.few;
-        rows = subst (λ (n : ℕ). n < 2 ^ 63) c.in_ok-rows_of.ensures c.in_ok-write_measure.ensures.few;
+        rows = subst (λ (n : ℕ). n < 2 ^ 63) c.in_ok-rows_of.ensures.sum c.in_ok-write_measure.ensures.few;
         each = all_have (IsTellableGroup c.args.bases) groups c.loop-group.group-index c.loop-group-test.false c.loop-group.invariant.few;
       };
     }
