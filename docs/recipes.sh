@@ -1,10 +1,13 @@
 #!/bin/sh
 # Runs the commands of RECIPES.md in a folder of its own, and compares what they print (docs/blocks.py). Needs duckdb, and python3 with pyarrow and pandas.
-# Usage: docs/recipes.sh [PQSCAN]
+# Usage: docs/recipes.sh [FOLDER], where pqscan and pqinspect stand
 set -eu
 here=$(CDPATH= cd -- "$(dirname -- "$0")" && pwd)
-program=${1:-$here/../crates/pqscan/out/pqscan}
-for word in duckdb "$program"; do
+place_of() {
+    [ -z "$folder" ] && echo "$here/../crates/$1/out/$1" || echo "$folder/$1"
+}
+folder=${1:+$(CDPATH= cd -- "$1" && pwd)}
+for word in duckdb "$(place_of pqscan)" "$(place_of pqinspect)"; do
     command -v "$word" >/dev/null || {
         echo "recipes.sh: $word is not there" >&2
         exit 1
@@ -17,7 +20,9 @@ python3 -c 'import pyarrow.parquet, pandas' 2>/dev/null || {
 work=$(mktemp -d)
 trap 'rm -rf "$work"' EXIT
 mkdir "$work/bin" "$work/run"
-ln -s "$(CDPATH= cd -- "$(dirname -- "$program")" && pwd)/$(basename -- "$program")" "$work/bin/pqscan"
+for name in pqscan pqinspect; do
+    ln -s "$(place_of "$name")" "$work/bin/$name"
+done
 export PATH="$work/bin:$PATH"
 cd "$work/run"
 "$here/blocks.py" "$here/RECIPES.md"
