@@ -27,7 +27,13 @@ fn scan<L: Ledger>(rt: &HostRuntime, blank: Blank) -> Status
         Ok(mut edge) => {
             let edge = &mut edge;
             let mut steps = Steps::<L>::new(blank);
-            run(rt.alloc(), &edge.words, &mut edge.source, &mut edge.out, &mut steps)
+            run(
+                rt.alloc(),
+                &edge.words,
+                &mut edge.source,
+                &mut edge.out,
+                &mut steps,
+            )
         }
         Err(status) => status,
     }
