@@ -2,7 +2,6 @@
 use Rattle.std.proofs.Common.{◌≡◌, ℕ, Bool, List, Option, refl, sym, ap, ◌∙◌, map}
 use Rattle.std.specs.Prelude.{IsTrue}
 use Rattle.columns_core.specs.declared.cell.Cell.{Cell}
-use Rattle.columns_core.specs.declared.data_type.DataType.{DataType}
 use Rattle.columns_core.specs.declared.data_type.Field.{Field}
 use Rattle.parquet_meta.specs.declared.metadata.PhysicalType.{PhysicalType}
 use Rattle.parquet_meta.specs.declared.metadata.Repetition.{Repetition}
@@ -13,7 +12,7 @@ use Rattle.parquet_write.specs.Items.{unnamed_column}
 use Rattle.parquet_write.specs.declared.pages.Paging.{Paging}
 use Rattle.put_program.specs.Orders.{order_of}
 use Rattle.put_program.specs.Put.{repetition_of_field, written_field}
-use Rattle.put_program.specs.Stored.{is_written, stored_cell, type_stored}
+use Rattle.put_program.specs.Stored.{is_written, stored_cell}
 use Rattle.put_program.specs.Typed.{AreStored}
 
 abbrev chunk_by : PhysicalType → (Stored → Stored → Bool) → Repetition → ℕ → List (Option Stored) → PlainChunk

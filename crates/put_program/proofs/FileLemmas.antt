@@ -1,5 +1,5 @@
 -- What is put is the file of its description.
-use Rattle.std.proofs.Common.{◌≡◌, ◌⊎◌, inl, inr, ℕ, Bool, true, false, ◌&&◌, List, [], ◌∷◌, Option, Some, None, refl, sym, ap, subst, ◌∙◌, arith, if◌then◌else◌, length, map}
+use Rattle.std.proofs.Common.{◌≡◌, ◌⊎◌, inl, inr, ℕ, Bool, true, false, List, [], ◌∷◌, Option, Some, None, refl, sym, ap, subst, ◌∙◌, arith, if◌then◌else◌, length, map}
 use Rattle.std.specs.Prelude.{All, IfErr, Result, Ok, Err}
 use Rattle.std.specs.Result.{IsErrAnd}
 use Rattle.std.specs.List.{AllZip}
@@ -13,7 +13,7 @@ use Rattle.columns_core.specs.declared.data_type.Field.{Field}
 use Rattle.columns_core.specs.declared.error.Error.{Error}
 use Rattle.columns_core.specs.declared.error.Error.TheVariants.{Overflow}
 use Rattle.parquet_page.specs.Stored.{Stored}
-use Rattle.parquet_plain.specs.Columns.{Written, written_chunk, written_chunks, written_file, written_group}
+use Rattle.parquet_plain.specs.Columns.{Written, written_chunks, written_file, written_group}
 use Rattle.parquet_plain.specs.Description.{PlainChunk, PlainColumn, PlainFile, PlainGroup}
 use Rattle.parquet_plain.specs.File.{Starts, behind, behind_all, plain_file}
 use Rattle.parquet_write.specs.Parts.{group_facts, groups_facts}

@@ -1,5 +1,5 @@
 -- Chunks behind chunks, and groups behind groups.
-use Rattle.std.proofs.Common.{◌≡◌, ℕ, zero, suc, ◌+◌, ◌<◌, ◌≤◌, Bool, true, false, ◌&&◌, List, [], ◌∷◌, ◌++◌, Option, Some, None, refl, sym, ap, ◌∙◌, arith, length, map, take, drop, subst, append_assoc, append-nil, length-append}
+use Rattle.std.proofs.Common.{◌≡◌, ℕ, zero, suc, ◌+◌, ◌≤◌, Bool, true, false, ◌&&◌, List, [], ◌∷◌, ◌++◌, Option, Some, refl, sym, ap, ◌∙◌, arith, length, map, take, drop, subst, append_assoc, append-nil, length-append}
 use Rattle.std.specs.Prelude.{slice_get}
 use Rattle.std.proofs.lemmas.List.{length-map, map-append, take_all, take-append-drop, take-map}
 use Rattle.columns_core.specs.Array.{column_of}
@@ -8,8 +8,8 @@ use Rattle.columns_core.specs.declared.array.Array.{Array}
 use Rattle.columns_core.specs.declared.data_type.Field.{Field}
 use Rattle.parquet_page.specs.Stored.{Stored}
 use Rattle.parquet_plain.specs.Columns.{Written, written_chunk, written_chunks}
-use Rattle.parquet_plain.specs.Description.{PlainChunk, PlainGroup, chunk_bytes}
-use Rattle.parquet_plain.specs.File.{behind_all, chunks_of, data_bytes}
+use Rattle.parquet_plain.specs.Description.{PlainChunk, PlainGroup}
+use Rattle.parquet_plain.specs.File.{chunks_of, data_bytes}
 use Rattle.parquet_plain.specs.Short.{are_short_chunks, is_short_chunk}
 use Rattle.parquet_write.specs.Parts.{AddsChunks, group_facts, groups_facts, starts_of}
 use Rattle.parquet_write.specs.Told.{all_facts, facts_of}
@@ -161,12 +161,13 @@ pub behind-front : (page_rows : ℕ) (fields : List Field) (arrays : List Array)
     (rest : List PlainChunk) × ((put_group page_rows fields arrays).chunks ≡ front page_rows fields arrays i ++ rest)
 behind-front page_rows fields arrays i =
     let columns : List Written = map (written_field page_rows) fields in
-    let rows : List (List (Option Stored)) = map stored_items (map column_of arrays) in
-    (written_chunks (drop i columns) (drop i rows),
+    let rows : List (List (Option Stored)) = map stored_items (map column_of arrays) in (
+      written_chunks (drop i columns) (drop i rows),
       sym (front-rest columns rows i)
-      ∙ ap (λ (cs : List Written). written_chunks cs (take i rows) ++ written_chunks (drop i columns) (drop i rows)) (take-map (written_field page_rows) i fields)
-      ∙ ap (λ (rs : List (List (Option Stored))). written_chunks (map (written_field page_rows) (take i fields)) rs ++ written_chunks (drop i columns) (drop i rows))
-      (take-map stored_items i (map column_of arrays) ∙ ap (map stored_items) (take-map column_of i arrays)))
+          ∙ ap (λ (cs : List Written). written_chunks cs (take i rows) ++ written_chunks (drop i columns) (drop i rows)) (take-map (written_field page_rows) i fields)
+          ∙ ap (λ (rs : List (List (Option Stored))). written_chunks (map (written_field page_rows) (take i fields)) rs ++ written_chunks (drop i columns) (drop i rows))
+          (take-map stored_items i (map column_of arrays) ∙ ap (map stored_items) (take-map column_of i arrays)),
+    )
 
 pub front-all : (page_rows : ℕ) (fields : List Field) (arrays : List Array) (i : ℕ) → length fields ≤ i → length arrays ≤ i → front page_rows fields arrays i ≡ (put_group page_rows fields arrays).chunks
 front-all page_rows fields arrays i first second =

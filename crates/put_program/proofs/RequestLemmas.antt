@@ -1,6 +1,6 @@
 -- What fits together, and what does not.
 use Rattle.std.proofs.Common.{◌≡◌, ℕ, Bool, true, false, List, Option, Some, refl, sym, ap, subst, ◌∙◌, length, map}
-use Rattle.std.specs.Prelude.{◌==◌, ◌&&◌, ◌||◌, not, slice_get, IsTrue}
+use Rattle.std.specs.Prelude.{◌==◌, ◌&&◌, ◌||◌, not, slice_get}
 use Rattle.std.specs.List.{list_all, list_any}
 use Rattle.columns_core.specs.Array.{cells, column_of, data_type_of}
 use Rattle.columns_core.specs.Column.{Column}
@@ -16,7 +16,6 @@ use Rattle.columns_core.specs.declared.lent.Lent.TheVariants as lent
 use Rattle.std.specs.Prelude.{Result}
 use Rattle.parquet_page.specs.Stored.{Stored}
 use Rattle.parquet_plain.specs.Columns.{written_chunk}
-use Rattle.parquet_plain.specs.Description.{PlainChunk}
 use Rattle.parquet_write.specs.declared.facts.ChunkFacts.{ChunkFacts}
 use Rattle.parquet_write.specs.declared.parts.Parts.{Parts}
 use Rattle.put_program.specs.Put.{stored_items, written_field}

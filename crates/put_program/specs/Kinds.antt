@@ -9,7 +9,7 @@ use Rattle.columns_core.specs.Stored.{is_binary, is_sized_text}
 use Rattle.columns_core.specs.declared.cell.Cell.{Bool as Truths, Bytes, Int, Text}
 use Rattle.columns_core.specs.declared.data_type.DataType.{DataType}
 use Rattle.columns_core.specs.declared.data_type.DataType as type
-use Rattle.columns_core.specs.declared.data_type.IntervalUnit.TheVariants.{YearMonth, DayTime}
+use Rattle.columns_core.specs.declared.data_type.IntervalUnit.TheVariants.{YearMonth}
 use Rattle.parquet_meta.specs.declared.metadata.PhysicalType.TheVariants as types
 use Rattle.parquet_page.specs.Stored.{Number, Octets, Truth}
 use Rattle.parquet_plain.specs.Orders.{numbers_at_most}

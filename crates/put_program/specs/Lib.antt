@@ -1,6 +1,8 @@
 pub mod Kinds
+pub mod Lines
 pub mod Ordered
 pub mod Orders
+pub mod Program
 pub mod Put
 pub mod Request
 pub mod Stored

@@ -98,7 +98,13 @@ pub(crate) fn add_array(
         Array::LargeUtf8(array) => add_typed(alloc, parts, field, &Texts { array }, page_rows),
         Array::Binary(array) => add_typed(alloc, parts, field, &Strings { array }, page_rows),
         Array::LargeBinary(array) => add_typed(alloc, parts, field, &Strings { array }, page_rows),
-        Array::FixedSizeBinary(array) => add_typed(alloc, parts, field, &FixedBytes { array }, page_rows),
+        Array::FixedSizeBinary(array) => add_typed(
+            alloc,
+            parts,
+            field,
+            &FixedBytes { array },
+            page_rows,
+        ),
         Array::Null(_)
         | Array::DaysMs(_)
         | Array::Dictionary(_)

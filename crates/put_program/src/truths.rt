@@ -64,7 +64,11 @@ impl<'a> Items for Truths<'a> {
     }
 
     fn write_end(&self, bytes: &mut Vec<u8>, row: usize) -> Result<(), AllocError> {
-        let end = if self.array.get(row) == Some(true) { 1 } else { 0 };
+        let end = if self.array.get(row) == Some(true) {
+            1
+        } else {
+            0
+        };
         bytes.push(end)?;
         Ok(())
     }

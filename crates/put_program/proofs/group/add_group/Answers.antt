@@ -1,11 +1,10 @@
-use Rattle.std.proofs.Common.{◌≡◌, ℕ, ◌+◌, List, ◌++◌, ◌∷◌, [], ap, arith, length, map, subst, sym, ◌∙◌}
-use Rattle.std.specs.Prelude.{slice_get, Some}
+use Rattle.std.proofs.Common.{◌≡◌, ℕ, ◌+◌, List, ◌++◌, ◌∷◌, [], ap, arith, length, subst, sym, ◌∙◌}
 use Rattle.std.specs.List.{AllZip}
 use Rattle.std.proofs.lemmas.Slice.Zip.{AllZip-long}
 use Rattle.columns_core.specs.Array.{column_of}
 use Rattle.columns_core.specs.declared.array.Array.{Array}
 use Rattle.columns_core.specs.declared.data_type.Field.{Field}
-use Rattle.parquet_plain.specs.Description.{PlainChunk, PlainGroup}
+use Rattle.parquet_plain.specs.Description.{PlainChunk}
 use Rattle.parquet_plain.specs.Columns.{written_chunk}
 use Rattle.parquet_plain.specs.Short.{are_short_chunks}
 use Rattle.parquet_write.specs.Parts.{AddsChunks, starts_of}
@@ -23,10 +22,11 @@ use Rattle.put_program.proofs.group.add_group.Goals as goal
 pub loop-i-init : goal.loop-i-init
 loop-i-init c =
     let parts = c.args.parts.now in
-    let none : front c.args.page_rows c.args.fields.now c.arrays-arrays.result.now 0 ≡ [] = front-none c.args.page_rows c.args.fields.now c.arrays-arrays.result.now in
-    (ap length c.arrays-arrays.ensures.arrays ∙ AllZip-long FitsField c.args.fields.now c.args.chunk.now c.requires.fits,
+    let none : front c.args.page_rows c.args.fields.now c.arrays-arrays.result.now 0 ≡ [] = front-none c.args.page_rows c.args.fields.now c.arrays-arrays.result.now in (
+      ap length c.arrays-arrays.ensures.arrays ∙ AllZip-long FitsField c.args.fields.now c.args.chunk.now c.requires.fits,
       subst (λ (told : List ChunkFacts). Grows parts parts told (front c.args.page_rows c.args.fields.now c.arrays-arrays.result.now 0)) (sym c.in_ok-chunks.ensures.items)
-      (subst (Grows parts parts []) (sym none) (grows_none parts)))
+          (subst (Grows parts parts []) (sym none) (grows_none parts)),
+    )
 
 pub add_array-requires-clause-fits : goal.add_array-requires-clause-fits
 add_array-requires-clause-fits c =
@@ -62,12 +62,13 @@ loop-i-preserved c =
     let field = at-place fields i c.index-fields-i.result c.loop-i-test.true c.index-fields-i.is in
     let array = at-place arrays i c.index-arrays-i.result (omega (arith, c.loop-i-test.true, c.loop-i.invariant.0)) c.index-arrays-i.is in
     let chunk : PlainChunk = written_chunk (written_field c.args.page_rows c.index-fields-i.result) (stored_items (column_of c.index-arrays-i.result)) in
-    let more = front-more c.args.page_rows fields arrays i c.index-fields-i.result c.index-arrays-i.result (sym c.loop-i.invariant.0) field array in
-    (c.loop-i.invariant.0,
+    let more = front-more c.args.page_rows fields arrays i c.index-fields-i.result c.index-arrays-i.result (sym c.loop-i.invariant.0) field array in (
+      c.loop-i.invariant.0,
       subst (λ (told : List ChunkFacts). Grows c.args.parts.now c.add_array.new.parts told (front c.args.page_rows fields arrays (i + 1))) (sym c.in_ok-push.ensures.items)
-      (subst (Grows c.args.parts.now c.add_array.new.parts (c.loop-i.chunks.items ++ c.in_ok-add_array.field-0 ∷ [])) (sym more)
-      (grows_more c.args.parts.now c.loop-i.parts c.add_array.new.parts c.loop-i.chunks.items (front c.args.page_rows fields arrays i) c.in_ok-add_array.field-0 chunk c.loop-i.invariant.1
-      c.in_ok-add_array.ensures.adds c.in_ok-add_array.ensures.told c.in_ok-add_array.ensures.short.fits)))
+          (subst (Grows c.args.parts.now c.add_array.new.parts (c.loop-i.chunks.items ++ c.in_ok-add_array.field-0 ∷ [])) (sym more)
+          (grows_more c.args.parts.now c.loop-i.parts c.add_array.new.parts c.loop-i.chunks.items (front c.args.page_rows fields arrays i) c.in_ok-add_array.field-0 chunk c.loop-i.invariant.1
+          c.in_ok-add_array.ensures.adds c.in_ok-add_array.ensures.told c.in_ok-add_array.ensures.short.fits)),
+    )
 
 pub returns-clause-adds : goal.returns-clause-adds
 returns-clause-adds c =

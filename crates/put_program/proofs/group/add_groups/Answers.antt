@@ -1,8 +1,4 @@
-use Rattle.std.proofs.Common.{◌≡◌, ℕ, ◌+◌, List, ◌++◌, ◌∷◌, [], ap, arith, drop, length, subst, sym, take, ◌∙◌}
-use Rattle.std.specs.Prelude.{slice_get, Some}
-use Rattle.std.specs.List.{AllZip}
-use Rattle.std.proofs.lemmas.List.{take_all}
-use Rattle.std.proofs.lemmas.List.Elements.{All-get_or}
+use Rattle.std.proofs.Common.{ℕ, ◌+◌, List, ◌++◌, ◌∷◌, [], ap, drop, length, subst, sym, take, ◌∙◌}
 use Rattle.columns_core.specs.declared.array.Array.{Array}
 use Rattle.columns_core.specs.declared.data_type.Field.{Field}
 use Rattle.parquet_plain.specs.Description.{PlainGroup}

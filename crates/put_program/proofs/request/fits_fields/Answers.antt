@@ -1,8 +1,5 @@
-use Rattle.std.proofs.Common.{◌≡◌, false, sym, ◌∙◌, arith}
-use Rattle.std.specs.Prelude.{slice_get, Some, IsTrue}
+use Rattle.std.proofs.Common.{sym, ◌∙◌, arith}
 use Rattle.std.proofs.lemmas.Slice.Zip.{AllZip-long}
-use Rattle.columns_core.specs.declared.array.Array.{Array}
-use Rattle.columns_core.specs.declared.data_type.Field.{Field}
 use Rattle.put_program.specs.Request.{FitsField}
 use Rattle.put_program.proofs.ListLemmas.{at-place, zip-at, zip-more}
 use Rattle.put_program.proofs.request.fits_fields.Goals as goal

@@ -1,4 +1,4 @@
-use Rattle.std.proofs.Common.{◌≡◌, true, false, ap, sym, ◌∙◌}
+use Rattle.std.proofs.Common.{◌≡◌, true, false, ap, sym}
 use Rattle.columns_core.specs.Array.{cells}
 use Rattle.columns_core.specs.Lent.{cell_lent}
 use Rattle.put_program.specs.Request.{is_null_cell}

@@ -1,4 +1,4 @@
-use Rattle.std.proofs.Common.{◌≡◌, List, Option, subst}
+use Rattle.std.proofs.Common.{List, Option, subst}
 use Rattle.parquet_page.specs.Stored.{Stored}
 use Rattle.parquet_plain.specs.Description.{PlainChunk}
 use Rattle.put_program.specs.Typed.{AddsColumn, AreStored}

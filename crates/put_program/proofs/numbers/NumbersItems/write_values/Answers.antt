@@ -1,5 +1,5 @@
 use Rattle.std.proofs.lemmas.List.{length-map}
-use Rattle.std.proofs.Common.{◌<◌, length, option_map, List, Option, ap, arith, ◌∙◌}
+use Rattle.std.proofs.Common.{◌<◌, length, option_map, ap, arith, ◌∙◌}
 use Rattle.std.specs.Prelude.{Some}
 use Rattle.parquet_plain.specs.Columns.{end_bytes}
 use Rattle.put_program.proofs.LoopLemmas.{written_none, written_some}

@@ -3,7 +3,7 @@ use Rattle.std.proofs.Common.{◌<◌, length, option_map, ◌≡◌, ℕ, List,
 use Rattle.std.specs.Prelude.{option_copied}
 use Rattle.std.specs.List.{flat_map}
 use Rattle.parquet_page.specs.Stored.{Octets, Stored}
-use Rattle.parquet_plain.specs.Bodies.{octets_of, values_bytes, with_length}
+use Rattle.parquet_plain.specs.Bodies.{octets_of, values_bytes}
 use Rattle.put_program.proofs.LoopLemmas.{rows_stored, written_none, written_some}
 use Rattle.put_program.proofs.strings.FixedBytesItems.write_values.Goals as goal
 use Rattle.put_program.proofs.strings.FixedBytesItems.write_values.Goals.{in-Some+in_ok-extend_from_slice, in_default}
