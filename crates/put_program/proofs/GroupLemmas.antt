@@ -18,7 +18,7 @@ use Rattle.parquet_write.specs.declared.facts.GroupFacts.{GroupFacts}
 use Rattle.parquet_write.specs.declared.parts.Parts.{Parts}
 use Rattle.parquet_write.proofs.PartLemmas.{adds_more, adds_none, facts-more, groups-more, short-append, starts-behind}
 use Rattle.put_program.proofs.ListLemmas.{take-next}
-use Rattle.put_program.specs.Put.{first_length, stored_items, written_field}
+use Rattle.put_program.specs.Put.{first_column_length, stored_items, written_field}
 use Rattle.put_program.specs.Typed.{put_group, put_groups}
 
 -- ---- lists
@@ -177,7 +177,7 @@ pub front-none : (page_rows : ℕ) (fields : List Field) (arrays : List Array) �
 unfolding written_chunks
 front-none page_rows fields arrays = refl
 
-pub rows-alike : (arrays : List Array) → array_rows arrays ≡ first_length (map column_of arrays)
+pub rows-alike : (arrays : List Array) → array_rows arrays ≡ first_column_length (map column_of arrays)
 rows-alike [] = refl
 rows-alike (array ∷ arrays) = refl
 

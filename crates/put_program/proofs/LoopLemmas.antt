@@ -1,19 +1,14 @@
 -- Rows that are written one after another.
-use Rattle.std.proofs.Common.{◌≡◌, ℕ, ◌+◌, ◌<◌, ◌≤◌, Bool, List, [], ◌∷◌, ◌++◌, Option, Some, None, refl, sym, ap, ◌∙◌, length, map, unwrap_or, option_map, append_assoc, append-nil}
+use Rattle.std.proofs.Common.{◌≡◌, ℕ, ◌+◌, ◌<◌, ◌≤◌, Bool, List, [], ◌∷◌, ◌++◌, Option, Some, None, sym, ap, ◌∙◌, length, map, unwrap_or, option_map, append_assoc, append-nil}
 use Rattle.std.specs.Prelude.{slice_get}
 use Rattle.std.specs.List.{flat_map, slice_range}
 use Rattle.std.proofs.lemmas.List.Concat.{flat_map-append}
 use Rattle.std.proofs.lemmas.List.Elements.{filter_map-append}
 use Rattle.std.proofs.lemmas.List.{map-append}
-use Rattle.std.proofs.lemmas.Option.{slice_get-map, unwrap_or-slice_get}
+use Rattle.std.proofs.lemmas.Option.{unwrap_or-slice_get}
 use Rattle.parquet_page.specs.Stored.{Stored, Truth}
 use Rattle.parquet_plain.specs.Bodies.{present, truth_in}
 use Rattle.parquet_plain.proofs.RowLemmas.{rows-last, rows-map, rows-none}
-use Rattle.parquet_write.specs.Items.{row_of}
-
--- what is stored of a row that is known
-pub row-stored : {T : Type 0} (stored : T → Stored) (items : List (Option T)) (row : ℕ) (item : Option T) → slice_get items row ≡ Some item → row_of (map (option_map stored) items) row ≡ option_map stored item
-row-stored stored items row item e = rw (slice_get-map (option_map stored) items row, e) refl
 
 -- what is stored of rows from one up to another that are there
 abbrev pub rows_stored : {T : Type 0} → (T → Stored) → List (Option T) → ℕ → ℕ → List Stored
@@ -35,9 +30,6 @@ next-stored stored items from row item le lt own =
 -- The bytes of the rows from one on that are there stand behind the old ones.
 pub record AreWritten {T : Type 0} (f : Stored → List ℕ) (stored : T → Stored) (items : List (Option T)) (start body : List ℕ) (from row : ℕ) : Type 0 where
   pub is : body ≡ start ++ flat_map f (rows_stored stored items from row)
-
-pub written_begin : {T : Type 0} (f : Stored → List ℕ) (stored : T → Stored) (items : List (Option T)) (start : List ℕ) (from : ℕ) → AreWritten f stored items start start from from
-written_begin f stored items start from = record { is = sym (append-nil start) ∙ ap (λ (rows : List Stored). start ++ flat_map f rows) (sym (none-stored stored items from)) }
 
 -- one more row that is there
 pub written_some : {T : Type 0} (f : Stored → List ℕ) (stored : T → Stored) (items : List (Option T)) (start body next : List ℕ) (from row : ℕ) (value : T) → from ≤ row → row < length items →

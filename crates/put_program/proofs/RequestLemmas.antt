@@ -19,7 +19,7 @@ use Rattle.parquet_plain.specs.Columns.{written_chunk}
 use Rattle.parquet_write.specs.declared.facts.ChunkFacts.{ChunkFacts}
 use Rattle.parquet_write.specs.declared.parts.Parts.{Parts}
 use Rattle.put_program.specs.Put.{stored_items, written_field}
-use Rattle.put_program.specs.Request.{FitsField, are_sized, has_size, is_fixed_size_binary, is_null_cell, is_own}
+use Rattle.put_program.specs.Request.{FitsField, are_sized, is_sized, is_fixed_size_binary, is_null_cell, is_own}
 use Rattle.put_program.specs.Stored.{stored_cell}
 use Rattle.put_program.specs.Typed.{AddsColumn}
 use Rattle.put_program.proofs.ListLemmas.{all-fails}
@@ -29,10 +29,10 @@ use Rattle.put_program.proofs.ListLemmas.{all-fails}
 pub not_sized : (column : Column (List ℕ)) (size row : ℕ) (bytes : List ℕ) → column.data_type ≡ FixedSizeBinary size → slice_get column.items row ≡ Some (Some bytes) → (length bytes == size) ≡ false →
     false ≡ are_sized column
 not_sized column size row bytes typed own other =
-    sym (ap (λ (t : DataType). is_fixed_size_binary t && list_all (has_size (fixed_size t)) column.items) typed ∙ all-fails (has_size size) column.items row (Some bytes) own other)
+    sym (ap (λ (t : DataType). is_fixed_size_binary t && list_all (is_sized (fixed_size t)) column.items) typed ∙ all-fails (is_sized size) column.items row (Some bytes) own other)
 
-pub sized : (column : Column (List ℕ)) (size : ℕ) → column.data_type ≡ FixedSizeBinary size → list_all (has_size size) column.items ≡ true → true ≡ are_sized column
-sized column size typed all = sym (ap (λ (t : DataType). is_fixed_size_binary t && list_all (has_size (fixed_size t)) column.items) typed ∙ all)
+pub sized : (column : Column (List ℕ)) (size : ℕ) → column.data_type ≡ FixedSizeBinary size → list_all (is_sized size) column.items ≡ true → true ≡ are_sized column
+sized column size typed all = sym (ap (λ (t : DataType). is_fixed_size_binary t && list_all (is_sized (fixed_size t)) column.items) typed ∙ all)
 
 -- ---- nulls
 

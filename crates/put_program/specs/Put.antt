@@ -40,12 +40,12 @@ written_field page_rows field =
 abbrev pub stored_items : ColumnCells → List (Option Stored)
 stored_items column = map (stored_cell column.0) column.1
 
-abbrev pub first_length : List ColumnCells → ℕ
-first_length [] = 0
-first_length (column ∷ columns) = length column.1
+abbrev pub first_column_length : List ColumnCells → ℕ
+first_column_length [] = 0
+first_column_length (column ∷ columns) = length column.1
 
 abbrev pub stored_rows : List ColumnCells → Rows
-stored_rows columns = record { count = first_length columns; items = map stored_items columns }
+stored_rows columns = record { count = first_column_length columns; items = map stored_items columns }
 
 -- ---- the file
 

@@ -23,13 +23,13 @@ is_fixed_size_binary (FixedSizeBinary size) = true
 is_fixed_size_binary _ = false
 
 -- bytes that are there are so many
-abbrev pub has_size : ℕ → Option (List ℕ) → Bool
-has_size size None = true
-has_size size (Some bytes) = length bytes == size
+abbrev pub is_sized : ℕ → Option (List ℕ) → Bool
+is_sized size None = true
+is_sized size (Some bytes) = length bytes == size
 
 -- bytes of a fixed size, each that is there of the size of the type
 abbrev pub are_sized : ColumnOf (List ℕ) → Bool
-are_sized column = is_fixed_size_binary column.data_type && list_all (has_size (fixed_size column.data_type)) column.items
+are_sized column = is_fixed_size_binary column.data_type && list_all (is_sized (fixed_size column.data_type)) column.items
 
 -- The array is of the kind that stores its type. Every array that a constructor makes is so; of cells of another kind other
 -- values would be stored. No array of the last six kinds has a type that is written.

@@ -27,8 +27,8 @@ pub fn put_file(
     ensures written { let columns = columns_of_chunks chunks.now in
         IfOk result (λ bytes. put schema.now.fields columns page_rows ≡ Some bytes.items) }
     ensures fits { OnOk result (FitsTogether schema.now.fields chunks.now page_rows) }
-    ensures tellable { let file = put_description schema.now.fields (columns_of_chunks chunks.now) page_rows in
-        OnOk result (is_short_file file ≡ true) }
+    ensures tellable { let columns = columns_of_chunks chunks.now in
+        OnOk result (is_short_file (put_description schema.now.fields columns page_rows) ≡ true) }
 
     // Each error comes only where its own cause stands, and want of memory at any time; no other comes.
     ensures refused { IfErr result (RefusesToPut schema.now.fields chunks.now page_rows) }

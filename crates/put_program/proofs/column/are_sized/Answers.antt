@@ -1,7 +1,7 @@
 use Rattle.std.proofs.Common.{◌≡◌, List, ℕ, Option, Some, None, ap, arith, length, refl, sym, ◌∙◌}
 use Rattle.std.proofs.lemmas.Bool.{eq-eqb, ne_eqb}
 use Rattle.std.specs.Prelude.{slice_get, option_copied}
-use Rattle.put_program.specs.Request.{has_size}
+use Rattle.put_program.specs.Request.{is_sized}
 use Rattle.put_program.proofs.ListLemmas.{all-more}
 use Rattle.put_program.proofs.RequestLemmas.{not_sized}
 use Rattle.put_program.proofs.column.are_sized.Goals as goal
@@ -17,7 +17,7 @@ pub loop-row-preserved : goal.loop-row-preserved
 loop-row-preserved c =
     let items : List (Option (List ℕ)) = c.args.array.now.items in
     elim c.match-get.branch [
-      | in-Some+else-bytes-size w ↦ all-more (has_size c.in-FixedSizeBinary.size) items c.loop-row.row (Some w.in-Some.bytes.now) (c.get.ensures ∙ ap (λ r. Some (option_copied r)) w.in-Some.is)
+      | in-Some+else-bytes-size w ↦ all-more (is_sized c.in-FixedSizeBinary.size) items c.loop-row.row (Some w.in-Some.bytes.now) (c.get.ensures ∙ ap (λ r. Some (option_copied r)) w.in-Some.is)
           (eq-eqb (length w.in-Some.bytes.now) c.in-FixedSizeBinary.size (omega arith)) c.loop-row.invariant
-      | in_default-get w ↦ all-more (has_size c.in-FixedSizeBinary.size) items c.loop-row.row None (c.get.ensures ∙ ap (λ r. Some (option_copied r)) w.in_default-get.is) refl c.loop-row.invariant
+      | in_default-get w ↦ all-more (is_sized c.in-FixedSizeBinary.size) items c.loop-row.row None (c.get.ensures ∙ ap (λ r. Some (option_copied r)) w.in_default-get.is) refl c.loop-row.invariant
     ]
