@@ -40,7 +40,7 @@ of_i64 type.Int64 own = record { physical = λ w. refl; order = refl; each = λ 
 of_i64 type.Date64 own = record { physical = λ w. refl; order = refl; each = λ n. refl }
 of_i64 (type.Time64 unit) own = record { physical = λ w. refl; order = refl; each = λ n. refl }
 of_i64 (type.Duration unit) own = record { physical = λ w. refl; order = refl; each = λ n. refl }
-of_i64 (type.Timestamp unit zone) own = record { physical = λ w. refl; order = refl; each = λ n. refl }
+of_i64 (type.Timestamp unit time_zone) own = record { physical = λ w. refl; order = refl; each = λ n. refl }
 of_i64 _ own = absurd (true≢false (sym own))
 
 pub of_u8 : (data_type : DataType) → IsTrue (stores_u8 data_type) → StoresValues data_type types.Int32 numbers_at_most (λ (n : ℕ). Int (pos n)) (λ (n : ℕ). Number (pos n))
