@@ -140,7 +140,7 @@ pub fn run_put<S: Source, K: Out>(
     ensures rowless { IfSome (asked_in words.now) (λ asked.
         asked.page_rows ≡ 0 → RefusesNoRows source.old source.new result) }
 
-    // A run without an answer ends as the words, the source or its lines refuse to be put; memory may run out at any time.
+    // At its end the file is written; every other ending comes only by its own cause, and memory may run out at any time.
     ensures writes { WritesPut K.Sink (asked_in words.now) (S.told source.old) out.old out.new result }
     ensures read { IsTrue (has_answer result) → S.faults source.new ≡ S.faults source.old }
     ensures refused { IfSome (asked_in words.now) (λ asked.
