@@ -131,7 +131,8 @@ pub(crate) fn check_scan(
     for (group, (cells, runs)) in scan.kept.as_slice().iter().zip(chunks.iter().zip(kept)) {
         let rows = cells.first().map_or(0, |column| column.len());
         if !are_kept(group, rows, runs) {
-            return Err(Fail::new("other rows are kept"));
+            let intervals = group.intervals.as_slice();
+            return Err(Fail::new(format_args!("of {cells:?} {intervals:?} are kept")));
         }
         if !runs.is_empty() {
             match given.next() {
