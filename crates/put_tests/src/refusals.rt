@@ -24,8 +24,8 @@ const NOTHING: Put<'static> = Put {
 };
 
 const IN_NO_PAGES: Put<'static> = Put {
-    columns: &[("a", "Int32", true)],
-    chunks: &[],
+    columns: &[("a", "Int32", false)],
+    chunks: &[&[&["10", "12", "15", "18", "20"]]],
     page_rows: 0,
 };
 
@@ -49,7 +49,7 @@ static REFUSALS: [Refusal<'static>; 19] = [
         NOTHING,
         MISFIT,
     ),
-    (&[("a", "Int32", true)], IN_NO_PAGES, MISFIT),
+    (&[("a", "Int32", false)], IN_NO_PAGES, MISFIT),
     // Arrays of another type, of one that is stored alike, in another order, too many and too few.
     (&[("a", "Int64", true)], NUMBERS, MISFIT),
     (&[("a", "Date32", true)], NUMBERS, MISFIT),
