@@ -106,7 +106,7 @@ for name_list in re.findall(r"tests? ((?:`\w+`,? ?)+)", programs):
 readme = text_of(os.path.join(TOP, "README.md"))
 if len(readme.splitlines()) > LONGEST_README:
     found.append("README.md has %d lines, at most %d" % (len(readme.splitlines()), LONGEST_README))
-for document in documents() + ["docs/pqscan.1", "docs/pqinspect.1"]:
+for document in documents() + ["docs/pqscan.1", "docs/pqinspect.1", "docs/parquet_put.1"]:
     widest = WIDEST_README if document == "README.md" else WIDEST
     for number, line in enumerate(text_of(os.path.join(TOP, document)).splitlines(), 1):
         if len(line) > widest and not document.startswith("crates/"):

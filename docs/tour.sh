@@ -1,12 +1,14 @@
 #!/bin/sh
-# Runs each command of TOUR.md, the first one of each program in README.md and those of the examples of the manual pages, and compares what they write, on both streams, with what stands there.
+# Runs each command of TOUR.md, the first one of each program in README.md and those of the examples of the manual pages, in a folder of its own, and compares what they write, on both streams,
+# with what stands there.
 # Usage: docs/tour.sh [FOLDER], where the programs stand
 set -eu
 here=$(CDPATH= cd -- "$(dirname -- "$0")" && pwd)
 exec python3 - "$here" "${1:-$here/..}" <<'PY'
-import os, re, shlex, subprocess, sys
+import os, re, shlex, shutil, subprocess, sys, tempfile
 
 HERE, PROGRAMS = sys.argv[1], os.path.abspath(sys.argv[2])
+NAMES = ("pqscan", "pqinspect", "parquet_put")
 
 
 def text_of(name):
@@ -27,9 +29,9 @@ def of_readme():
 
 def of_manual(page):
     """Each example is a block of commands, of which the last one prints the next block."""
-    examples = text_of(page).replace("\\-", "-").split("\n.SH EXAMPLES\n")[1].split("\n.SH ")[0]
+    examples = text_of(page).replace("\\-", "-").replace("\\e", "\\").split("\n.SH EXAMPLES\n")[1].split("\n.SH ")[0]
     blocks = re.findall(r"^\.nf\n\.RS\n(.*?)^\.RE\n\.fi", examples, re.M | re.S)
-    return [(block.splitlines()[-1], wanted) for block, wanted in zip(blocks[::2], blocks[1::2])]
+    return list(zip(blocks[::2], blocks[1::2]))
 
 
 def of_low_bits():
@@ -37,16 +39,33 @@ def of_low_bits():
     return list(zip(re.findall(r"^\.RS\n\.B (pqscan @sample.*)$", text_of("pqscan.1"), re.M), ["-128\n", "group 0 300 -\n"]))
 
 
+def make_folder(folder):
+    """The programs and the file of the examples."""
+    for name in NAMES:
+        path = os.path.join(folder, name)
+        with open(path, "w", encoding="utf-8") as file:
+            file.write('#!/bin/sh\nexec %s "$@"\n' % shlex.quote(os.path.join(PROGRAMS, name)))
+        os.chmod(path, 0o755)
+    shutil.copy(os.path.join(HERE, "../crates/pqscan/data/f1.parquet"), folder)
+
+
+def run(lines, folder):
+    """What the last of the lines writes."""
+    path = folder + os.pathsep + os.environ["PATH"]
+    for line in lines:
+        ran = subprocess.run(["sh", "-c", line], cwd=folder, env={**os.environ, "PATH": path}, stdout=subprocess.PIPE, stderr=subprocess.STDOUT, text=True, errors="replace")
+    return ran.stdout
+
+
 failed = 0
-steps = of_tour() + of_readme() + of_manual("pqscan.1") + of_manual("pqinspect.1") + of_low_bits()
-for command, wanted in steps:
-    words = shlex.split(command)
-    name = words[0].replace("./", "")
-    assert name in ("pqscan", "pqinspect"), command
-    ran = subprocess.run([os.path.join(PROGRAMS, name), *words[1:]], cwd=os.path.join(HERE, "../crates/pqscan/data"), stdout=subprocess.PIPE, stderr=subprocess.STDOUT, text=True)
-    if ran.stdout != wanted and not (wanted == "-128\n" and ran.stdout.endswith("\n-128\n")):
-        failed += 1
-        print("%s\nwrote\n%sand not\n%s" % (command, ran.stdout, wanted))
+steps = of_tour() + of_readme() + of_manual("pqscan.1") + of_manual("pqinspect.1") + of_manual("parquet_put.1") + of_low_bits()
+with tempfile.TemporaryDirectory() as folder:
+    make_folder(folder)
+    for commands, wanted in steps:
+        wrote = run(commands.splitlines(), folder)
+        if wrote != wanted and not (wanted == "-128\n" and wrote.endswith("\n-128\n")):
+            failed += 1
+            print("%s\nwrote\n%sand not\n%s" % (commands, wrote, wanted))
 print("%d commands, %d wrote something else" % (len(steps), failed))
 sys.exit(failed != 0)
 PY

@@ -1,3 +1,10 @@
-mod ItemLemmas
-mod KindLemmas
-mod OrderLemmas
+pub mod ChunkLemmas
+pub mod FileLemmas
+pub mod GroupLemmas
+pub mod LineLemmas
+pub mod ListLemmas
+pub mod LoopLemmas
+pub mod NumberLemmas
+pub mod PackLemmas
+pub mod ProgramLemmas
+pub mod RequestLemmas

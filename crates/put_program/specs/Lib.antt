@@ -1,7 +1,10 @@
+pub mod Kinds
 pub mod Lines
+pub mod Ordered
 pub mod Orders
 pub mod Program
 pub mod Put
 pub mod Request
 pub mod Stored
 pub mod Typed
+pub mod Valued

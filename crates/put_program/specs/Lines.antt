@@ -1,12 +1,12 @@
 -- Lines of numbers and nulls, and the file that they ask for.
-use Rattle.std.specs.Prelude.{ℕ, ℤ, pos, neg_ℤ, ◌==◌, List, [], ◌∷◌, ◌++◌, codes, length, nat_lt, if◌then◌else◌, true, Option, Some, None, option_and_then, option_map}
+use Rattle.std.specs.Prelude.{ℕ, ℤ, Bool, pos, neg_ℤ, ◌==◌, List, [], ◌∷◌, ◌++◌, codes, length, nat_lt, if◌then◌else◌, true, Option, Some, None, option_and_then, option_map}
 use Rattle.std.specs.Str.{bytes_eq}
 use Rattle.columns_core.specs.declared.cell.Cell.{Cell, Int, Null}
 use Rattle.columns_core.specs.declared.data_type.DataType as type
 use Rattle.columns_core.specs.declared.data_type.Field.{Field}
 use Rattle.parquet_plain.specs.Description.{PlainFile}
-use Rattle.pq_common.specs.Spelled.{digits_at_most, fits_signed, number}
-use Rattle.put_program.specs.Put.{Column, put, put_description}
+use Rattle.pq_common.specs.Spelled.{digits_at_most, fits_signed, number, split_first}
+use Rattle.put_program.specs.Put.{ColumnCells, put_description}
 
 -- ---- words
 
@@ -24,6 +24,11 @@ asked (file ∷ (name ∷ (page_rows ∷ []))) = if nat_lt 0 (length name) then 
 asked _ = None
 
 -- ---- lines
+
+-- what stands behind a minus, if there is one
+abbrev pub behind_minus : List ℕ → List ℕ
+behind_minus [] = []
+behind_minus (first ∷ rest) = if first == 45 then rest else first ∷ rest
 
 -- an optional minus and 1 to 19 digits
 abbrev pub any_line_number : List ℕ → Option ℤ
@@ -47,14 +52,23 @@ lines_behind line (byte ∷ text) =
     if byte == 10 then option_map (λ lines. line ∷ lines) (lines_behind [] text)
     else lines_behind (line ++ byte ∷ []) text
 
+abbrev pub is_line_end : ℕ → Bool
+is_line_end byte = byte == 10
+
+-- the cell of the first line, and the text behind its end
+abbrev pub first_cell : List ℕ → Option (Cell × List ℕ)
+first_cell text =
+    option_and_then (λ (parts : List ℕ × List ℕ). option_map (λ cell. (cell, parts.1)) (line_cell parts.0))
+    (split_first is_line_end text)
+
 abbrev pub cells_of_lines : List (List ℕ) → Option (List Cell)
 cells_of_lines [] = Some []
 cells_of_lines (line ∷ lines) =
     option_and_then (λ cell. option_map (λ cells. cell ∷ cells) (cells_of_lines lines)) (line_cell line)
 
 -- the cells that a text tells, if each of its lines is spelled and ended
-abbrev pub cells_in : List ℕ → Option (List Cell)
-cells_in text = option_and_then cells_of_lines (lines_behind [] text)
+abbrev pub cells_of_text : List ℕ → Option (List Cell)
+cells_of_text text = option_and_then cells_of_lines (lines_behind [] text)
 
 -- ---- the file
 
@@ -62,12 +76,9 @@ abbrev pub field_of : List ℕ → Field
 field_of name = record { name = name; data_type = type.Int64; is_nullable = true }
 
 -- one group of all lines, and none where there is no line
-abbrev pub groups_of : List Cell → List (List Column)
-groups_of [] = []
-groups_of (cell ∷ cells) = ((type.Int64, cell ∷ cells) ∷ []) ∷ []
+abbrev pub groups_of_cells : List Cell → List (List ColumnCells)
+groups_of_cells [] = []
+groups_of_cells (cell ∷ cells) = ((type.Int64, cell ∷ cells) ∷ []) ∷ []
 
-abbrev pub file_of : Asked → List Cell → PlainFile
-file_of asked cells = put_description (field_of asked.name ∷ []) (groups_of cells) asked.page_rows
-
-abbrev pub bytes_of : Asked → List Cell → Option (List ℕ)
-bytes_of asked cells = put (field_of asked.name ∷ []) (groups_of cells) asked.page_rows
+abbrev pub file_of_lines : Asked → List Cell → PlainFile
+file_of_lines asked cells = put_description (field_of asked.name ∷ []) (groups_of_cells cells) asked.page_rows

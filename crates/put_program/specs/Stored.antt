@@ -34,9 +34,10 @@ plainly physical_type = Some (as_plain physical_type)
 
 -- fixed bytes of a size that readers take
 abbrev pub fixed_type : ℕ → Option StoredType
-fixed_type size = if nat_lt 0 size && nat_lt size (2 ^ 31) then plainly (types.FixedLenByteArray size) else None
+fixed_type size =
+    if nat_lt 0 size && nat_lt size (2 ^ 31) then plainly (types.FixedLenByteArray size) else None
 
--- what values of a type are stored as, if the type is written
+-- what values of a type are stored as: of each type that is written, and of no other
 abbrev pub stored_type : DataType → Option StoredType
 stored_type type.Boolean = plainly types.Boolean
 stored_type type.Int8 = plainly types.Int32
@@ -59,20 +60,14 @@ stored_type type.Utf8 = plainly types.ByteArray
 stored_type type.LargeUtf8 = plainly types.ByteArray
 stored_type type.Binary = plainly types.ByteArray
 stored_type type.LargeBinary = plainly types.ByteArray
-stored_type type.Null = None
-stored_type (type.Interval unit) = None
-stored_type (type.Dictionary key value ordered) = None
-stored_type (type.List item) = None
-stored_type (type.LargeList item) = None
-stored_type (type.Struct fields) = None
-stored_type (type.Map entries ordered) = None
+stored_type _ = None
 
 abbrev pub is_written : DataType → Bool
 is_written data_type = is_some (stored_type data_type)
 
 -- (asked only of types that are written)
-abbrev pub stored_as : DataType → StoredType
-stored_as data_type = unwrap_or (stored_type data_type) (types.ByteArray, None)
+abbrev pub type_stored : DataType → StoredType
+type_stored data_type = unwrap_or (stored_type data_type) (types.ByteArray, None)
 
 -- ---- values
 

@@ -3,17 +3,37 @@
 ghost use Rattle.std.specs.Prelude.{◌≡◌, ◌<◌, IsTrue};
 ghost use Rattle.columns_core.specs.Array.{column_of};
 ghost use Rattle.parquet_plain.specs.Columns.{written_chunk};
-ghost use Rattle.put_program.specs.Put.{items_of, written_field};
+ghost use Rattle.put_program.specs.Put.{stored_items, written_field};
 ghost use Rattle.put_program.specs.Request.{FitsField};
 ghost use Rattle.put_program.specs.Request as spec;
 ghost use Rattle.put_program.specs.Stored.{is_written};
 ghost use Rattle.put_program.specs.Typed.{AddsColumn};
 
 use crate::fields::stored_type;
+use crate::numbers::Numbers;
+use crate::strings::{FixedBytes, Strings, Texts};
+use crate::truths::Truths;
 use crate::typed::add_typed;
-use columns_core::{Array, DataType, Error, Field, NativeType};
+use columns_core::{Array, DataType, Error, Field, FixedSizeBinaryArray, NativeType};
 use parquet_write::{ChunkFacts, Parts};
 use std::alloc::Global;
+
+/// Whether the type is one of fixed bytes, and each that is there has as many as it says.
+fn are_sized(array: &FixedSizeBinaryArray) -> bool
+    ensures { result ≡ spec.are_sized array.now }
+{
+    let DataType::FixedSizeBinary(size) = array.data_type() else {
+        return false;
+    };
+    for row in 0..array.len() {
+        if let Some(bytes) = array.get(row) {
+            if bytes.len() != *size {
+                return false;
+            }
+        }
+    }
+    true
+}
 
 /// Whether the array is of the kind that stores its type.
 pub(crate) fn is_own(array: &Array) -> bool
@@ -34,9 +54,7 @@ pub(crate) fn is_own(array: &Array) -> bool
         Array::LargeUtf8(array) => matches!(array.data_type(), DataType::LargeUtf8),
         Array::Binary(array) => matches!(array.data_type(), DataType::Binary),
         Array::LargeBinary(array) => matches!(array.data_type(), DataType::LargeBinary),
-        Array::FixedSizeBinary(array) => {
-            matches!(array.data_type(), DataType::FixedSizeBinary(_))
-        }
+        Array::FixedSizeBinary(array) => are_sized(array),
         Array::Null(_) => true,
         Array::DaysMs(array) => stored_type(array.data_type()).is_none(),
         Array::Dictionary(array) => stored_type(array.data_type()).is_none(),
@@ -61,25 +79,32 @@ pub(crate) fn add_array(
     requires paged { 0 < page_rows }
     requires fits { FitsField field.now array.now }
     requires written { IsTrue (is_written field.now.data_type) }
-    ensures { let chunk = written_chunk (written_field page_rows field.now) (items_of (column_of array.now)) in
+    ensures { let items = stored_items (column_of array.now) in
+        let chunk = written_chunk (written_field page_rows field.now) items in
         AddsColumn chunk parts.old result parts.new }
 {
     match array {
-        Array::Boolean(array) => add_typed(alloc, parts, field, array, page_rows),
-        Array::Int8(array) => add_typed(alloc, parts, field, array, page_rows),
-        Array::Int16(array) => add_typed(alloc, parts, field, array, page_rows),
-        Array::Int32(array) => add_typed(alloc, parts, field, array, page_rows),
-        Array::Int64(array) => add_typed(alloc, parts, field, array, page_rows),
-        Array::UInt8(array) => add_typed(alloc, parts, field, array, page_rows),
-        Array::UInt16(array) => add_typed(alloc, parts, field, array, page_rows),
-        Array::UInt32(array) => add_typed(alloc, parts, field, array, page_rows),
-        Array::UInt64(array) => add_typed(alloc, parts, field, array, page_rows),
-        Array::Int128(array) => add_typed(alloc, parts, field, array, page_rows),
-        Array::Utf8(array) => add_typed(alloc, parts, field, array, page_rows),
-        Array::LargeUtf8(array) => add_typed(alloc, parts, field, array, page_rows),
-        Array::Binary(array) => add_typed(alloc, parts, field, array, page_rows),
-        Array::LargeBinary(array) => add_typed(alloc, parts, field, array, page_rows),
-        Array::FixedSizeBinary(array) => add_typed(alloc, parts, field, array, page_rows),
+        Array::Boolean(array) => add_typed(alloc, parts, field, &Truths { array }, page_rows),
+        Array::Int8(array) => add_typed(alloc, parts, field, &Numbers { array }, page_rows),
+        Array::Int16(array) => add_typed(alloc, parts, field, &Numbers { array }, page_rows),
+        Array::Int32(array) => add_typed(alloc, parts, field, &Numbers { array }, page_rows),
+        Array::Int64(array) => add_typed(alloc, parts, field, &Numbers { array }, page_rows),
+        Array::UInt8(array) => add_typed(alloc, parts, field, &Numbers { array }, page_rows),
+        Array::UInt16(array) => add_typed(alloc, parts, field, &Numbers { array }, page_rows),
+        Array::UInt32(array) => add_typed(alloc, parts, field, &Numbers { array }, page_rows),
+        Array::UInt64(array) => add_typed(alloc, parts, field, &Numbers { array }, page_rows),
+        Array::Int128(array) => add_typed(alloc, parts, field, &Numbers { array }, page_rows),
+        Array::Utf8(array) => add_typed(alloc, parts, field, &Texts { array }, page_rows),
+        Array::LargeUtf8(array) => add_typed(alloc, parts, field, &Texts { array }, page_rows),
+        Array::Binary(array) => add_typed(alloc, parts, field, &Strings { array }, page_rows),
+        Array::LargeBinary(array) => add_typed(alloc, parts, field, &Strings { array }, page_rows),
+        Array::FixedSizeBinary(array) => add_typed(
+            alloc,
+            parts,
+            field,
+            &FixedBytes { array },
+            page_rows,
+        ),
         Array::Null(_)
         | Array::DaysMs(_)
         | Array::Dictionary(_)

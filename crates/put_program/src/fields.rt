@@ -1,6 +1,6 @@
 //! Fields as columns of the file.
 
-ghost use Rattle.std.specs.Prelude.{◌≡◌, ◌⊎◌, IfErr, IfOk, IfSome, IsFalse, map, option_map};
+ghost use Rattle.std.specs.Prelude.{◌≡◌, ◌⊎◌, ◌∷◌, [], true, IfErr, IfOk, IsFalse, OnOk, map, option_map};
 ghost use Rattle.columns_core.specs.Causes.{IsWantOfMemory};
 ghost use Rattle.columns_core.specs.declared.error.Error.TheVariants.{NotYetImplemented};
 ghost use Rattle.columns_core.specs.declared.error.Part.TheVariants.{Schema};
@@ -86,7 +86,7 @@ pub(crate) fn stored_type(
 }
 
 pub(crate) fn repetition_of(field: &Field) -> Repetition
-    ensures { result ≡ spec.repetition_of field.now }
+    ensures { result ≡ spec.repetition_of_field field.now }
 {
     if field.is_nullable {
         Repetition::Optional

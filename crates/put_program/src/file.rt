@@ -1,8 +1,8 @@
 //! The whole file.
 
 ghost use Rattle.std.specs.Prelude.{◌≡◌, IfErr, IfOk, OnOk, Some, true};
-ghost use Rattle.put_program.specs.Put.{is_tellable, put, put_description};
-ghost use Rattle.put_program.specs.Request.{FitsTogether, RefusesToPut, columns_of};
+ghost use Rattle.put_program.specs.Put.{is_short_file, put, put_description};
+ghost use Rattle.put_program.specs.Request.{FitsTogether, RefusesToPut, columns_of_chunks};
 
 use crate::fields::descriptors_of;
 use crate::group::add_groups;
@@ -24,11 +24,11 @@ pub fn put_file(
     chunks: &[Chunk],
     page_rows: usize,
 ) -> Result<Vec<u8>, Error>
-    ensures written { let columns = columns_of chunks.now in
+    ensures written { let columns = columns_of_chunks chunks.now in
         IfOk result (λ bytes. put schema.now.fields columns page_rows ≡ Some bytes.items) }
     ensures fits { OnOk result (FitsTogether schema.now.fields chunks.now page_rows) }
-    ensures tellable { let file = put_description schema.now.fields (columns_of chunks.now) page_rows in
-        OnOk result (is_tellable file ≡ true) }
+    ensures tellable { let columns = columns_of_chunks chunks.now in
+        OnOk result (is_short_file (put_description schema.now.fields columns page_rows) ≡ true) }
 
     // Each error comes only where its own cause stands, and want of memory at any time; no other comes.
     ensures refused { IfErr result (RefusesToPut schema.now.fields chunks.now page_rows) }

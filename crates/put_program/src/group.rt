@@ -7,7 +7,7 @@ ghost use Rattle.parquet_plain.specs.Short.{are_short_chunks};
 ghost use Rattle.parquet_write.specs.Parts.{AddsChunks, OverflowsUnless, group_facts, groups_facts, starts_of};
 ghost use Rattle.put_program.specs.Put.{are_written};
 ghost use Rattle.put_program.specs.Request.{FitsField};
-ghost use Rattle.put_program.specs.Typed.{group_of, groups_of};
+ghost use Rattle.put_program.specs.Typed.{put_group, put_groups};
 
 use crate::column::add_array;
 use columns_core::{Chunk, Error, Field, Seq};
@@ -25,11 +25,11 @@ fn add_group(
     requires paged { 0 < page_rows }
     requires fits { AllZip FitsField fields.now chunk.now }
     requires written { IsTrue (are_written fields.now) }
-    ensures adds { let group = group_of page_rows fields.now chunk.now in
+    ensures adds { let group = put_group page_rows fields.now chunk.now in
         IfOk result (λ _. AddsChunks parts.old parts.new group.chunks) }
-    ensures told { let group = group_of page_rows fields.now chunk.now in
+    ensures told { let group = put_group page_rows fields.now chunk.now in
         IfOk result (λ told. told ≡ group_facts (starts_of parts.old) group) }
-    ensures short { let group = group_of page_rows fields.now chunk.now in
+    ensures short { let group = put_group page_rows fields.now chunk.now in
         OverflowsUnless (are_short_chunks (length parts.old.chunks.items) group.chunks) result }
 {
     let arrays = chunk.arrays();
@@ -54,11 +54,11 @@ pub(crate) fn add_groups(
     requires paged { 0 < page_rows }
     requires fits { All (AllZip FitsField fields.now) chunks.now }
     requires written { IsTrue (are_written fields.now) }
-    ensures adds { let groups = groups_of page_rows fields.now chunks.now in
+    ensures adds { let groups = put_groups page_rows fields.now chunks.now in
         IfOk result (λ _. AddsChunks parts.old parts.new (chunks_of groups)) }
-    ensures told { let groups = groups_of page_rows fields.now chunks.now in
+    ensures told { let groups = put_groups page_rows fields.now chunks.now in
         IfOk result (λ told. told.items ≡ groups_facts (starts_of parts.old) groups) }
-    ensures short { let groups = groups_of page_rows fields.now chunks.now in
+    ensures short { let groups = put_groups page_rows fields.now chunks.now in
         OverflowsUnless (are_short_chunks (length parts.old.chunks.items) (chunks_of groups)) result }
 {
     let mut groups = Vec::with_capacity(alloc, chunks.len())?;

@@ -12,12 +12,12 @@ ghost use Rattle.parquet_page.specs.Stored.{Number, Octets, Stored};
 ghost use Rattle.parquet_plain.specs.Bodies.{values_bytes};
 ghost use Rattle.parquet_plain.specs.Columns.{end_bytes};
 ghost use Rattle.parquet_plain.specs.Orders.{IsOrder, numbers_at_most};
+ghost use Rattle.put_program.specs.Kinds as kind;
+ghost use Rattle.put_program.specs.Ordered as order;
 ghost use Rattle.put_program.specs.Orders.{decimals_at_most, unsigned_at_most};
 ghost use Rattle.put_program.specs.Stored.{decimal_bytes, same_bits};
+ghost use Rattle.put_program.specs.Valued as values;
 ghost use Rattle.put_program.specs.Typed.{IsStored, StoresValues};
-ghost use Rattle.put_program.proofs.KindLemmas as kind;
-ghost use Rattle.put_program.proofs.OrderLemmas as order;
-ghost use Rattle.put_program.proofs.ItemLemmas as items;
 
 use crate::typed::Typed;
 use columns_core::{NativeType, PrimitiveArray};
@@ -74,11 +74,11 @@ impl StoredNumber for i8 {
 
     ghost at_most = { numbers_at_most };
 
-    ghost joined = { items.joined_i32 };
+    ghost joined = { values.joined_i32 };
 
     ghost total = { order.total_signed };
 
-    ghost stores_values = { kind.stores_i8 };
+    ghost stores_values = { kind.of_i8 };
 
     fn write(self, bytes: &mut Vec<u8>) -> Result<(), AllocError> {
         write_i32(bytes, i32::from(self))
@@ -96,11 +96,11 @@ impl StoredNumber for i16 {
 
     ghost at_most = { numbers_at_most };
 
-    ghost joined = { items.joined_i32 };
+    ghost joined = { values.joined_i32 };
 
     ghost total = { order.total_signed };
 
-    ghost stores_values = { kind.stores_i16 };
+    ghost stores_values = { kind.of_i16 };
 
     fn write(self, bytes: &mut Vec<u8>) -> Result<(), AllocError> {
         write_i32(bytes, i32::from(self))
@@ -118,11 +118,11 @@ impl StoredNumber for i32 {
 
     ghost at_most = { numbers_at_most };
 
-    ghost joined = { items.joined_i32 };
+    ghost joined = { values.joined_i32 };
 
     ghost total = { order.total_signed };
 
-    ghost stores_values = { kind.stores_i32 };
+    ghost stores_values = { kind.of_i32 };
 
     fn write(self, bytes: &mut Vec<u8>) -> Result<(), AllocError> {
         write_i32(bytes, self)
@@ -140,11 +140,11 @@ impl StoredNumber for i64 {
 
     ghost at_most = { numbers_at_most };
 
-    ghost joined = { items.joined_i64 };
+    ghost joined = { values.joined_i64 };
 
     ghost total = { order.total_signed };
 
-    ghost stores_values = { kind.stores_i64 };
+    ghost stores_values = { kind.of_i64 };
 
     fn write(self, bytes: &mut Vec<u8>) -> Result<(), AllocError> {
         write_i64(bytes, self)
@@ -162,11 +162,11 @@ impl StoredNumber for u8 {
 
     ghost at_most = { numbers_at_most };
 
-    ghost joined = { items.joined_i32 };
+    ghost joined = { values.joined_i32 };
 
     ghost total = { order.total_unsigned };
 
-    ghost stores_values = { kind.stores_u8 };
+    ghost stores_values = { kind.of_u8 };
 
     fn write(self, bytes: &mut Vec<u8>) -> Result<(), AllocError> {
         write_i32(bytes, i32::from(self))
@@ -184,11 +184,11 @@ impl StoredNumber for u16 {
 
     ghost at_most = { numbers_at_most };
 
-    ghost joined = { items.joined_i32 };
+    ghost joined = { values.joined_i32 };
 
     ghost total = { order.total_unsigned };
 
-    ghost stores_values = { kind.stores_u16 };
+    ghost stores_values = { kind.of_u16 };
 
     fn write(self, bytes: &mut Vec<u8>) -> Result<(), AllocError> {
         write_i32(bytes, i32::from(self))
@@ -207,11 +207,11 @@ impl StoredNumber for u32 {
 
     ghost at_most = { unsigned_at_most w32 };
 
-    ghost joined = { items.joined_i32 };
+    ghost joined = { values.joined_i32 };
 
     ghost total = { order.total_bits w32 _ };
 
-    ghost stores_values = { kind.stores_u32 };
+    ghost stores_values = { kind.of_u32 };
 
     fn write(self, bytes: &mut Vec<u8>) -> Result<(), AllocError> {
         bytes.extend_from_slice(&self.to_le_bytes())?;
@@ -231,11 +231,11 @@ impl StoredNumber for u64 {
 
     ghost at_most = { unsigned_at_most w64 };
 
-    ghost joined = { items.joined_i64 };
+    ghost joined = { values.joined_i64 };
 
     ghost total = { order.total_bits w64 _ };
 
-    ghost stores_values = { kind.stores_u64 };
+    ghost stores_values = { kind.of_u64 };
 
     fn write(self, bytes: &mut Vec<u8>) -> Result<(), AllocError> {
         bytes.extend_from_slice(&self.to_le_bytes())?;
@@ -255,11 +255,11 @@ impl StoredNumber for i128 {
 
     ghost at_most = { decimals_at_most };
 
-    ghost joined = { items.joined_fixed };
+    ghost joined = { values.joined_fixed };
 
     ghost total = { order.total_decimals _ };
 
-    ghost stores_values = { kind.stores_i128 };
+    ghost stores_values = { kind.of_i128 };
 
     fn write(self, bytes: &mut Vec<u8>) -> Result<(), AllocError> {
         bytes.extend_from_slice(&self.to_be_bytes())?;
@@ -271,26 +271,32 @@ impl StoredNumber for i128 {
     }
 }
 
-impl<T: StoredNumber> Items for PrimitiveArray<T> {
-    ghost items = { λ array. map (option_map T.stored) array.items };
+/// An array of numbers as items.
+#[derive(Clone, Copy)]
+pub(crate) struct Numbers<'a, T> {
+    pub array: &'a PrimitiveArray<T>,
+}
 
-    ghost type_ = { λ array. T.type_ };
+impl<'a, T: StoredNumber> Items for Numbers<'a, T> {
+    ghost items = { λ own. map (option_map T.stored) own.array.now.items };
 
-    ghost at_most = { λ array. T.at_most };
+    ghost type_ = { λ own. T.type_ };
 
-    ghost ordered = { λ array. order.of_stored T.stored T.at_most T.total array.items };
+    ghost at_most = { λ own. T.at_most };
+
+    ghost ordered = { λ own. order.of_stored T.stored T.at_most T.total own.array.now.items };
 
     fn rows(&self) -> usize {
-        self.len()
+        self.array.len()
     }
 
     fn is_there(&self, row: usize) -> bool {
-        self.get(row).is_some()
+        self.array.get(row).is_some()
     }
 
     fn write_values(&self, body: &mut Vec<u8>, from: usize, to: usize) -> Result<(), AllocError> {
         for row in from..to {
-            if let Some(number) = self.get(row) {
+            if let Some(number) = self.array.get(row) {
                 number.write(body)?;
             }
         }
@@ -298,26 +304,26 @@ impl<T: StoredNumber> Items for PrimitiveArray<T> {
     }
 
     fn write_end(&self, bytes: &mut Vec<u8>, row: usize) -> Result<(), AllocError> {
-        match self.get(row) {
+        match self.array.get(row) {
             Some(number) => number.write(bytes),
             None => Ok(()),
         }
     }
 
     fn is_at_most(&self, first: usize, second: usize) -> bool {
-        match (self.get(first), self.get(second)) {
+        match (self.array.get(first), self.array.get(second)) {
             (Some(a), Some(b)) => a.is_at_most(b),
             _ => true,
         }
     }
 }
 
-impl<T: StoredNumber> Typed for PrimitiveArray<T> {
-    ghost data_type = { λ array. array.data_type };
+impl<'a, T: StoredNumber> Typed for Numbers<'a, T> {
+    ghost data_type = { λ own. own.array.now.data_type };
 
-    ghost cells = { λ array. map (cell_of T.cell) array.items };
+    ghost cells = { λ own. map (cell_of T.cell) own.array.now.items };
 
-    ghost is_own = { λ array. T.stores array.data_type };
+    ghost is_own = { λ own. T.stores own.array.now.data_type };
 
-    ghost stored = { λ array own. items.of_values T.cell T.stored (T.stores_values array.data_type own) array.items };
+    ghost stored = { λ own is_own. values.of_values T.cell T.stored (T.stores_values own.array.now.data_type is_own) own.array.now.items };
 }

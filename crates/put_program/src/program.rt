@@ -1,13 +1,19 @@
 //! Runs of the program.
 
-ghost use Rattle.std.specs.Prelude.{◌≡◌, ◌≤◌, ◌+◌, ◌↔◌, length, IfNone, IfSome, IsTrue, None};
+ghost use Rattle.std.specs.Prelude.{◌≡◌, ◌≤◌, ◌+◌, ◌↔◌, ◌⊎◌, [], ◌∷◌, length, option_map, IfErr, IfNone, IfOk, IfSome, IsTrue, MatchResult, None, OnOk, Some};
+ghost use Rattle.columns_core.specs.Causes.{IsWantOfMemory};
+ghost use Rattle.columns_core.specs.declared.array.Array.TheVariants.{Int64};
+ghost use Rattle.columns_core.specs.declared.error.Error.TheVariants.{ExternalFormat};
+ghost use Rattle.columns_core.specs.declared.error.Part.TheVariants.{Values};
 ghost use Rattle.parquet_meta.specs.Keeps.{Keeps};
-ghost use Rattle.pq_common.specs.Endings.{has_answer};
-ghost use Rattle.put_program.specs.Program.{PutsSoundLines, RefusesLines, RefusesNoRows, WritesPut, asked_in};
+ghost use Rattle.parquet_meta.specs.Source.{Finds};
+ghost use Rattle.pq_common.specs.Endings.{has_answer, status_of_error};
+ghost use Rattle.put_program.specs.Lines.{asked_with, cells_of_text, field_of};
+ghost use Rattle.put_program.specs.Program.{HoldCells, IsFailureOfLines, OfLines, Puts, PutsSoundLines, RefusesLines, RefusesNoRows, WritesPut, asked_in};
 
 use crate::file::put_file;
 use crate::lines::column_of_lines;
-use columns_core::{Array, Chunk, DataType, Error, Field, Name, Schema, Seq};
+use columns_core::{Array, Chunk, DataType, Error, Field, Name, PrimitiveArray, Schema, Seq};
 use parquet_meta::{Place, Source, read_exact_at};
 use pq_common::{Out, ToolStatus, count, status_of, write_all};
 use std::alloc::{AllocError, Global};
@@ -41,67 +47,81 @@ fn schema_of(alloc: Global, name: &str) -> Result<Schema, AllocError>
 }
 
 /// A chunk of one array.
-fn chunk_of(alloc: Global, array: Array) -> Result<Chunk, Error>
-    ensures chunk { IfOk result (λ chunk. chunk ≡ array ∷ []) }
+fn chunk_of(alloc: Global, column: PrimitiveArray<i64>) -> Result<Chunk, Error>
+    ensures chunk { IfOk result (λ chunk. chunk ≡ Int64 column ∷ []) }
     ensures memory { IfErr result IsWantOfMemory }
 {
     let mut arrays = Vec::new(alloc);
-    arrays.push(array)?;
+    arrays.push(Array::Int64(column))?;
     Chunk::try_new(arrays)
 }
 
 /// One group of all lines; none where there are no lines.
 fn chunks_of(alloc: Global, text: &[u8]) -> Result<Vec<Chunk>, Error>
-    ensures told { IfOk result (λ chunks.
-        option_map groups_of (cells_in text.now) ≡ Some (columns_of chunks.items)) }
+    ensures held { IfOk result (λ chunks. OfLines (Some text.now) (HoldCells chunks.items)) }
     ensures err { IfErr result (λ e. IsWantOfMemory e
-        ⊎ ((e ≡ ExternalFormat Values) × (cells_in text.now ≡ None))) }
+        ⊎ ((e ≡ ExternalFormat Values) × (cells_of_text text.now ≡ None))) }
 {
     let mut chunks = Vec::new(alloc);
-    if !text.is_empty() {
-        chunks.push(chunk_of(alloc, column_of_lines(alloc, text)?)?)?;
+    if text.is_empty() {
+        return Ok(chunks);
     }
+    let column = column_of_lines(alloc, text)?;
+    chunks.push(chunk_of(alloc, column)?)?;
     Ok(chunks)
 }
 
 /// All bytes of the source.
 fn text_of<S: Source>(alloc: Global, source: &mut S) -> Result<Vec<u8>, Error>
-    ensures reads { ReadsFile S.Source source.old source.new (λ bytes. []) result }
-    ensures text { IfOk result (λ text. IfSome (S.told source.old) (λ bytes. text.items ≡ bytes)) }
+    ensures keeps { Keeps S.Source source.old source.new }
+    ensures quiet { OnOk result (S.faults source.new ≡ S.faults source.old) }
+    ensures text { Finds (λ text. text.items) (λ bytes. Some bytes)
+        (S.told source.old) (S.faults source.old) (S.faults source.new) result }
     ensures taken { IfSome (S.told source.old) (λ bytes.
         S.taken source.new ≤ S.taken source.old + length bytes) }
 {
-    let Ok(length) = source.size() else {
-        return Err(Error::Io);
-    };
+    let length = source.size().map_err(|_| Error::Io)?;
     read_exact_at(alloc, source, Place { offset: 0, length })
 }
 
-/// The chunks of the source's lines; where pages have no rows, none, and the source is not asked.
-fn chunks_in<S: Source>(
-    alloc: Global,
-    page_rows: usize,
-    source: &mut S,
-) -> Result<Vec<Chunk>, Error>
+/// The chunks of the source's lines.
+fn chunks_in<S: Source>(alloc: Global, source: &mut S) -> Result<Vec<Chunk>, Error>
+    ensures keeps { Keeps S.Source source.old source.new }
+    ensures quiet { OnOk result (S.faults source.new ≡ S.faults source.old) }
+    ensures held { IfOk result (λ chunks. OfLines (S.told source.old) (HoldCells chunks.items)) }
+    ensures err { IfErr result
+        (IsFailureOfLines (S.told source.old) (S.faults source.old) (S.faults source.new)) }
+    ensures taken { IfSome (S.told source.old) (λ bytes.
+        S.taken source.new ≤ S.taken source.old + length bytes) }
 {
-    if page_rows == 0 {
-        return Ok(Vec::new(alloc));
-    }
     let text = text_of(alloc, source)?;
-    chunks_of(alloc, &text)
+    chunks_of(alloc, text.as_slice())
 }
 
-/// The file of the source's lines.
+/// The file of the source's lines. Pages without rows are refused before the source is asked.
 fn file_of<S: Source>(
     alloc: Global,
     name: &str,
     page_rows: usize,
     source: &mut S,
 ) -> Result<Vec<u8>, Error>
+    ensures keeps { Keeps S.Source source.old source.new }
+    ensures quiet { OnOk result (S.faults source.new ≡ S.faults source.old) }
+    ensures rowless { page_rows ≡ 0 → MatchResult result (λ _. ⊥) (λ e.
+        RefusesNoRows source.old source.new (status_of_error e)) }
+    ensures puts { IfOk result (λ file.
+        Puts (asked_with name.now page_rows) (S.told source.old) (λ bytes. bytes ≡ file.items)) }
+    ensures refused { IfErr result (λ e. RefusesLines (asked_with name.now page_rows)
+        (S.told source.old) (S.faults source.old) (S.faults source.new) (status_of_error e)) }
+    ensures costs { IfSome (S.told source.old) (λ bytes.
+        S.taken source.new ≤ S.taken source.old + length bytes) }
 {
     let schema = schema_of(alloc, name)?;
-    let chunks = chunks_in(alloc, page_rows, source)?;
-    put_file(alloc, &schema, &chunks, page_rows)
+    if page_rows == 0 {
+        return put_file(alloc, &schema, &[], page_rows);
+    }
+    let chunks = chunks_in(alloc, source)?;
+    put_file(alloc, &schema, chunks.as_slice(), page_rows)
 }
 
 /// Puts the lines of the source, `null` or a number of 64 bits each, into a file of one column. The words are the file, which the caller hands as

@@ -3,14 +3,14 @@
 ghost use Rattle.std.specs.Prelude.{◌≡◌, ◌<◌, ◌↔◌, ◌∷◌, All, IsTrue, length};
 ghost use Rattle.std.specs.List.{AllZip, list_any};
 ghost use Rattle.columns_core.specs.Array.{cells};
-ghost use Rattle.put_program.specs.Request.{FitsField, FitsTogether, is_null};
+ghost use Rattle.put_program.specs.Request.{FitsField, FitsTogether, is_null_cell};
 ghost use Rattle.put_program.specs.Request as spec;
 
 use crate::column::is_own;
 use columns_core::{Array, Chunk, Field, Lent};
 
 fn has_null(array: &Array) -> bool
-    ensures { result ≡ list_any is_null (cells array.now) }
+    ensures { result ≡ list_any is_null_cell (cells array.now) }
 {
     for row in 0..array.len() {
         if matches!(array.lent(row), Lent::Null) {
@@ -44,24 +44,19 @@ fn fits_fields(fields: &[Field], arrays: &[Array]) -> bool
     true
 }
 
-fn has_name(fields: &[Field], name: &str) -> bool
-    ensures { result ≡ spec.has_name name.now fields.now }
+fn is_taken(fields: &[Field], name: &str) -> bool
+    ensures { result ≡ spec.is_taken name.now fields.now }
 {
-    for field in fields {
-        if field.name.as_str() == name {
-            return true;
-        }
-    }
-    false
+    fields.iter().any(|field| field.name.as_str() == name)
 }
 
 /// Whether no two of the names are equal.
-fn are_distinct(fields: &[Field]) -> bool
-    ensures { result ≡ spec.are_distinct fields.now }
+fn have_distinct_names(fields: &[Field]) -> bool
+    ensures { result ≡ spec.have_distinct_names fields.now }
 {
     let mut rest = fields;
     while let [field, others @ ..] = rest {
-        if has_name(others, field.name.as_str()) {
+        if is_taken(others, field.name.as_str()) {
             return false;
         }
         rest = others;
@@ -72,17 +67,14 @@ fn are_distinct(fields: &[Field]) -> bool
 fn fit_fields(fields: &[Field], chunks: &[Chunk]) -> bool
     ensures { IsTrue result ↔ All (AllZip FitsField fields.now) chunks.now }
 {
-    for chunk in chunks {
-        if !fits_fields(fields, chunk.arrays()) {
-            return false;
-        }
-    }
-    true
+    chunks
+        .iter()
+        .all(|chunk| fits_fields(fields, chunk.arrays()))
 }
 
 /// Whether all that is asked fits together.
 pub(crate) fn fits_together(fields: &[Field], chunks: &[Chunk], page_rows: usize) -> bool
     ensures { IsTrue result ↔ FitsTogether fields.now chunks.now page_rows }
 {
-    !fields.is_empty() && page_rows > 0 && are_distinct(fields) && fit_fields(fields, chunks)
+    !fields.is_empty() && page_rows > 0 && have_distinct_names(fields) && fit_fields(fields, chunks)
 }

@@ -11,11 +11,11 @@ ghost use Rattle.compact_write.specs.Calls.{Writes};
 ghost use Rattle.parquet_meta.specs.declared.metadata.PhysicalType.TheVariants as types;
 ghost use Rattle.parquet_page.specs.Stored.{Octets};
 ghost use Rattle.parquet_plain.specs.Bodies.{with_length};
+ghost use Rattle.put_program.specs.Kinds as kind;
+ghost use Rattle.put_program.specs.Ordered as order;
 ghost use Rattle.put_program.specs.Orders.{bytes_at_most};
-ghost use Rattle.put_program.specs.Request.{is_fixed};
-ghost use Rattle.put_program.proofs.KindLemmas as kind;
-ghost use Rattle.put_program.proofs.OrderLemmas as order;
-ghost use Rattle.put_program.proofs.ItemLemmas as items;
+ghost use Rattle.put_program.specs.Request.{are_sized};
+ghost use Rattle.put_program.specs.Valued as values;
 
 use crate::typed::Typed;
 use columns_core::{BinaryArray, FixedSizeBinaryArray, Offset, Utf8Array};
@@ -42,26 +42,32 @@ fn is_in_order(first: &[u8], second: &[u8]) -> bool
     first.cmp(second).is_le()
 }
 
-impl<O: Offset> Items for Utf8Array<O> {
-    ghost items = { λ array. map (option_map Octets) array.items };
+/// An array of texts as items.
+#[derive(Clone, Copy)]
+pub(crate) struct Texts<'a, O: Offset> {
+    pub array: &'a Utf8Array<O>,
+}
 
-    ghost type_ = { λ array. types.ByteArray };
+impl<'a, O: Offset> Items for Texts<'a, O> {
+    ghost items = { λ own. map (option_map Octets) own.array.now.items };
 
-    ghost at_most = { λ array. bytes_at_most };
+    ghost type_ = { λ own. types.ByteArray };
 
-    ghost ordered = { λ array. order.total_bytes _ };
+    ghost at_most = { λ own. bytes_at_most };
+
+    ghost ordered = { λ own. order.total_bytes _ };
 
     fn rows(&self) -> usize {
-        self.len()
+        self.array.len()
     }
 
     fn is_there(&self, row: usize) -> bool {
-        self.get(row).is_some()
+        self.array.get(row).is_some()
     }
 
     fn write_values(&self, body: &mut Vec<u8>, from: usize, to: usize) -> Result<(), AllocError> {
         for row in from..to {
-            if let Some(text) = self.get(row) {
+            if let Some(text) = self.array.get(row) {
                 write_string(body, text.as_bytes())?;
             }
         }
@@ -69,50 +75,56 @@ impl<O: Offset> Items for Utf8Array<O> {
     }
 
     fn write_end(&self, bytes: &mut Vec<u8>, row: usize) -> Result<(), AllocError> {
-        if let Some(text) = self.get(row) {
+        if let Some(text) = self.array.get(row) {
             bytes.extend_from_slice(text.as_bytes())?;
         }
         Ok(())
     }
 
     fn is_at_most(&self, first: usize, second: usize) -> bool {
-        match (self.get(first), self.get(second)) {
+        match (self.array.get(first), self.array.get(second)) {
             (Some(a), Some(b)) => is_in_order(a.as_bytes(), b.as_bytes()),
             _ => true,
         }
     }
 }
 
-impl<O: Offset> Typed for Utf8Array<O> {
-    ghost data_type = { λ array. array.data_type };
+impl<'a, O: Offset> Typed for Texts<'a, O> {
+    ghost data_type = { λ own. own.array.now.data_type };
 
-    ghost cells = { λ array. map (cell_of Text) array.items };
+    ghost cells = { λ own. map (cell_of Text) own.array.now.items };
 
-    ghost is_own = { λ array. is_sized_text O.is_large array.data_type };
+    ghost is_own = { λ own. is_sized_text O.is_large own.array.now.data_type };
 
-    ghost stored = { λ array own. items.of_values Text Octets (kind.stores_texts O.is_large array.data_type own) array.items };
+    ghost stored = { λ own is_own. values.of_values Text Octets (kind.of_texts O.is_large own.array.now.data_type is_own) own.array.now.items };
 }
 
-impl<O: Offset> Items for BinaryArray<O> {
-    ghost items = { λ array. map (option_map Octets) array.items };
+/// An array of byte strings as items.
+#[derive(Clone, Copy)]
+pub(crate) struct Strings<'a, O: Offset> {
+    pub array: &'a BinaryArray<O>,
+}
 
-    ghost type_ = { λ array. types.ByteArray };
+impl<'a, O: Offset> Items for Strings<'a, O> {
+    ghost items = { λ own. map (option_map Octets) own.array.now.items };
 
-    ghost at_most = { λ array. bytes_at_most };
+    ghost type_ = { λ own. types.ByteArray };
 
-    ghost ordered = { λ array. order.total_bytes _ };
+    ghost at_most = { λ own. bytes_at_most };
+
+    ghost ordered = { λ own. order.total_bytes _ };
 
     fn rows(&self) -> usize {
-        self.len()
+        self.array.len()
     }
 
     fn is_there(&self, row: usize) -> bool {
-        self.get(row).is_some()
+        self.array.get(row).is_some()
     }
 
     fn write_values(&self, body: &mut Vec<u8>, from: usize, to: usize) -> Result<(), AllocError> {
         for row in from..to {
-            if let Some(bytes) = self.get(row) {
+            if let Some(bytes) = self.array.get(row) {
                 write_string(body, bytes)?;
             }
         }
@@ -120,50 +132,56 @@ impl<O: Offset> Items for BinaryArray<O> {
     }
 
     fn write_end(&self, bytes: &mut Vec<u8>, row: usize) -> Result<(), AllocError> {
-        if let Some(own) = self.get(row) {
+        if let Some(own) = self.array.get(row) {
             bytes.extend_from_slice(own)?;
         }
         Ok(())
     }
 
     fn is_at_most(&self, first: usize, second: usize) -> bool {
-        match (self.get(first), self.get(second)) {
+        match (self.array.get(first), self.array.get(second)) {
             (Some(a), Some(b)) => is_in_order(a, b),
             _ => true,
         }
     }
 }
 
-impl<O: Offset> Typed for BinaryArray<O> {
-    ghost data_type = { λ array. array.data_type };
+impl<'a, O: Offset> Typed for Strings<'a, O> {
+    ghost data_type = { λ own. own.array.now.data_type };
 
-    ghost cells = { λ array. map (cell_of Bytes) array.items };
+    ghost cells = { λ own. map (cell_of Bytes) own.array.now.items };
 
-    ghost is_own = { λ array. is_binary O.is_large array.data_type };
+    ghost is_own = { λ own. is_binary O.is_large own.array.now.data_type };
 
-    ghost stored = { λ array own. items.of_values Bytes Octets (kind.stores_bytes O.is_large array.data_type own) array.items };
+    ghost stored = { λ own is_own. values.of_values Bytes Octets (kind.of_strings O.is_large own.array.now.data_type is_own) own.array.now.items };
 }
 
-impl Items for FixedSizeBinaryArray {
-    ghost items = { λ array. map (option_map Octets) array.items };
+/// An array of bytes of one size as items.
+#[derive(Clone, Copy)]
+pub(crate) struct FixedBytes<'a> {
+    pub array: &'a FixedSizeBinaryArray,
+}
 
-    ghost type_ = { λ array. types.FixedLenByteArray (fixed_size array.data_type) };
+impl<'a> Items for FixedBytes<'a> {
+    ghost items = { λ own. map (option_map Octets) own.array.now.items };
 
-    ghost at_most = { λ array. bytes_at_most };
+    ghost type_ = { λ own. types.FixedLenByteArray (fixed_size own.array.now.data_type) };
 
-    ghost ordered = { λ array. order.total_bytes _ };
+    ghost at_most = { λ own. bytes_at_most };
+
+    ghost ordered = { λ own. order.total_bytes _ };
 
     fn rows(&self) -> usize {
-        self.len()
+        self.array.len()
     }
 
     fn is_there(&self, row: usize) -> bool {
-        self.get(row).is_some()
+        self.array.get(row).is_some()
     }
 
     fn write_values(&self, body: &mut Vec<u8>, from: usize, to: usize) -> Result<(), AllocError> {
         for row in from..to {
-            if let Some(bytes) = self.get(row) {
+            if let Some(bytes) = self.array.get(row) {
                 body.extend_from_slice(bytes)?;
             }
         }
@@ -171,26 +189,26 @@ impl Items for FixedSizeBinaryArray {
     }
 
     fn write_end(&self, bytes: &mut Vec<u8>, row: usize) -> Result<(), AllocError> {
-        if let Some(own) = self.get(row) {
+        if let Some(own) = self.array.get(row) {
             bytes.extend_from_slice(own)?;
         }
         Ok(())
     }
 
     fn is_at_most(&self, first: usize, second: usize) -> bool {
-        match (self.get(first), self.get(second)) {
+        match (self.array.get(first), self.array.get(second)) {
             (Some(a), Some(b)) => is_in_order(a, b),
             _ => true,
         }
     }
 }
 
-impl Typed for FixedSizeBinaryArray {
-    ghost data_type = { λ array. array.data_type };
+impl<'a> Typed for FixedBytes<'a> {
+    ghost data_type = { λ own. own.array.now.data_type };
 
-    ghost cells = { λ array. map (cell_of Bytes) array.items };
+    ghost cells = { λ own. map (cell_of Bytes) own.array.now.items };
 
-    ghost is_own = { λ array. is_fixed array.data_type };
+    ghost is_own = { λ own. are_sized own.array.now };
 
-    ghost stored = { λ array own. items.of_values Bytes Octets (kind.stores_fixed array.data_type own) array.items };
+    ghost stored = { λ own is_own. values.of_values Bytes Octets (kind.of_fixed own.array.now.data_type (kind.sized_is_fixed own.array.now is_own)) own.array.now.items };
 }

@@ -26,7 +26,8 @@ pub(crate) trait Typed: Items {
 
     /// The items are what is stored of the cells.
     ghost stored: { (array : Self) → IsTrue (is_own array)
-        → AreStored (data_type array) (cells array) (type_ array) (at_most array) (items array) };
+        → AreStored (data_type array) (cells array)
+        (Self.type_ array) (Self.at_most array) (Self.items array) };
 }
 
 /// A chunk of an array, and what is told of it.
