@@ -7,8 +7,9 @@ use Rattle.std.proofs.lemmas.Grind.{common_steps}
 use Rattle.std.proofs.lemmas.List.{map-append, take_all}
 use Rattle.columns_core.specs.Column.{cell_of, where_set}
 use Rattle.columns_core.specs.declared.cell.Cell.{Cell, Int}
+use Rattle.parquet_meta.specs.Lists.{all_of}
 use Rattle.pq_common.specs.Spelled.{split_first}
-use Rattle.put_program.specs.Lines.{cells_of_text, cells_of_lines, first_cell, is_line_end, line_cell, lines_behind}
+use Rattle.put_program.specs.Lines.{cells_of_text, first_cell, is_line_end, line_cell, lines_told, with_front}
 
 -- ---- where a text is split
 
@@ -25,7 +26,7 @@ abbrev place_if : List ℕ → Bool → Option ℕ
 place_if text b = if b then Some (place text) else None
 
 pub parts_at : (text : List ℕ) (end : ℕ) → position is_line_end text ≡ Some end
-    → (end < length text) × (Some (take end text, take (length text - (end + 1)) (drop (end + 1) text)) ≡ split_first is_line_end text)
+    → Some (take end text, take (length text - (end + 1)) (drop (end + 1) text)) ≡ split_first is_line_end text
 parts_at text end h = by (nat_lt (place text) (length text)) refl h where
   same : place text ≡ end → Some (take end text, take (length text - (end + 1)) (drop (end + 1) text)) ≡ parts_if text true
   same p =
@@ -33,24 +34,21 @@ parts_at text end h = by (nat_lt (place text) (length text)) refl h where
       ∙ ap (λ rest. Some (before_first is_line_end text, rest)) (take_all (length text - (place text + 1)) (drop (place text + 1) text) (grind (arith, common_steps)))
 
   by : (b : Bool) → nat_lt (place text) (length text) ≡ b → place_if text (nat_lt (place text) (length text)) ≡ Some end
-      → (end < length text) × (Some (take end text, take (length text - (end + 1)) (drop (end + 1) text)) ≡ parts_if text (nat_lt (place text) (length text)))
+      → Some (take end text, take (length text - (end + 1)) (drop (end + 1) text)) ≡ parts_if text (nat_lt (place text) (length text))
   by true e h =
       let found : place_if text true ≡ Some end = sym (ap (place_if text) e) ∙ h in
       let at : place text ≡ end = cc in
-      (omega (arith, ltb-true (place text) (length text) e, at), same at ∙ sym (ap (parts_if text) e))
+      same at ∙ sym (ap (parts_if text) e)
   by false e h = let bad : place_if text false ≡ Some end = sym (ap (place_if text) e) ∙ h in cc
 
 -- ---- lines
 
--- the lines of a text of which the first has begun, from where it is split
-abbrev lines_of : List ℕ → Option Parts → Option (List (List ℕ))
-lines_of line parts = option_and_then (λ (it : Parts). option_map (λ lines. (line ++ it.0) ∷ lines) (lines_behind [] it.1)) parts
+-- the lines of a text, from where it is split
+abbrev lines_of : Option Parts → Option (List (List ℕ))
+lines_of parts = option_and_then (λ (it : Parts). option_map (λ lines. it.0 ∷ lines) (lines_told it.1)) parts
 
 abbrev longer : ℕ → Parts → Parts
 longer byte parts = (byte ∷ parts.0, parts.1)
-
-append_none : {X : Type 0} (xs : List X) → xs ++ [] ≡ xs
-append_none xs = grind (arith, common_steps)
 
 -- the parts at a place behind a first byte
 abbrev parts_behind : ℕ → List ℕ → ℕ → Bool → Option Parts
@@ -83,23 +81,36 @@ split_later byte text e =
           ap (parts_behind byte text (suc (place text))) (le-ltb (suc (place text)) (suc (length text)) (omega (arith, more)))
           ∙ sym (ap (λ b. option_map (longer byte) (parts_if text b)) e)
 
-lines_longer : (line : List ℕ) (byte : ℕ) (parts : Option Parts) → lines_of (line ++ byte ∷ []) parts ≡ lines_of line (option_map (longer byte) parts)
-lines_longer line byte None = refl
-lines_longer line byte (Some parts) = ap (λ first. option_map (λ lines. first ∷ lines) (lines_behind [] parts.1)) (append_assoc line (byte ∷ []) parts.0)
+behind_map : {X Y Z : Type 0} (value : Y → Option Z) (f : X → Y) (o : Option X) → option_and_then value (option_map f o) ≡ option_and_then (λ x. value (f x)) o
+behind_map value f None = refl
+behind_map value f (Some x) = refl
 
-lines_split : (line text : List ℕ) → 0 < length line + length text → lines_behind line text ≡ lines_of line (split_first is_line_end text)
-lines_split [] [] some = absurd (omega arith)
-lines_split (byte ∷ line) [] some = refl
-lines_split line (byte ∷ text) some = by (is_line_end byte) refl (lines_split (line ++ byte ∷ []) text (grind (arith, common_steps))) where
-  by : (b : Bool) → is_line_end byte ≡ b → lines_behind (line ++ byte ∷ []) text ≡ lines_of (line ++ byte ∷ []) (split_first is_line_end text)
-      → lines_behind line (byte ∷ text) ≡ lines_of line (split_first is_line_end (byte ∷ text))
-  by true e further =
-      ap (λ b. if b then option_map (λ lines. line ∷ lines) (lines_behind [] text) else lines_behind (line ++ byte ∷ []) text) e
-      ∙ ap (λ first. option_map (λ lines. first ∷ lines) (lines_behind [] text)) (sym (append_none line))
-      ∙ sym (ap (lines_of line) (split_here byte text e))
-  by false e further =
-      ap (λ b. if b then option_map (λ lines. line ∷ lines) (lines_behind [] text) else lines_behind (line ++ byte ∷ []) text) e
-      ∙ further ∙ lines_longer line byte (split_first is_line_end text) ∙ sym (ap (lines_of line) (split_later byte text e))
+as_map : {X Y : Type 0} (f : X → Y) (o : Option X) → option_and_then (λ x. Some (f x)) o ≡ option_map f o
+as_map f None = refl
+as_map f (Some x) = refl
+
+lines_longer : (byte : ℕ) (parts : Option Parts) → option_and_then (with_front byte) (lines_of parts) ≡ lines_of (option_map (longer byte) parts)
+lines_longer byte None = refl
+lines_longer byte (Some parts) =
+    behind_map (with_front byte) (λ (lines : List (List ℕ)). parts.0 ∷ lines) (lines_told parts.1)
+    ∙ as_map (λ (lines : List (List ℕ)). (byte ∷ parts.0) ∷ lines) (lines_told parts.1)
+
+-- the lines of a text behind a first byte, by whether that byte ends a line
+abbrev lines_by : ℕ → List ℕ → Bool → Option (List (List ℕ))
+lines_by byte text b = if b then option_map (λ lines. [] ∷ lines) (lines_told text) else option_and_then (with_front byte) (lines_told text)
+
+lines_before : (byte : ℕ) (text : List ℕ) (b : Bool) → is_line_end byte ≡ b
+    → option_and_then (with_front byte) (lines_told text) ≡ lines_of (option_map (longer byte) (split_first is_line_end text))
+    → lines_told (byte ∷ text) ≡ lines_of (split_first is_line_end (byte ∷ text))
+lines_before byte text true e behind = ap (lines_by byte text) e ∙ sym (ap lines_of (split_here byte text e))
+lines_before byte text false e behind = ap (lines_by byte text) e ∙ behind ∙ sym (ap lines_of (split_later byte text e))
+
+lines_split : (text : List ℕ) → 0 < length text → lines_told text ≡ lines_of (split_first is_line_end text)
+lines_split [] some = absurd (omega arith)
+lines_split (byte ∷ []) some = lines_before byte [] (is_line_end byte) refl refl
+lines_split (byte ∷ (next ∷ text)) some =
+    lines_before byte (next ∷ text) (is_line_end byte) refl
+    (ap (option_and_then (with_front byte)) (lines_split (next ∷ text) (grind (arith, common_steps))) ∙ lines_longer byte (split_first is_line_end (next ∷ text)))
 
 -- ---- cells
 
@@ -107,31 +118,27 @@ lines_split line (byte ∷ text) some = by (is_line_end byte) refl (lines_split 
 abbrev pub first_before : Option (Cell × List ℕ) → Option (List Cell)
 first_before found = option_and_then (λ (it : Cell × List ℕ). option_map (λ cells. it.0 ∷ cells) (cells_of_text it.1)) found
 
-first_line_before : (line rest : List ℕ) (lines : Option (List (List ℕ))) (cell : Option Cell) → lines_behind [] rest ≡ lines → line_cell line ≡ cell
-    → option_and_then cells_of_lines (option_map (λ lines. line ∷ lines) (lines_behind [] rest)) ≡ first_before (option_map (λ cell. (cell, rest)) (line_cell line))
-first_line_before line rest None None e f =
-    ap (λ o. option_and_then cells_of_lines (option_map (λ lines. line ∷ lines) o)) e ∙ sym (ap (λ c. first_before (option_map (λ cell. (cell, rest)) c)) f)
-first_line_before line rest None (Some cell) e f =
-    ap (λ o. option_and_then cells_of_lines (option_map (λ lines. line ∷ lines) o)) e
-    ∙ sym (ap (λ c. first_before (option_map (λ cell. (cell, rest)) c)) f ∙ ap (λ o. option_map (λ cells. cell ∷ cells) (option_and_then cells_of_lines o)) e)
-first_line_before line rest (Some lines) None e f =
-    ap (λ o. option_and_then cells_of_lines (option_map (λ lines. line ∷ lines) o)) e
-    ∙ ap (λ c. option_and_then (λ cell. option_map (λ cells. cell ∷ cells) (cells_of_lines lines)) c) f
-    ∙ sym (ap (λ c. first_before (option_map (λ cell. (cell, rest)) c)) f)
-first_line_before line rest (Some lines) (Some cell) e f =
-    ap (λ o. option_and_then cells_of_lines (option_map (λ lines. line ∷ lines) o)) e
-    ∙ ap (λ c. option_and_then (λ cell. option_map (λ cells. cell ∷ cells) (cells_of_lines lines)) c) f
-    ∙ sym (ap (λ c. first_before (option_map (λ cell. (cell, rest)) c)) f ∙ ap (λ o. option_map (λ cells. cell ∷ cells) (option_and_then cells_of_lines o)) e)
+cells_before : (cell : Option Cell) (lines : Option (List (List ℕ)))
+    → option_and_then (λ lines. option_and_then (λ cell. option_and_then (λ cells. Some (cell ∷ cells)) (all_of line_cell lines)) cell) lines
+    ≡ option_and_then (λ cell. option_map (λ cells. cell ∷ cells) (option_and_then (all_of line_cell) lines)) cell
+cells_before None None = refl
+cells_before None (Some lines) = refl
+cells_before (Some cell) None = refl
+cells_before (Some cell) (Some lines) = as_map (λ (cells : List Cell). cell ∷ cells) (all_of line_cell lines)
 
 abbrev first_in : Option Parts → Option (Cell × List ℕ)
 first_in parts = option_and_then (λ (it : Parts). option_map (λ cell. (cell, it.1)) (line_cell it.0)) parts
 
-first_of : (parts : Option Parts) → option_and_then cells_of_lines (lines_of [] parts) ≡ first_before (first_in parts)
+first_of : (parts : Option Parts) → option_and_then (all_of line_cell) (lines_of parts) ≡ first_before (first_in parts)
+unfolding all_of
 first_of None = refl
-first_of (Some parts) = first_line_before parts.0 parts.1 (lines_behind [] parts.1) (line_cell parts.0) refl refl
+first_of (Some parts) =
+    behind_map (all_of line_cell) (λ (lines : List (List ℕ)). parts.0 ∷ lines) (lines_told parts.1)
+    ∙ cells_before (line_cell parts.0) (lines_told parts.1)
+    ∙ sym (behind_map (λ (it : Cell × List ℕ). option_map (λ cells. it.0 ∷ cells) (cells_of_text it.1)) (λ cell. (cell, parts.1)) (line_cell parts.0))
 
 pub cells_step : (text : List ℕ) → 0 < length text → cells_of_text text ≡ first_before (first_cell text)
-cells_step text some = ap (option_and_then cells_of_lines) (lines_split [] text (omega arith)) ∙ first_of (split_first is_line_end text)
+cells_step text some = ap (option_and_then (all_of line_cell)) (lines_split text some) ∙ first_of (split_first is_line_end text)
 
 pub is_left : (rest : List ℕ) (none : Bool) → none ≡ (length rest == 0) → none ≡ false → 0 < length rest
 is_left rest none is some = grind arith
