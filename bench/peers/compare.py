@@ -2,8 +2,9 @@
 the counts, and the first differences, and ends with 1 where there is one. Usage: compare.py PROGRAMS SETS [--damage]
 
 PROGRAMS is the folder of both programs, SETS one whose folders are the sets. Each file is read by pyarrow group by group, and its cells are brought back to
-the numbers and bytes that are stored. With --damage four answers about the first file are changed before they are compared: an end of a group and the nulls
-of a page that pqinspect told, a cell that pqscan printed, and a row of another column, which is left out.
+the numbers and bytes that are stored. With --damage five answers about one file are changed before they are compared: an end of a group and the nulls
+of a page that pqinspect told, a cell that pqscan printed, a row that it printed of a whole column, which is left out, and one that meets a bound, which is
+left out of the runs as well.
 
   pqinspect: the paths and types of columns, the rows of groups, the ends and nulls of chunks as pyarrow has them, and ends and nulls of chunks and pages
              as the cells have them: no cell lies outside, and the nulls are as many.
@@ -17,6 +18,7 @@ T = pa.types
 WIDE = decimal.Context(prec=90)
 PROGRAMS, SETS = sys.argv[1:3]
 DAMAGE = "--damage" in sys.argv[3:]
+DAMAGED = "pyarrow/indexes/sorted_v1.parquet"
 JOBS = int(os.environ.get("JOBS", "2"))
 SHOWN = 20
 
@@ -191,7 +193,7 @@ class Looked:
     def __init__(self, name, damage):
         self.name, self.count, self.reasons = name, {}, {}
         self.differences, self.changed = [], []
-        self.damage = ["an end", "the nulls of a page", "a cell", "a row"] if damage else []
+        self.damage = ["an end", "the nulls of a page", "a cell", "a row of a run", "a row"] if damage else []
 
     def add(self, what, number=1):
         self.count[what] = self.count.get(what, 0) + number
@@ -311,6 +313,7 @@ def compare_chunk(looked, answer, words, told, column, cells):
 
 
 def compare_pages(looked, answer, pages, told, number, column, cells):
+    answer += ", pages"
     both = told.has_column_index and told.has_offset_index
     if not pages:
         reason = "no indexes" if not told.has_column_index and not told.has_offset_index else "no column index" if not told.has_column_index else \
@@ -365,6 +368,10 @@ def scan(looked, path, answer, column, told, words, cells, groups, bounded):
     if not bounded and len(printed) > 1 and looked.change("a cell", answer):
         printed[-1] = other(printed[-1])
     elif not bounded and len(printed) > 1 and looked.change("a row", answer):
+        printed.pop()
+    elif bounded and runs and runs[-1] and looked.change("a row of a run", answer):
+        start, length = runs[-1].pop()
+        runs[-1].append((start, length - 1))
         printed.pop()
     wanted = [cell for group, its in enumerate(runs) for start, length in its for cell in cells[group][start:start + length]]
     looked.same(answer, "rows", len(printed), len(wanted))
@@ -453,7 +460,7 @@ def compare(name, damage):
             told = [file.metadata.row_group(group).column(number) for group in groups]
             scan_column(looked, path, file, columns[number], told, [cells[g][number] for g in groups], [arrays[g][number] for g in groups])
     looked.add("files")
-    return {"name": name, "count": looked.count, "reasons": looked.reasons, "differences": looked.differences, "changed": looked.changed, "undone": looked.damage}
+    return {"name": name, "count": looked.count, "reasons": looked.reasons, "differences": looked.differences, "changed": looked.changed}
 
 
 # ---- all files
@@ -462,9 +469,9 @@ def work(files, share, out):
     """What one process does; what it was at stands in the result if it is ended."""
     for name in files[share::JOBS]:
         try:
-            it = compare(name, DAMAGE and name == files[0])
+            it = compare(name, DAMAGE and name == DAMAGED)
         except Exception as error:
-            it = {"name": name, "count": {}, "reasons": {}, "differences": [["all", "not compared: %s: %s" % (type(error).__name__, error)]], "changed": [], "undone": []}
+            it = {"name": name, "count": {}, "reasons": {}, "differences": [["all", "not compared: %s: %s" % (type(error).__name__, error)]], "changed": []}
         out.write(json.dumps(it) + "\n")
         out.flush()
 

@@ -1,7 +1,7 @@
 #!/bin/sh
 # Compares what pqinspect and pqscan say of files by pyarrow and DuckDB with what pyarrow reads of them; docs/PEERS.md says what is compared and what came of
 # it. WORK is the folder of setup.sh, and PROGRAMS has the two programs. It takes some seconds, and prints a table of the sets of files, what else was
-# counted, and the first differences; the status is 1 where there is one. With --damage four answers are changed before they are compared, so that one sees
+# counted, and the first differences; the status is 1 where there is one. With --damage five answers are changed before they are compared, so that one sees
 # them found. It needs root, for chroot. Usage: [JOBS=NUMBER] bench/peers/run.sh WORK PROGRAMS [--damage]
 set -eu
 here=$(CDPATH= cd -- "$(dirname -- "$0")" && pwd)
